@@ -1,0 +1,143 @@
+-- P1 to P9 of document 01 as one list with one claim, and the whole tables of the worked case and of a second rule that
+-- tells apart what the first does not. All by computation from the definitions.
+use mathlib.Core.Path.{_≡_, refl}
+use mathlib.Core.Bool.{Bool, true, false}
+use mathlib.Core.List.{List, [], _∷_, _++_}
+use Prim.Native.Nat.{ℕ}
+use Rattle.model.specs.Basics.{maskOf, fine}
+use Rattle.model.specs.Rules.{Atom, Edge, Rule, rule, cm, pairCount}
+use Rattle.model.specs.Words.{eventsOf}
+use Rattle.model.specs.Runs.{acceptsFrom, acceptsFromSome, accepts}
+use Rattle.model.specs.Files.{recordRefusal, withRecord, atEnd, readFrom, readRule, edgeRecords, ruleBytes}
+use Rattle.model.specs.Construction.{codeOf, locationOf, basesOf, startRow, allows, rowResets, targetOf, nextRow, byIntervals, bySymbols, rowsFrom, rowsOf, cellOf, holdsFinal}
+use Rattle.model.specs.Tables.{Tables, tables, tablesBy, tablesOf}
+use Rattle.model.specs.Walks.{verdict}
+
+-- the 58 bytes, a list for each record
+pub worked-file : List ℕ
+worked-file =
+    (6 ∷ 0 ∷ 1 ∷ 0 ∷ 2 ∷ 0 ∷ 2 ∷ 0 ∷ 1 ∷ 0 ∷ [])
+    ++ ((2 ∷ 0 ∷ 2 ∷ 0 ∷ 0 ∷ 0 ∷ [])
+    ++ ((2 ∷ 0 ∷ 3 ∷ 0 ∷ 0 ∷ 0 ∷ [])
+    ++ ((14 ∷ 0 ∷ 5 ∷ 0 ∷ 0 ∷ 0 ∷ 1 ∷ 0 ∷ 0 ∷ 0 ∷ 1 ∷ 0 ∷ 0 ∷ 0 ∷ 2 ∷ 0 ∷ 1 ∷ 0 ∷ [])
+    ++ (14 ∷ 0 ∷ 5 ∷ 0 ∷ 1 ∷ 0 ∷ 0 ∷ 0 ∷ 1 ∷ 0 ∷ 0 ∷ 0 ∷ 0 ∷ 0 ∷ 3 ∷ 0 ∷ 1 ∷ 0 ∷ []))))
+
+pub worked : Rule
+worked = readRule worked-file .rule-is
+
+-- P9's rule: edges 0 to 0 and 0 to 1, both on symbol 0 at age 1, the second alone resetting
+pub at-age-one : List Atom
+at-age-one = record { clock = 0; relation = 2; constant = 1 } ∷ []
+
+pub edge-to : ℕ → ℕ → Edge
+edge-to target resets = record { source = 0; target = target; symbol = 0; resets = resets; atoms = at-age-one }
+
+pub ninth : Rule
+ninth = rule 2 2 1 (0 ∷ []) (0 ∷ []) 0 (edge-to 0 0 ∷ edge-to 1 1 ∷ [])
+
+-- an example: a word over the worked case with its answer, or a row with where it leads
+pub data Example : Type 0 where
+  word : (d : ℕ) (symbols stamps : List ℕ) (answer : Bool) → Example
+  row : (r : Rule) (symbol interval : ℕ) (from to : List ℕ) (timer : Bool) → Example
+
+pub Holds : Example → Type 0
+Holds (word d symbols stamps answer) = accepts worked d (eventsOf symbols stamps) ≡ answer
+Holds (row r symbol interval from to timer) =
+    (nextRow r symbol interval from ≡ to) × (rowResets r symbol interval from ≡ timer)
+
+pub All-hold : List Example → Type 0
+All-hold [] = Unit {0}
+All-hold (x ∷ xs) = Holds x × All-hold xs
+
+pub nine : List Example
+nine =
+    word 2 [] [] true
+    ∷ word 2 (0 ∷ []) (2 ∷ []) false
+    ∷ word 2 (0 ∷ 1 ∷ []) (2 ∷ 4 ∷ []) true
+    ∷ word 2 (0 ∷ 1 ∷ []) (2 ∷ 3 ∷ []) false
+    ∷ word 2 (0 ∷ []) (1 ∷ []) false
+    ∷ word 2 (0 ∷ 1 ∷ 0 ∷ []) (2 ∷ 4 ∷ 4 ∷ []) false
+    ∷ word 2 (0 ∷ 1 ∷ 0 ∷ 1 ∷ []) (2 ∷ 4 ∷ 4 ∷ 6 ∷ []) true
+    ∷ word 3 (0 ∷ 1 ∷ []) (3 ∷ 7 ∷ []) true
+    ∷ row ninth 0 2 (0 ∷ []) (1 ∷ 3 ∷ []) true
+    ∷ []
+
+pub nine-hold : All-hold nine
+unfolding maskOf cm pairCount acceptsFrom acceptsFromSome accepts recordRefusal withRecord atEnd readFrom readRule
+    codeOf locationOf basesOf allows rowResets targetOf nextRow worked-file worked at-age-one edge-to ninth Holds All-hold nine
+nine-hold = (refl, (refl, (refl, (refl, (refl, (refl, (refl, (refl, ((refl, refl), tt)))))))))
+
+-- The whole table of the worked case, in room that it fills: 3 rows, 2 codes.
+pub worked-tables : Tables
+worked-tables =
+    tables (record { locations = 2; symbols = 2; clocks = 1; top = 1; ends = 1; rows = 3; total = 2 })
+    ((2 ∷ 2 ∷ 5 ∷ 2 ∷ [])
+    ++ ((2 ∷ 2 ∷ 2 ∷ 2 ∷ [])
+    ++ ((2 ∷ 2 ∷ 2 ∷ 2 ∷ [])
+    ++ ((2 ∷ 2 ∷ 2 ∷ 2 ∷ [])
+    ++ ((2 ∷ 2 ∷ 2 ∷ 2 ∷ [])
+    ++ (2 ∷ 2 ∷ 0 ∷ 0 ∷ []))))))
+    (0 ∷ 1 ∷ 1 ∷ 0 ∷ 1 ∷ 1 ∷ [])
+    (0 ∷ 3 ∷ [])
+
+pub worked-table-is : tablesOf worked 24 6 2 ≡ worked-tables
+unfolding maskOf cm pairCount recordRefusal withRecord atEnd readFrom readRule
+    codeOf locationOf basesOf startRow allows rowResets targetOf nextRow byIntervals bySymbols rowsFrom rowsOf cellOf
+    tablesBy tablesOf worked-file worked worked-tables
+worked-table-is = refl
+
+-- The second rule: two clocks, a ceiling, resets of either clock, several atoms, strict and weak relations, so that
+-- a swapped field, relation, digit, mask bit or order of discovery changes its table.
+pub second-file : List ℕ
+second-file =
+    (6 ∷ 0 ∷ 1 ∷ 0 ∷ 3 ∷ 0 ∷ 2 ∷ 0 ∷ 2 ∷ 0 ∷ [])
+    ++ ((2 ∷ 0 ∷ 2 ∷ 0 ∷ 0 ∷ 0 ∷ [])
+    ++ ((2 ∷ 0 ∷ 2 ∷ 0 ∷ 1 ∷ 0 ∷ [])
+    ++ ((2 ∷ 0 ∷ 3 ∷ 0 ∷ 2 ∷ 0 ∷ [])
+    ++ ((2 ∷ 0 ∷ 4 ∷ 0 ∷ 2 ∷ 0 ∷ [])
+    ++ ((20 ∷ 0 ∷ 5 ∷ 0 ∷ 0 ∷ 0 ∷ 1 ∷ 0 ∷ 1 ∷ 0 ∷ 2 ∷ 0 ∷ 0 ∷ 0 ∷ 2 ∷ 0 ∷ 1 ∷ 0 ∷ 1 ∷ 0 ∷ 1 ∷ 0 ∷ 1 ∷ 0 ∷ [])
+    ++ ((20 ∷ 0 ∷ 5 ∷ 0 ∷ 1 ∷ 0 ∷ 2 ∷ 0 ∷ 0 ∷ 0 ∷ 0 ∷ 0 ∷ 1 ∷ 0 ∷ 0 ∷ 0 ∷ 1 ∷ 0 ∷ 0 ∷ 0 ∷ 3 ∷ 0 ∷ 1 ∷ 0 ∷ [])
+    ++ ((14 ∷ 0 ∷ 5 ∷ 0 ∷ 1 ∷ 0 ∷ 0 ∷ 0 ∷ 0 ∷ 0 ∷ 1 ∷ 0 ∷ 0 ∷ 0 ∷ 2 ∷ 0 ∷ 1 ∷ 0 ∷ [])
+    ++ (20 ∷ 0 ∷ 5 ∷ 0 ∷ 2 ∷ 0 ∷ 2 ∷ 0 ∷ 1 ∷ 0 ∷ 0 ∷ 0 ∷ 1 ∷ 0 ∷ 4 ∷ 0 ∷ 1 ∷ 0 ∷ 0 ∷ 0 ∷ 4 ∷ 0 ∷ 0 ∷ 0 ∷ []))))))))
+
+pub second : Rule
+second = readRule second-file .rule-is
+
+pub second-tables : Tables
+second-tables =
+    tables (record { locations = 3; symbols = 2; clocks = 2; top = 2; ends = 4; rows = 6; total = 7 })
+    ((2 ∷ 2 ∷ 5 ∷ 2 ∷ 2 ∷ 2 ∷ [])
+    ++ ((2 ∷ 2 ∷ 7 ∷ 2 ∷ 2 ∷ 2 ∷ [])
+    ++ ((2 ∷ 2 ∷ 2 ∷ 2 ∷ 2 ∷ 2 ∷ [])
+    ++ ((2 ∷ 2 ∷ 2 ∷ 2 ∷ 2 ∷ 2 ∷ [])
+    ++ ((2 ∷ 2 ∷ 2 ∷ 2 ∷ 2 ∷ 2 ∷ [])
+    ++ ((2 ∷ 2 ∷ 2 ∷ 2 ∷ 2 ∷ 2 ∷ [])
+    ++ ((9 ∷ 10 ∷ 2 ∷ 2 ∷ 2 ∷ 2 ∷ [])
+    ++ ((2 ∷ 2 ∷ 2 ∷ 2 ∷ 2 ∷ 2 ∷ [])
+    ++ ((2 ∷ 2 ∷ 2 ∷ 2 ∷ 2 ∷ 2 ∷ [])
+    ++ ((2 ∷ 2 ∷ 7 ∷ 10 ∷ 10 ∷ 10 ∷ [])
+    ++ ((2 ∷ 2 ∷ 2 ∷ 2 ∷ 2 ∷ 2 ∷ [])
+    ++ (2 ∷ 2 ∷ 2 ∷ 10 ∷ 10 ∷ 10 ∷ []))))))))))))
+    (0 ∷ 2 ∷ 2 ∷ 0 ∷ 2 ∷ 1 ∷ 3 ∷ 1 ∷ 4 ∷ 2 ∷ 6 ∷ 1 ∷ [])
+    (0 ∷ 16 ∷ 4 ∷ 17 ∷ 0 ∷ 33 ∷ 33 ∷ [])
+
+pub second-table-is : tablesOf second 72 12 7 ≡ second-tables
+unfolding maskOf cm pairCount recordRefusal withRecord atEnd readFrom readRule
+    codeOf locationOf basesOf startRow allows rowResets targetOf nextRow byIntervals bySymbols rowsFrom rowsOf cellOf
+    tablesBy tablesOf second-file second second-tables
+second-table-is = refl
+
+-- rows that hold a final location: 4 and 5
+pub second-verdicts :
+    (verdict second-tables 0 ≡ false) × (verdict second-tables 1 ≡ false) × (verdict second-tables 2 ≡ false)
+    × (verdict second-tables 3 ≡ false) × (verdict second-tables 4 ≡ true) × (verdict second-tables 5 ≡ true)
+unfolding verdict second-tables
+second-verdicts = (refl, refl, refl, refl, refl, refl)
+
+-- both files are accepted, and written again have the same bytes
+pub files-again :
+    (readRule worked-file .refused ≡ fine) × (readRule second-file .refused ≡ fine)
+    × (ruleBytes worked ≡ worked-file) × (ruleBytes second ≡ second-file)
+unfolding maskOf cm pairCount recordRefusal withRecord atEnd readFrom readRule edgeRecords ruleBytes
+    worked-file worked second-file second
+files-again = (refl, refl, refl, refl)

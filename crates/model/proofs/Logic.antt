@@ -1,0 +1,149 @@
+-- Plain laws that every proof here uses: tests and what they show, membership, two lists, the larger of two.
+use mathlib.Core.Path.{_≡_, refl, sym, _∙_, ap, ap₂}
+use mathlib.Core.Bool.{Bool, true, false, _&&_, _||_, not}
+use mathlib.Core.List.{List, [], _∷_, _++_}
+use mathlib.Core.Logic.{_⊎_, inl, inr}
+use Prim.Native.Nat.{ℕ, zero, suc, _+_, _-_, _*_, _/_, _%_, _≤_, _<_}
+use native.Mathlib.Omega.{arith}
+use lib.Dec.{eqb, ltb, leb}
+use lib.ListN.{length, getD}
+use borrow.Author.Tests.{ltb-true, ltb-false, leb-true, leb-false, eqb-true, lt-ltb, le-ltb, le-leb, eq-eqb}
+use Rattle.model.specs.Basics.{pick, larger, lesser, within, quotient, remainder, isIn, same}
+
+-- false is not true
+pub no-way : {A : Type 0} → false ≡ true → A
+no-way h = absurd (let z : _≡_ {A = ℕ} 0 1 = cc in omega arith)
+
+-- by a test, with its equation
+pub by-test : {P : Type 0} (t : Bool) → (t ≡ true → P) → (t ≡ false → P) → P
+by-test true f g = f refl
+by-test false f g = g refl
+
+pub same-truth : (a b : Bool) → (a ≡ true → b ≡ true) → (b ≡ true → a ≡ true) → a ≡ b
+same-truth true b f g = sym (f refl)
+same-truth false true f g = g refl
+same-truth false false f g = refl
+
+pub and-left : (a b : Bool) → (a && b) ≡ true → a ≡ true
+and-left true b h = refl
+and-left false b h = h
+
+pub and-right : (a b : Bool) → (a && b) ≡ true → b ≡ true
+and-right true b h = h
+and-right false b h = no-way h
+
+pub and-both : (a b : Bool) → a ≡ true → b ≡ true → (a && b) ≡ true
+and-both a b p q = rw (p, q)
+
+pub or-left : (a b : Bool) → a ≡ true → (a || b) ≡ true
+or-left a b h = rw h
+
+pub or-right : (a b : Bool) → b ≡ true → (a || b) ≡ true
+or-right true b h = refl
+or-right false b h = h
+
+pub or-cases : (a b : Bool) → (a || b) ≡ true → (a ≡ true) ⊎ (b ≡ true)
+or-cases true b h = inl refl
+or-cases false b h = inr h
+
+pub neither-left : (a b : Bool) → (a || b) ≡ false → a ≡ false
+neither-left true b h = h
+neither-left false b h = refl
+
+pub neither-right : (a b : Bool) → (a || b) ≡ false → b ≡ false
+neither-right true b h = no-way (sym h)
+neither-right false b h = h
+
+pub within-least : (a b x : ℕ) → within a b x ≡ true → a ≤ x
+within-least a b x h = leb-true a x (and-left (leb a x) (leb x b) h)
+
+pub within-most : (a b x : ℕ) → within a b x ≡ true → x ≤ b
+within-most a b x h = leb-true x b (and-right (leb a x) (leb x b) h)
+
+pub in-within : (a b x : ℕ) → a ≤ x → x ≤ b → within a b x ≡ true
+in-within a b x p q = rw (le-leb a x p, le-leb x b q)
+
+-- how two numbers stand to each other
+pub data Cmp (a b : ℕ) : Type 0 where
+  is-lt : a < b → Cmp a b
+  is-eq : a ≡ b → Cmp a b
+  is-gt : b < a → Cmp a b
+
+pub cmp : (a b : ℕ) → Cmp a b
+cmp a b =
+    by-test (ltb a b) (λ e. is-lt (ltb-true a b e))
+    (λ e. by-test (ltb b a) (λ f. is-gt (ltb-true b a f)) (λ f. is-eq (omega (arith, ltb-false))))
+
+pub data Two (a b : ℕ) : Type 0 where
+  less : a < b → Two a b
+  least : b ≤ a → Two a b
+
+pub two : (a b : ℕ) → Two a b
+two a b = by-test (ltb a b) (λ e. less (ltb-true a b e)) (λ e. least (ltb-false a b e))
+
+pub larger-left : (a b : ℕ) → a ≤ larger a b
+larger-left a b = by-test (leb a b) (λ e. rw e (leb-true a b e)) (λ e. rw e (omega arith))
+
+pub larger-right : (a b : ℕ) → b ≤ larger a b
+larger-right a b = by-test (leb a b) (λ e. rw e (omega arith)) (λ e. rw e (omega (arith, leb-false a b e)))
+
+pub lesser-left : (a b : ℕ) → lesser a b ≤ a
+lesser-left a b = by-test (leb a b) (λ e. rw e (omega arith)) (λ e. rw e (omega (arith, leb-false a b e)))
+
+pub lesser-right : (a b : ℕ) → lesser a b ≤ b
+lesser-right a b = by-test (leb a b) (λ e. rw e (leb-true a b e)) (λ e. rw e (omega arith))
+
+-- division by a number that is not 0
+pub quotient-is : (a b : ℕ) → 0 < b → quotient a b ≡ a / b
+quotient-is a zero h = absurd (omega arith)
+quotient-is a (suc b) h = refl
+
+pub remainder-is : (a b : ℕ) → 0 < b → remainder a b ≡ a % b
+remainder-is a zero h = absurd (omega arith)
+remainder-is a (suc b) h = refl
+
+-- membership
+pub data In {A : Type 0} (x : A) : List A → Type 0 where
+  here : {y : A} {xs : List A} → x ≡ y → In x (y ∷ xs)
+  there : {y : A} {xs : List A} → In x xs → In x (y ∷ xs)
+
+pub not-in-nil : {A : Type 0} {x : A} {B : Type 0} → In x [] → B
+not-in-nil h = elim h [ ]
+
+pub is-in : (x : ℕ) (xs : List ℕ) → In x xs → isIn x xs ≡ true
+is-in x (y ∷ ys) (here h) = rw (eq-eqb x y h)
+is-in x (y ∷ ys) (there h) = or-right (eqb x y) (isIn x ys) (is-in x ys h)
+
+pub in-is : (x : ℕ) (xs : List ℕ) → isIn x xs ≡ true → In x xs
+in-is x [] h = no-way h
+in-is x (y ∷ ys) h =
+    elim (or-cases (eqb x y) (isIn x ys) h) [ inl e ↦ here (eqb-true x y e) | inr e ↦ there (in-is x ys e) ]
+
+pub in-append : {A : Type 0} (e f : A) (es : List A) → In e (es ++ (f ∷ [])) → In e es ⊎ (e ≡ f)
+in-append e f [] (here h) = inr h
+in-append e f [] (there h) = not-in-nil h
+in-append e f (g ∷ es) (here h) = inl (here h)
+in-append e f (g ∷ es) (there h) = elim (in-append e f es h) [ inl i ↦ inl (there i) | inr q ↦ inr q ]
+
+pub in-at : {A : Type 0} (d : A) (xs : List A) (n : ℕ) → n < length xs → In (getD xs n d) xs
+in-at d [] n h = absurd (omega arith)
+in-at d (x ∷ xs) zero h = here refl
+in-at d (x ∷ xs) (suc n) h = there (in-at d xs n (omega arith))
+
+-- two lists that are the same number by number are equal
+pub same-equal : (xs ys : List ℕ) → same xs ys ≡ true → xs ≡ ys
+same-equal [] [] h = refl
+same-equal [] (y ∷ ys) h = no-way h
+same-equal (x ∷ xs) [] h = no-way h
+same-equal (x ∷ xs) (y ∷ ys) h =
+    ap₂ _∷_ (eqb-true x y (and-left (eqb x y) (same xs ys) h)) (same-equal xs ys (and-right (eqb x y) (same xs ys) h))
+
+pub same-self : (xs : List ℕ) → same xs xs ≡ true
+same-self [] = refl
+same-self (x ∷ xs) = rw (eq-eqb x x refl, same-self xs)
+
+-- one list before another
+pub first-part : {A : Type 0} (d : A) (xs ys : List A) (n : ℕ) → n < length xs → getD (xs ++ ys) n d ≡ getD xs n d
+first-part d [] ys n h = absurd (omega arith)
+first-part d (x ∷ xs) ys zero h = refl
+first-part d (x ∷ xs) ys (suc n) h = first-part d xs ys n (omega arith)

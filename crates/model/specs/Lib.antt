@@ -1,0 +1,12 @@
+pub mod Basics
+pub mod Rules
+pub mod Words
+pub mod Runs
+pub mod Files
+pub mod Layout
+pub mod Construction
+pub mod Tables
+pub mod Walks
+pub mod Promises
+pub mod Demands
+pub mod Claims

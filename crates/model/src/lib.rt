@@ -1,0 +1,116 @@
+// The plain records that cross every call, and the two kinds of time. What they mean stands in specs/.
+ghost use mathlib.Core.Path.{_≡_};
+ghost use Prim.Native.Nat.{_-_};
+
+// A time since the start of the word, in D-ths of a second.
+#[repr(C)]
+pub struct Stamp(pub u32);
+
+// A time since a reset, in D-ths of a second.
+#[repr(C)]
+pub struct Age(pub u32);
+
+impl Stamp {
+    // The age at this stamp of what was reset at an earlier one; 0 where `earlier` is not earlier.
+    pub fn since(self, earlier: Stamp) -> Age
+        ensures { λ r. ⌜ r .0 ≡ self .0 - earlier .0 ⌝ }
+    {
+        let now = self.0;
+        let then = earlier.0;
+        if now < then {
+            return Age(0);
+        }
+        Age(now - then)
+    }
+}
+
+// The head record of a rule: sizes, initial and final locations as masks, the ceiling as 0 for none or its number plus 1,
+// the edge count.
+#[repr(C)]
+pub struct Head {
+    pub locations: u32,
+    pub symbols: u32,
+    pub clocks: u32,
+    pub starts: u32,
+    pub ends: u32,
+    pub ceiling: u32,
+    pub count: u32,
+}
+
+// The built record of a table: sizes, cm as `top`, final locations as a mask, the row count R, the pool total P.
+#[repr(C)]
+pub struct Built {
+    pub locations: u32,
+    pub symbols: u32,
+    pub clocks: u32,
+    pub top: u32,
+    pub ends: u32,
+    pub rows: u32,
+    pub total: u32,
+}
+
+// In every answer: the number of the refusal, 0 for none, and its place.
+// The value is the bytes written, or 1 for yes and 0 for no; 0 on a refusal.
+#[repr(C)]
+pub struct Answer {
+    pub number: u8,
+    pub place: usize,
+    pub value: usize,
+}
+
+#[repr(C)]
+pub struct Reading {
+    pub number: u8,
+    pub place: usize,
+    pub head: Head,
+}
+
+#[repr(C)]
+pub struct Building {
+    pub number: u8,
+    pub place: usize,
+    pub built: Built,
+}
+
+// A run that accepts: its start and its edges, by number. All zero where there is none.
+#[repr(C)]
+pub struct Branch {
+    pub number: u8,
+    pub place: usize,
+    pub found: bool,
+    pub start: u16,
+    pub edges: [u16; 12],
+}
+
+// One timer over a table: D as `grain`, the row, the stamp of the last timer reset, the last stamp, the event count.
+#[repr(C)]
+pub struct Follower {
+    pub grain: u32,
+    pub row: u32,
+    pub reset: Stamp,
+    pub last: Stamp,
+    pub count: u32,
+}
+
+#[repr(C)]
+pub struct Started {
+    pub number: u8,
+    pub place: usize,
+    pub follower: Follower,
+}
+
+#[repr(C)]
+pub struct Followed {
+    pub number: u8,
+    pub place: usize,
+    pub yes: bool,
+    pub follower: Follower,
+}
+
+// What following an event answers where the follower stays in its place.
+#[repr(C)]
+pub struct Moved {
+    pub number: u8,
+    pub place: usize,
+    pub yes: bool,
+}
