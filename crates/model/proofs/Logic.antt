@@ -87,6 +87,27 @@ larger-left a b = by-test (leb a b) (λ e. rw e (leb-true a b e)) (λ e. rw e (o
 pub larger-right : (a b : ℕ) → b ≤ larger a b
 larger-right a b = by-test (leb a b) (λ e. rw e (omega arith)) (λ e. rw e (omega (arith, leb-false a b e)))
 
+pub larger-most : (a b m : ℕ) → a ≤ m → b ≤ m → larger a b ≤ m
+larger-most a b m p q = by-test (leb a b) (λ e. rw e q) (λ e. rw e p)
+
+-- the larger of three, in either order
+pub larger-three : (a b c : ℕ) → larger (larger a b) c ≡ larger a (larger b c)
+larger-three a b c =
+    let up : larger (larger a b) c ≤ larger a (larger b c) =
+    larger-most (larger a b) c (larger a (larger b c))
+    (larger-most a b (larger a (larger b c)) (larger-left a (larger b c))
+    (omega (arith, larger-left b c, larger-right a (larger b c))))
+    (omega (arith, larger-right b c, larger-right a (larger b c))) in
+    let down : larger a (larger b c) ≤ larger (larger a b) c =
+    larger-most a (larger b c) (larger (larger a b) c)
+    (omega (arith, larger-left a b, larger-left (larger a b) c))
+    (larger-most b c (larger (larger a b) c) (omega (arith, larger-right a b, larger-left (larger a b) c))
+    (larger-right (larger a b) c)) in
+    omega (arith, up, down)
+
+pub larger-none : (a : ℕ) → larger a 0 ≡ a
+larger-none a = by-test (leb a 0) (λ e. rw e (omega (arith, leb-true a 0 e))) (λ e. rw e)
+
 pub lesser-left : (a b : ℕ) → lesser a b ≤ a
 lesser-left a b = by-test (leb a b) (λ e. rw e (omega arith)) (λ e. rw e (omega (arith, leb-false a b e)))
 

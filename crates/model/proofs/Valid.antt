@@ -10,7 +10,7 @@ use lib.ListN.{length}
 use borrow.Author.Tests.{ltb-true, leb-true, leb-false, eqb-true}
 use Rattle.model.specs.Basics.{larger, within}
 use Rattle.model.specs.Rules.{Atom, Edge, Rule, largestConstant, largestOf, cm, pairCount, mostPairs, mostEdges, mostAtoms, sizesOk, atomOk, atomsOk, edgeOk, hasEqual, integerReset, rising, edgesOk, validRule}
-use Rattle.model.proofs.Logic.{by-test, no-way, and-left, and-right, or-cases, within-least, within-most, larger-left, larger-right, In, here, there}
+use Rattle.model.proofs.Logic.{and-left, and-right, or-cases, within-least, within-most, larger-left, larger-right, larger-most, In, here, there}
 
 -- the sizes, in their ranges
 pub record Sizes (l s k : ℕ) : Type 0 where
@@ -148,9 +148,6 @@ unfolding cm
 constant-below r e a i j =
     omega
     (arith, constant-largest a (e .atoms) j, edge-largest e (r .edges) i, larger-left (largestOf (r .edges)) (r .ceiling - 1))
-
-larger-most : (a b m : ℕ) → a ≤ m → b ≤ m → larger a b ≤ m
-larger-most a b m p q = by-test (leb a b) (λ e. rw e q) (λ e. rw e p)
 
 atoms-largest : (xs : List Atom) (m : ℕ) → ((a : Atom) → In a xs → a .constant ≤ m) → largestConstant xs ≤ m
 atoms-largest [] m h = omega arith
