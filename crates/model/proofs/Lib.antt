@@ -7,3 +7,6 @@ pub mod Valid
 pub mod EdgeTable
 -- P1 to P9 and two whole tables, by computation from the definitions
 pub mod Examples
+-- One outcome for one call, for every promise
+pub mod Outcomes
+pub mod Refused
