@@ -10,3 +10,8 @@ pub mod Examples
 -- One outcome for one call, for every promise
 pub mod Outcomes
 pub mod Refused
+-- Which numbers each check can give
+pub mod Numbers
+-- Demand 3 over the promises
+pub mod Calls
+pub mod ThreeCalls
