@@ -15,3 +15,4 @@ pub mod Numbers
 -- Demand 3 over the promises
 pub mod Calls
 pub mod ThreeCalls
+pub mod Decision
