@@ -1,0 +1,89 @@
+-- The word is accepted exactly if some run over it is accepting.
+use mathlib.Core.Path.{_≡_, refl, sym, _∙_, ap}
+use mathlib.Core.Bool.{Bool, true, false, _&&_, _||_}
+use mathlib.Core.List.{List, [], _∷_}
+use mathlib.Core.Logic.{_⊎_, inl, inr}
+use Prim.Native.Nat.{ℕ, zero, suc, _-_, _≤_, _<_}
+use native.Mathlib.Omega.{arith}
+use lib.Dec.{eqb, ltb, leb}
+use lib.ListN.{length, getD}
+use Rattle.model.specs.Basics.{isIn}
+use Rattle.model.specs.Rules.{Edge, Rule}
+use Rattle.model.specs.Words.{Event}
+use Rattle.model.specs.Runs.{older, zeroed, canTake, startAges, someEdge, acceptsFrom, acceptsFromSome, accepts}
+use Rattle.model.proofs.Logic.{no-way, and-left, and-right, and-both, or-left, or-right, In, here, there, Some, some-either}
+
+-- An event: some edge can be taken and what is left is accepted from where it leads.
+module _ (d l : ℕ) (ages : List ℕ) (v : Event) (on : ℕ → List ℕ → Bool) where
+  pub record Takes (e : Edge) : Type 0 where
+    pub can : canTake d l ages v e ≡ true
+    pub goes-on : on (e .target) (zeroed (e .resets) ages) ≡ true
+
+  pub edge-has : (e : Edge) (es : List Edge) → In e es → Takes e → someEdge es d l ages v on ≡ true
+  edge-has e (f ∷ es) (here h) t = rw (← h, t .can, t .goes-on)
+  edge-has e (f ∷ es) (there i) t =
+      or-right (canTake d l ages v f && on (f .target) (zeroed (f .resets) ages)) (someEdge es d l ages v on)
+      (edge-has e es i t)
+
+  pub edge-of : (es : List Edge) → someEdge es d l ages v on ≡ true → Some Takes es
+  edge-of [] h = no-way h
+  edge-of (e ∷ es) h =
+      let can-take : Bool = canTake d l ages v e in
+      let goes : Bool = on (e .target) (zeroed (e .resets) ages) in
+      some-either (can-take && goes) (someEdge es d l ages v on) h
+      (λ q. record { can = and-left can-take goes q; goes-on = and-right can-take goes q })
+      (edge-of es)
+
+-- from a configuration, by the events that are left
+module _ (r : Rule) (d : ℕ) where
+  -- what is left is accepted from where an edge leads
+  abbrev pub Moves : Event → List Event → ℕ → ℕ → List ℕ → Edge → Type 0
+  Moves v vs last l ages e =
+      Takes d l (older (v .stamp - last) ages) v (λ to ages-to. acceptsFrom r d vs (v .stamp) to ages-to) e
+
+  pub final-accepts : (last l : ℕ) (ages : List ℕ) → acceptsFrom r d [] last l ages ≡ isIn l (r .final)
+  unfolding acceptsFrom
+  final-accepts last l ages = refl
+
+  pub moves-accept :
+      (v : Event) (vs : List Event) (last l : ℕ) (ages : List ℕ) (e : Edge) → In e (r .edges)
+      → Moves v vs last l ages e
+      → acceptsFrom r d (v ∷ vs) last l ages ≡ true
+  unfolding acceptsFrom
+  moves-accept v vs last l ages e i m =
+      edge-has d l (older (v .stamp - last) ages) v (λ to ages-to. acceptsFrom r d vs (v .stamp) to ages-to) e
+      (r .edges)
+      i
+      m
+
+  pub accepts-moves :
+      (v : Event) (vs : List Event) (last l : ℕ) (ages : List ℕ) → acceptsFrom r d (v ∷ vs) last l ages ≡ true
+      → Some (Moves v vs last l ages) (r .edges)
+  unfolding acceptsFrom
+  accepts-moves v vs last l ages h =
+      edge-of d l (older (v .stamp - last) ages) v (λ to ages-to. acceptsFrom r d vs (v .stamp) to ages-to) (r .edges) h
+
+  -- from the initial locations, all ages 0
+  abbrev pub AcceptsAt : List Event → ℕ → Type 0
+  AcceptsAt vs l = acceptsFrom r d vs 0 l (startAges r) ≡ true
+
+  from-has : (vs : List Event) (k : ℕ) (ls : List ℕ) → In k ls → AcceptsAt vs k → acceptsFromSome r d vs ls ≡ true
+  unfolding acceptsFromSome
+  from-has vs k (l ∷ ls) (here h) a =
+      or-left (acceptsFrom r d vs 0 l (startAges r)) (acceptsFromSome r d vs ls) (rw (← h) a)
+  from-has vs k (l ∷ ls) (there i) a =
+      or-right (acceptsFrom r d vs 0 l (startAges r)) (acceptsFromSome r d vs ls) (from-has vs k ls i a)
+
+  from-of : (vs : List Event) (ls : List ℕ) → acceptsFromSome r d vs ls ≡ true → Some (AcceptsAt vs) ls
+  unfolding acceptsFromSome
+  from-of vs [] h = no-way h
+  from-of vs (l ∷ ls) h =
+      some-either (acceptsFrom r d vs 0 l (startAges r)) (acceptsFromSome r d vs ls) h (λ q. q) (from-of vs ls)
+
+  pub start-accepts : (vs : List Event) (l : ℕ) → In l (r .initial) → AcceptsAt vs l → accepts r d vs ≡ true
+  unfolding accepts
+  start-accepts vs l i a = from-has vs l (r .initial) i a
+
+  pub accepts-start : (vs : List Event) → accepts r d vs ≡ true → Some (AcceptsAt vs) (r .initial)
+  unfolding accepts
+  accepts-start vs h = from-of vs (r .initial) h
