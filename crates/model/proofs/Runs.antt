@@ -1,17 +1,13 @@
 -- The word is accepted exactly if some run over it is accepting.
-use mathlib.Core.Path.{_≡_, refl, sym, _∙_, ap}
-use mathlib.Core.Bool.{Bool, true, false, _&&_, _||_}
+use mathlib.Core.Path.{_≡_, refl}
+use mathlib.Core.Bool.{Bool, true, _&&_}
 use mathlib.Core.List.{List, [], _∷_}
-use mathlib.Core.Logic.{_⊎_, inl, inr}
-use Prim.Native.Nat.{ℕ, zero, suc, _-_, _≤_, _<_}
-use native.Mathlib.Omega.{arith}
-use lib.Dec.{eqb, ltb, leb}
-use lib.ListN.{length, getD}
+use Prim.Native.Nat.{ℕ, _-_}
 use Rattle.model.specs.Basics.{isIn}
 use Rattle.model.specs.Rules.{Edge, Rule}
 use Rattle.model.specs.Words.{Event}
 use Rattle.model.specs.Runs.{older, zeroed, canTake, startAges, someEdge, acceptsFrom, acceptsFromSome, accepts}
-use Rattle.model.proofs.Logic.{no-way, and-left, and-right, and-both, or-left, or-right, In, here, there, Some, some-either}
+use Rattle.model.proofs.Logic.{no-way, and-left, and-right, or-left, or-right, In, here, there, Some, some-either}
 
 -- An event: some edge can be taken and what is left is accepted from where it leads.
 module _ (d l : ℕ) (ages : List ℕ) (v : Event) (on : ℕ → List ℕ → Bool) where
