@@ -8,6 +8,7 @@ pub mod Words
 pub mod EdgeTable
 -- Runs: a word is accepted exactly if some run is accepting; the least run
 pub mod Runs
+pub mod LeastRun
 -- Rows: bases track ages, codes give their pairs back, the successor row is the paper's set
 pub mod Regions
 pub mod Clocks

@@ -36,17 +36,17 @@ with-code x y ys =
     by-test (eqb x y) (λ e. is-head (eqb-true x y e) (with-same x y ys e))
     (λ e. by-test (ltb x y) (λ f. comes-first (with-before x y ys e f)) (λ f. comes-later (with-after x y ys e f)))
 
-pub with-has : (x : ℕ) (ys : List ℕ) → In x (withCode x ys)
-with-has x [] = here refl
-with-has x (y ∷ ys) =
+pub withCode-has : (x : ℕ) (ys : List ℕ) → In x (withCode x ys)
+withCode-has x [] = here refl
+withCode-has x (y ∷ ys) =
     elim (with-code x y ys) [
       | is-head h e ↦ rw e (here h)
       | comes-first e ↦ rw e (here refl)
-      | comes-later e ↦ rw e (there (with-has x ys))
+      | comes-later e ↦ rw e (there (withCode-has x ys))
     ]
 
-pub with-keeps : (x z : ℕ) (ys : List ℕ) → In z ys → In z (withCode x ys)
-with-keeps x z (y ∷ ys) i = go (with-code x y ys) i (with-keeps x z ys)
+pub withCode-keeps : (x z : ℕ) (ys : List ℕ) → In z ys → In z (withCode x ys)
+withCode-keeps x z (y ∷ ys) i = go (with-code x y ys) i (withCode-keeps x z ys)
   where
     go : With x y ys → In z (y ∷ ys) → (In z ys → In z (withCode x ys)) → In z (withCode x (y ∷ ys))
     go (is-head h e) j k = rw e j
@@ -58,16 +58,16 @@ in-cases : {z y : ℕ} {ys : List ℕ} → In z (y ∷ ys) → (z ≡ y) ⊎ In 
 in-cases (here h) = inl h
 in-cases (there i) = inr i
 
-pub with-of : (x z : ℕ) (ys : List ℕ) → In z (withCode x ys) → (z ≡ x) ⊎ In z ys
-with-of x z [] i = in-cases i
-with-of x z (y ∷ ys) i =
+pub withCode-of : (x z : ℕ) (ys : List ℕ) → In z (withCode x ys) → (z ≡ x) ⊎ In z ys
+withCode-of x z [] i = in-cases i
+withCode-of x z (y ∷ ys) i =
     elim (with-code x y ys) [
       | is-head h e ↦ inr (rw e at i)
       | comes-first e ↦ in-cases (rw e at i)
       | comes-later e ↦
           elim (in-cases (rw e at i)) [
             | inl h ↦ inr (here h)
-            | inr j ↦ elim (with-of x z ys j) [ inl h ↦ inl h | inr k ↦ inr (there k) ]
+            | inr j ↦ elim (withCode-of x z ys j) [ inl h ↦ inl h | inr k ↦ inr (there k) ]
           ]
     ]
 
@@ -84,15 +84,15 @@ module _ (r : Rule) (s i : ℕ) (timer : Bool) where
 
   target-keeps : (x z : ℕ) (e : Edge) (row : List ℕ) → In z row → In z (withTarget x e row)
   target-keeps x z e row j =
-      by-test (allows r s i x e) (λ a. rw a (with-keeps (targetOf r i timer x e) z row j)) (λ a. rw a j)
+      by-test (allows r s i x e) (λ a. rw a (withCode-keeps (targetOf r i timer x e) z row j)) (λ a. rw a j)
 
   target-has : (x z : ℕ) (e : Edge) (row : List ℕ) → Leads x z e → In z (withTarget x e row)
-  target-has x z e row m = rw (m .allowed, m .code-is) (with-has (targetOf r i timer x e) row)
+  target-has x z e row m = rw (m .allowed, m .code-is) (withCode-has (targetOf r i timer x e) row)
 
   target-of : (x z : ℕ) (e : Edge) (row : List ℕ) → In z (withTarget x e row) → Leads x z e ⊎ In z row
   target-of x z e row j =
       by-test (allows r s i x e)
-      (λ a. elim (with-of (targetOf r i timer x e) z row (rw a at j)) [
+      (λ a. elim (withCode-of (targetOf r i timer x e) z row (rw a at j)) [
         | inl h ↦ inl (record { allowed = a; code-is = h })
         | inr k ↦ inr k
       ])
@@ -235,14 +235,14 @@ final-of r (x ∷ xs) h =
 
 -- The start row: every initial location with bases 0.
 starts-have : (r : Rule) (l : ℕ) (ls : List ℕ) → In l ls → In (codeOf r l (startBases r)) (startCodes r ls)
-starts-have r l (k ∷ ls) (here h) = rw (← h) (with-has (codeOf r l (startBases r)) (startCodes r ls))
+starts-have r l (k ∷ ls) (here h) = rw (← h) (withCode-has (codeOf r l (startBases r)) (startCodes r ls))
 starts-have r l (k ∷ ls) (there h) =
-    with-keeps (codeOf r k (startBases r)) (codeOf r l (startBases r)) (startCodes r ls) (starts-have r l ls h)
+    withCode-keeps (codeOf r k (startBases r)) (codeOf r l (startBases r)) (startCodes r ls) (starts-have r l ls h)
 
 starts-of : (r : Rule) (x : ℕ) (ls : List ℕ) → In x (startCodes r ls) → Some (λ l. x ≡ codeOf r l (startBases r)) ls
 starts-of r x [] h = not-in-nil h
 starts-of r x (l ∷ ls) h =
-    elim (with-of (codeOf r l (startBases r)) x (startCodes r ls) h) [
+    elim (withCode-of (codeOf r l (startBases r)) x (startCodes r ls) h) [
       | inl e ↦ first-some e
       | inr i ↦ later-some (starts-of r x ls i)
     ]

@@ -1,13 +1,17 @@
--- The word is accepted exactly if some run over it is accepting.
-use mathlib.Core.Path.{_≡_, refl}
+-- A word over which some run is accepting is accepted; LeastRun has the run of a word that is. And acceptance taken
+-- apart, both ways: by the first event's edge, and by the initial location.
+use mathlib.Core.Path.{_≡_, refl, _∙_}
 use mathlib.Core.Bool.{Bool, true, _&&_}
 use mathlib.Core.List.{List, [], _∷_}
-use Prim.Native.Nat.{ℕ, _-_}
+use Prim.Native.Nat.{ℕ, _-_, _<_}
+use lib.Dec.{ltb}
+use lib.ListN.{length, getD}
+use borrow.Author.Tests.{ltb-true}
 use Rattle.model.specs.Basics.{isIn}
 use Rattle.model.specs.Rules.{Edge, Rule}
 use Rattle.model.specs.Words.{Event}
-use Rattle.model.specs.Runs.{older, zeroed, canTake, startAges, someEdge, acceptsFrom, acceptsFromSome, accepts}
-use Rattle.model.proofs.Logic.{no-way, and-left, and-right, or-left, or-right, In, here, there, Some, some-either}
+use Rattle.model.specs.Runs.{older, zeroed, canTake, startAges, noEdge, runEndsFinal, isAcceptingRun, someEdge, acceptsFrom, acceptsFromSome, accepts}
+use Rattle.model.proofs.Logic.{no-way, in-is, in-at, and-left, and-right, or-left, or-right, In, here, there, Some, some-either}
 
 -- An event: some edge can be taken and what is left is accepted from where it leads.
 module _ (d l : ℕ) (ages : List ℕ) (v : Event) (on : ℕ → List ℕ → Bool) where
@@ -30,7 +34,7 @@ module _ (d l : ℕ) (ages : List ℕ) (v : Event) (on : ℕ → List ℕ → Bo
       (λ q. record { can = and-left can-take goes q; goes-on = and-right can-take goes q })
       (edge-of es)
 
--- from a configuration, by the events that are left
+-- From a configuration, by the events that are left.
 module _ (r : Rule) (d : ℕ) where
   -- what is left is accepted from where an edge leads
   abbrev pub Moves : Event → List Event → ℕ → ℕ → List ℕ → Edge → Type 0
@@ -83,3 +87,54 @@ module _ (r : Rule) (d : ℕ) where
   pub accepts-start : (vs : List Event) → accepts r d vs ≡ true → Some (AcceptsAt vs) (r .initial)
   unfolding accepts
   accepts-start vs h = from-of vs (r .initial) h
+
+  -- A run that ends final: its first edge can be taken, and the rest is such a run from where the edge leads.
+  pub record RunStep (v : Event) (vs : List Event) (last l : ℕ) (ages : List ℕ) (n : ℕ) (ns : List ℕ) : Type 0 where
+    pub number-below : n < length (r .edges)
+    pub can-take : canTake d l (older (v .stamp - last) ages) v (getD (r .edges) n noEdge) ≡ true
+    pub rest-ends :
+        runEndsFinal r d vs (v .stamp) (getD (r .edges) n noEdge .target)
+        (zeroed (getD (r .edges) n noEdge .resets) (older (v .stamp - last) ages))
+        ns
+        ≡ true
+
+  pub run-step :
+      (v : Event) (vs : List Event) (last l : ℕ) (ages : List ℕ) (n : ℕ) (ns : List ℕ)
+      → runEndsFinal r d (v ∷ vs) last l ages (n ∷ ns) ≡ true
+      → RunStep v vs last l ages n ns
+  run-step v vs last l ages n ns h =
+      let old : List ℕ = older (v .stamp - last) ages in
+      let e : Edge = getD (r .edges) n noEdge in
+      let is-edge : Bool = ltb n (length (r .edges)) in
+      let can : Bool = canTake d l old v e in
+      let ends : Bool = runEndsFinal r d vs (v .stamp) (e .target) (zeroed (e .resets) old) ns in
+      let first : (is-edge && can) ≡ true = and-left (is-edge && can) ends h in
+      record {
+        number-below = ltb-true n (length (r .edges)) (and-left is-edge can first);
+        can-take = and-right is-edge can first;
+        rest-ends = and-right (is-edge && can) ends h;
+      }
+
+  -- so it is accepted from where it begins
+  pub run-from :
+      (vs : List Event) (last l : ℕ) (ages ns : List ℕ) → runEndsFinal r d vs last l ages ns ≡ true
+      → acceptsFrom r d vs last l ages ≡ true
+  run-from [] last l ages [] h = final-accepts last l ages ∙ h
+  run-from [] last l ages (n ∷ ns) h = no-way h
+  run-from (v ∷ vs) last l ages [] h = no-way h
+  run-from (v ∷ vs) last l ages (n ∷ ns) h =
+      let e : Edge = getD (r .edges) n noEdge in
+      let m = run-step v vs last l ages n ns h in
+      let ages-to : List ℕ = zeroed (e .resets) (older (v .stamp - last) ages) in
+      let onward = run-from vs (v .stamp) (e .target) ages-to ns (m .rest-ends) in
+      moves-accept v vs last l ages e (in-at noEdge (r .edges) n (m .number-below))
+      (record { can = m .can-take; goes-on = onward })
+
+  pub run-accepts :
+      (vs : List Event) (l : ℕ) (ns : List ℕ) → isAcceptingRun r d vs l ns ≡ true → accepts r d vs ≡ true
+  unfolding isAcceptingRun
+  run-accepts vs l ns h =
+      let starts : Bool = isIn l (r .initial) in
+      let ends : Bool = runEndsFinal r d vs 0 l (startAges r) ns in
+      start-accepts vs l (in-is l (r .initial) (and-left starts ends h))
+      (run-from vs 0 l (startAges r) ns (and-right starts ends h))
