@@ -5,5 +5,9 @@ pub mod Masks
 -- A valid rule as plain facts; the edge table by place
 pub mod Valid
 pub mod EdgeTable
+-- Rows: ascending, numbered by discovery, closed under successors
+pub mod RowsKeep
+pub mod RowNumbers
+pub mod Discovery
 -- P1 to P9 and two whole tables, by computation from the definitions
 pub mod Examples
