@@ -9,5 +9,8 @@ pub mod EdgeTable
 pub mod RowsKeep
 pub mod RowNumbers
 pub mod Discovery
+-- The tables: room, places, walk, shape
+pub mod TableRoom
+pub mod TablePlaces
 -- P1 to P9 and two whole tables, by computation from the definitions
 pub mod Examples
