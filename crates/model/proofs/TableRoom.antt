@@ -13,6 +13,7 @@ use Rattle.model.specs.Rules.{Rule, pairCount}
 use Rattle.model.specs.Construction.{width, rowsOf, mostRows}
 use Rattle.model.specs.Tables.{rowWidth, poolNumbers, rowRoom, fitRefusal, tableRefusal}
 use Rattle.model.proofs.Logic.{Two, two, less, least, lesser-left, lesser-right}
+use Rattle.model.proofs.Discovery.{Closed, discovered}
 use Rattle.model.proofs.Refusals.{refused-false, first-passes, then-passes, Settled, refuse-settled, then-settled}
 
 -- the three ways on at a row
@@ -126,6 +127,17 @@ pub fitted :
     → tableRefusal r scratch cells rows pool ≡ fine
     → Fitted r scratch cells rows pool (rowsOf r)
 fitted r scratch cells rows pool h = room-passes r scratch cells rows pool (ap (λ (f : Refusal). f .number) h)
+
+-- so every successor of a row is a row
+few-below : (rs : List (List ℕ)) → length rs ≤ mostRows → length rs < suc mostRows
+few-below rs h = omega arith
+
+pub fitted-closed :
+    (r : Rule) (scratch cells rows pool : ℕ)
+    → tableRefusal r scratch cells rows pool ≡ fine
+    → Closed r (length (rowsOf r)) (rowsOf r)
+fitted-closed r scratch cells rows pool h =
+    discovered r .closed (few-below (rowsOf r) (fitted r scratch cells rows pool h .few))
 
 pub table-settled : (r : Rule) (scratch cells rows pool : ℕ) → Settled (tableRefusal r scratch cells rows pool)
 unfolding tableRefusal
