@@ -10,9 +10,12 @@ pub mod RowsKeep
 pub mod RowNumbers
 pub mod Discovery
 -- The tables: room, places, walk, shape
+pub mod CodeBounds
+pub mod EvenResets
 pub mod TableNeeds
 pub mod TableRoom
 pub mod TablePlaces
 pub mod TableWalk
+pub mod Shape
 -- P1 to P9 and two whole tables, by computation from the definitions
 pub mod Examples

@@ -26,11 +26,11 @@ later-part xs ys n k e = rw e (getD-append-add xs ys n 0)
 
 -- Cells: W for a symbol, S · W for a row.
 module _ (r : Rule) (rows : List (List ℕ)) where
-  cells-length : (n i : ℕ) (x : List ℕ) (s : ℕ) → length (cellsFrom n i r rows x s) ≡ n
+  pub cells-length : (n i : ℕ) (x : List ℕ) (s : ℕ) → length (cellsFrom n i r rows x s) ≡ n
   cells-length zero i x s = refl
   cells-length (suc n) i x s = ap suc (cells-length n (suc i) x s)
 
-  symbols-length : (n s : ℕ) (x : List ℕ) → length (symbolCells n s r rows x) ≡ n * width r
+  pub symbols-length : (n s : ℕ) (x : List ℕ) → length (symbolCells n s r rows x) ≡ n * width r
   symbols-length zero s x = omega arith
   symbols-length (suc n) s x =
       length-append (cellsFrom (width r) 0 r rows x s) (symbolCells n (suc s) r rows x)
