@@ -17,5 +17,6 @@ pub mod TableRoom
 pub mod TablePlaces
 pub mod TableWalk
 pub mod Shape
+pub mod FollowerWalk
 -- P1 to P9 and two whole tables, by computation from the definitions
 pub mod Examples

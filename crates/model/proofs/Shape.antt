@@ -48,7 +48,8 @@ built-sizes r rows v some few =
     let pairs : Bool = leb (pairCount r) mostPairs in
     and-both (sizes && low && pairs) (within 1 mostRows (length rows))
     (and-both (sizes && low) pairs
-    (and-both sizes low (sizes-test (r .locations) (r .symbols) (r .clocks) (v .sizes)) (le-leb (cm r) 30 (cm-most r v)))
+    (and-both sizes low (sizes-test (r .locations) (r .symbols) (r .clocks) (v .sizes))
+    (le-leb (cm r) 30 (cm-most r v)))
     (le-leb (pairCount r) mostPairs (v .pairs-most)))
     (in-within 1 mostRows (length rows) some few)
 

@@ -7,7 +7,7 @@ use native.Mathlib.Omega.{arith}
 use native.Mathlib.Nat.{div-add-mod', mod-lt, le-of-mul-le-mul-right, lt-of-mul-lt-mul-right}
 use lib.Dec.{eqb, ltb, leb}
 use lib.ListN.{length}
-use borrow.Author.Tests.{ltb-true, ltb-false, leb-true, leb-false, eqb-true, eqb-false, not-false}
+use borrow.Author.Tests.{ltb-true, ltb-false, leb-true, leb-false, eqb-true, eqb-false, not-false, eq-eqb, le-ltb}
 use Rattle.model.specs.Basics.{Refusal, fine, refuse, passes, _⨾_}
 use Rattle.model.specs.Construction.{intervalOf, intervalCount}
 use Rattle.model.specs.Words.{Event, eventsOf, grainOk, eventRefusal, eventsRefusal, wordRefusal}
@@ -115,3 +115,9 @@ events-of s i last v vs h =
     absurd
     (eqb-false (eventRefusal s i last v .number) 0 e
     (ap (λ (f : Refusal). f .number) (sym (events-off s i last v vs e) ∙ h))))
+
+-- and back: parts that are kept are a word that keeps the rules
+pub word-back : (s d most : ℕ) (xs ts : List ℕ) → Word s d most xs ts → wordRefusal s d most xs ts ≡ fine
+unfolding wordRefusal
+word-back s d most xs ts w =
+    rw (w .grain-ok, eq-eqb (length xs) (length ts) (w .counts), le-ltb most (length xs) (w .count-most)) (w .events-fine)
