@@ -1,5 +1,5 @@
--- A follower begun by D on a built table and fed a word that keeps the rules: no event is refused, and its verdict after
--- each event is the table's verdict on the word so far.
+-- A follower begun by D on a built table and fed a word that keeps the rules: no event is refused, and its verdict
+-- after each event is that of the word so far.
 use mathlib.Core.Path.{_≡_, refl, sym, _∙_, ap}
 use mathlib.Core.Bool.{Bool, true, false, not}
 use mathlib.Core.List.{List, [], _∷_}
@@ -28,7 +28,7 @@ use Rattle.model.proofs.TableRoom.{fitted-closed}
 use Rattle.model.proofs.TableWalk.{Stepped, steps, table-walks}
 use Rattle.model.proofs.Shape.{built-in-shape}
 
--- what a follower that was fed so many events, the last at this stamp, keeps; its timer was last reset at a whole second
+-- what a follower keeps that was fed so many events, the last at this stamp; its timer was reset at a whole second
 pub record Kept (rows : List (List ℕ)) (d last count : ℕ) (f : Follower) : Type 0 where
   pub grain-is : f .grain ≡ d
   pub row-below : f .row < length rows
@@ -109,13 +109,16 @@ module _
         s : Stepped r rows f e i (step (tablesBy r rows c n p) f e)
         s = steps r rows c n p closed f e (omega (arith, k .grain-is)) (k .row-below) (h .symbol-below)
 
-        even : rowResets r (e .symbol) i (rowAt rows (f .row)) ≡ true → intervalOf (cm r) d (e .stamp - f .reset .0) % 2 ≡ 0
+        timer : Bool
+        timer = rowResets r (e .symbol) i (rowAt rows (f .row))
+
+        even : timer ≡ true → intervalOf (cm r) d (e .stamp - f .reset .0) % 2 ≡ 0
         even t = rw (k .grain-is) at (resets-even r (e .symbol) i (rowAt rows (f .row)) v t)
 
-        reset : Reset d (e .stamp) (pick (rowResets r (e .symbol) i (rowAt rows (f .row))) (e .stamp) (f .reset .0))
+        reset : Reset d (e .stamp) (pick timer (e .stamp) (f .reset .0))
         reset =
-            reset-after (cm r) d last (e .stamp) (f .reset .0) (k .seconds)
-            (rowResets r (e .symbol) i (rowAt rows (f .row))) hd (h .not-before) (k .reset-before) (k .reset-whole) even
+            reset-after (cm r) d last (e .stamp) (f .reset .0) (k .seconds) timer hd (h .not-before) (k .reset-before)
+            (k .reset-whole) even
 
     pub ready :
         (m : ℕ) (vs : List Event) (i last count : ℕ) (f : Follower)

@@ -120,4 +120,5 @@ events-of s i last v vs h =
 pub word-back : (s d most : ℕ) (xs ts : List ℕ) → Word s d most xs ts → wordRefusal s d most xs ts ≡ fine
 unfolding wordRefusal
 word-back s d most xs ts w =
-    rw (w .grain-ok, eq-eqb (length xs) (length ts) (w .counts), le-ltb most (length xs) (w .count-most)) (w .events-fine)
+    rw (w .grain-ok, eq-eqb (length xs) (length ts) (w .counts), le-ltb most (length xs) (w .count-most))
+    (w .events-fine)
