@@ -17,11 +17,24 @@ pub mod RowSets
 pub mod Successors
 -- The walk of the one timer over the rows accepts what the runs accept
 pub mod Agreement
--- P1 to P9 and two whole tables, by computation from the definitions
+-- Rows: ascending, numbered by discovery, closed under successors
+pub mod RowsKeep
+pub mod RowNumbers
+pub mod Discovery
+-- The tables: room, places, walk, shape
+pub mod CodeBounds
+pub mod EvenResets
+pub mod TableNeeds
+pub mod TableRoom
+pub mod TablePlaces
+pub mod TableWalk
+pub mod Shape
+pub mod FollowerWalk
+-- P1 to P9, two whole tables, every refusal at its edges: by computation from the definitions
 pub mod Examples
+pub mod Refused
 -- One outcome for one call, for every promise
 pub mod Outcomes
-pub mod Refused
 -- Which numbers each check can give
 pub mod Numbers
 -- Demand 3 over the promises
