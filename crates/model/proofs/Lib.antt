@@ -2,6 +2,7 @@
 pub mod Logic
 pub mod Refusals
 pub mod Masks
+pub mod MaskLists
 -- A valid rule as plain facts; the edge table by place
 pub mod Valid
 pub mod EdgeTable
