@@ -6,5 +6,8 @@ pub mod MaskLists
 -- A valid rule as plain facts; the edge table by place
 pub mod Valid
 pub mod EdgeTable
+-- Rule files: numbers as bytes
+pub mod Bytes
+pub mod FileSteps
 -- P1 to P9 and two whole tables, by computation from the definitions
 pub mod Examples
