@@ -9,5 +9,7 @@ pub mod EdgeTable
 -- Rule files: numbers as bytes
 pub mod Bytes
 pub mod FileSteps
+pub mod FileRecords
+pub mod FileChecks
 -- P1 to P9 and two whole tables, by computation from the definitions
 pub mod Examples
