@@ -5,6 +5,7 @@ pub mod Masks
 pub mod MaskLists
 -- A valid rule as plain facts; the edge table by place
 pub mod Valid
+pub mod ValidParts
 pub mod EdgeTable
 -- Rule files: numbers as bytes
 pub mod Bytes
