@@ -12,5 +12,6 @@ pub mod Bytes
 pub mod FileSteps
 pub mod FileRecords
 pub mod FileChecks
+pub mod FileRead
 -- P1 to P9 and two whole tables, by computation from the definitions
 pub mod Examples
