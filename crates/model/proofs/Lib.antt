@@ -13,5 +13,6 @@ pub mod FileSteps
 pub mod FileRecords
 pub mod FileChecks
 pub mod FileRead
+pub mod FileWrites
 -- P1 to P9 and two whole tables, by computation from the definitions
 pub mod Examples
