@@ -14,5 +14,7 @@ pub mod FileRecords
 pub mod FileChecks
 pub mod FileRead
 pub mod FileWrites
+pub mod FileSoFar
+pub mod FileSpelt
 -- P1 to P9 and two whole tables, by computation from the definitions
 pub mod Examples
