@@ -16,5 +16,6 @@ pub mod FileRead
 pub mod FileWrites
 pub mod FileSoFar
 pub mod FileSpelt
+pub mod FileBytes
 -- P1 to P9 and two whole tables, by computation from the definitions
 pub mod Examples
