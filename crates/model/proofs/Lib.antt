@@ -7,6 +7,7 @@ pub mod MaskLists
 pub mod Valid
 pub mod ValidParts
 pub mod EdgeTable
+pub mod EdgesWritten
 -- Rule files: numbers as bytes
 pub mod Bytes
 pub mod FileSteps
@@ -17,5 +18,7 @@ pub mod FileWrites
 pub mod FileSoFar
 pub mod FileSpelt
 pub mod FileBytes
+-- What reading leaves, and 21
+pub mod Readable
 -- P1 to P9 and two whole tables, by computation from the definitions
 pub mod Examples

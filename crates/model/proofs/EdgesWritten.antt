@@ -1,0 +1,57 @@
+-- The edge table of a rule, read back: 29 numbers an edge, and the edges that they spell are the rule's.
+use mathlib.Core.Path.{_≡_, refl, sym, _∙_, ap, ap₂}
+use mathlib.Core.Bool.{Bool, true, false}
+use mathlib.Core.List.{List, [], _∷_, _++_, append-assoc}
+use Prim.Native.Nat.{ℕ, zero, suc, _+_, _-_, _*_, _≤_, _<_}
+use native.Mathlib.Omega.{arith}
+use lib.ListN.{length, getD, drop, length-append, length-replicate}
+use lib.Seq.{drop-at}
+use Rattle.model.specs.Basics.{zeros, filled}
+use Rattle.model.specs.Rules.{Atom, Edge, Rule, mostAtoms, mostEdges, edgesOk}
+use Rattle.model.specs.Files.{atomNumbers}
+use Rattle.model.specs.Layout.{edgeFields, edgeWidth, edgeNeed, edgeNumbers, edgesNumbers, edgeTable, atomsIn, edgeIn, edgesIn}
+use Rattle.model.proofs.ValidParts.{first-edge, other-edges}
+
+pub atom-numbers-length : (xs : List Atom) → length (atomNumbers xs) ≡ 3 * length xs
+atom-numbers-length [] = refl
+atom-numbers-length (a ∷ xs) = omega (arith, atom-numbers-length xs)
+
+-- a lent table that begins with xs has the length that was lent
+pub filled-length : (n : ℕ) (xs : List ℕ) → length xs ≤ n → length (filled n xs) ≡ n
+filled-length n xs h =
+    omega (arith, length-append xs (zeros (n - length xs)), length-replicate {A = ℕ} (n - length xs) 0)
+
+pub atoms-written : (xs : List Atom) (rest : List ℕ) → atomsIn (length xs) (atomNumbers xs ++ rest) ≡ xs
+atoms-written [] rest = refl
+atoms-written (a ∷ xs) rest = ap (λ (l : List Atom). a ∷ l) (atoms-written xs rest)
+
+pub edge-numbers-length : (e : Edge) → length (e .atoms) ≤ mostAtoms → length (edgeNumbers e) ≡ edgeWidth
+edge-numbers-length e h =
+    omega
+    (arith, filled-length (edgeWidth - edgeFields) (atomNumbers (e .atoms)) (omega (arith, atom-numbers-length (e .atoms))))
+
+pub edge-written : (e : Edge) (rest : List ℕ) → edgeIn (edgeNumbers e ++ rest) ≡ e
+edge-written e rest =
+    let z : List ℕ = zeros (edgeWidth - edgeFields - length (atomNumbers (e .atoms))) in
+    rw (append-assoc (atomNumbers (e .atoms)) z rest, atoms-written (e .atoms) (z ++ rest))
+
+module _ (r : Rule) where
+  pub edges-numbers-length :
+      (es : List Edge) → edgesOk r es ≡ true → length (edgesNumbers es) ≡ edgeWidth * length es
+  unfolding edgesNumbers
+  edges-numbers-length [] h = refl
+  edges-numbers-length (e ∷ es) h =
+      omega
+      (arith, length-append (edgeNumbers e) (edgesNumbers es), edge-numbers-length e (first-edge r e es h .atoms-most), edges-numbers-length es (other-edges r e es h))
+
+  pub edges-written :
+      (es : List Edge) (rest : List ℕ) → edgesOk r es ≡ true → edgesIn (length es) (edgesNumbers es ++ rest) ≡ es
+  unfolding edgesNumbers
+  edges-written [] rest h = refl
+  edges-written (e ∷ es) rest h =
+      let after : List ℕ = edgesNumbers es ++ rest in
+      let long : length (edgeNumbers e) ≡ edgeWidth = edge-numbers-length e (first-edge r e es h .atoms-most) in
+      ap (λ (t : List ℕ). edgesIn (suc (length es)) t) (append-assoc (edgeNumbers e) (edgesNumbers es) rest)
+      ∙ ap₂ (λ (f : Edge) (fs : List Edge). f ∷ fs) (edge-written e after)
+      (ap (λ (t : List ℕ). edgesIn (length es) t) (drop-at (edgeNumbers e) after edgeWidth long)
+      ∙ edges-written es rest (other-edges r e es h))
