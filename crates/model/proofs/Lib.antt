@@ -20,5 +20,6 @@ pub mod FileSpelt
 pub mod FileBytes
 -- What reading leaves, and 21
 pub mod Readable
+pub mod ReadWrite
 -- P1 to P9 and two whole tables, by computation from the definitions
 pub mod Examples
