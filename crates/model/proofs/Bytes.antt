@@ -1,16 +1,17 @@
 -- Numbers as two bytes each, low byte first, and back: what is written is read again, and bytes that were read are
 -- written again.
-use mathlib.Core.Path.{_≡_, refl, sym, _∙_, ap, ap₂}
-use mathlib.Core.Bool.{Bool, true, false, _&&_}
+use mathlib.Core.Path.{_≡_, refl, _∙_, ap, ap₂}
+use mathlib.Core.Bool.{true}
 use mathlib.Core.List.{List, [], _∷_, _++_}
-use Prim.Native.Nat.{ℕ, zero, suc, _+_, _-_, _*_, _/_, _%_, _≤_, _<_}
+use Prim.Native.Nat.{ℕ, zero, suc, _+_, _*_, _/_, _%_, _≤_, _<_}
 use native.Mathlib.Omega.{arith}
 use lib.Dec.{ltb}
 use lib.ListN.{length, getD, drop}
 use lib.Seq.{getD-drop}
 use borrow.Author.Tests.{ltb-true, lt-ltb}
 use Rattle.model.specs.Basics.{allBelow}
-use Rattle.model.specs.Files.{numberAt, two, numbers}
+use Rattle.model.specs.Rules.{Atom}
+use Rattle.model.specs.Files.{numberAt, two, numbers, atomNumbers}
 use Rattle.model.proofs.Logic.{and-left, and-right, and-both}
 
 -- a number as two bytes, and back
@@ -27,6 +28,11 @@ bytes-back a b p q =
 pub numbers-length : (vs : List ℕ) → length (numbers vs) ≡ 2 * length vs
 numbers-length [] = refl
 numbers-length (v ∷ vs) = omega (arith, numbers-length vs)
+
+-- an atom is three numbers
+pub atom-numbers-length : (xs : List Atom) → length (atomNumbers xs) ≡ 3 * length xs
+atom-numbers-length [] = refl
+atom-numbers-length (a ∷ xs) = omega (arith, atom-numbers-length xs)
 
 pub numbers-append : (xs ys : List ℕ) → numbers (xs ++ ys) ≡ numbers xs ++ numbers ys
 numbers-append [] ys = refl

@@ -1,20 +1,17 @@
 -- The edge table of a rule, read back: 29 numbers an edge, and the edges that they spell are the rule's.
-use mathlib.Core.Path.{_≡_, refl, sym, _∙_, ap, ap₂}
-use mathlib.Core.Bool.{Bool, true, false}
+use mathlib.Core.Path.{_≡_, refl, _∙_, ap, ap₂}
+use mathlib.Core.Bool.{true}
 use mathlib.Core.List.{List, [], _∷_, _++_, append-assoc}
-use Prim.Native.Nat.{ℕ, zero, suc, _+_, _-_, _*_, _≤_, _<_}
+use Prim.Native.Nat.{ℕ, suc, _-_, _*_, _≤_}
 use native.Mathlib.Omega.{arith}
-use lib.ListN.{length, getD, drop, length-append, length-replicate}
+use lib.ListN.{length, length-append, length-replicate}
 use lib.Seq.{drop-at}
 use Rattle.model.specs.Basics.{zeros, filled}
-use Rattle.model.specs.Rules.{Atom, Edge, Rule, mostAtoms, mostEdges, edgesOk}
+use Rattle.model.specs.Rules.{Atom, Edge, Rule, mostAtoms, edgesOk}
 use Rattle.model.specs.Files.{atomNumbers}
-use Rattle.model.specs.Layout.{edgeFields, edgeWidth, edgeNeed, edgeNumbers, edgesNumbers, edgeTable, atomsIn, edgeIn, edgesIn}
+use Rattle.model.specs.Layout.{edgeFields, edgeWidth, edgeNumbers, edgesNumbers, atomsIn, edgeIn, edgesIn}
 use Rattle.model.proofs.ValidParts.{first-edge, other-edges}
-
-pub atom-numbers-length : (xs : List Atom) → length (atomNumbers xs) ≡ 3 * length xs
-atom-numbers-length [] = refl
-atom-numbers-length (a ∷ xs) = omega (arith, atom-numbers-length xs)
+use Rattle.model.proofs.Bytes.{atom-numbers-length}
 
 -- a lent table that begins with xs has the length that was lent
 pub filled-length : (n : ℕ) (xs : List ℕ) → length xs ≤ n → length (filled n xs) ≡ n
@@ -27,8 +24,9 @@ atoms-written (a ∷ xs) rest = ap (λ (l : List Atom). a ∷ l) (atoms-written 
 
 pub edge-numbers-length : (e : Edge) → length (e .atoms) ≤ mostAtoms → length (edgeNumbers e) ≡ edgeWidth
 edge-numbers-length e h =
-    omega
-    (arith, filled-length (edgeWidth - edgeFields) (atomNumbers (e .atoms)) (omega (arith, atom-numbers-length (e .atoms))))
+    let vs : List ℕ = atomNumbers (e .atoms) in
+    let few : length vs ≤ edgeWidth - edgeFields = omega (arith, atom-numbers-length (e .atoms)) in
+    omega (arith, filled-length (edgeWidth - edgeFields) vs few)
 
 pub edge-written : (e : Edge) (rest : List ℕ) → edgeIn (edgeNumbers e ++ rest) ≡ e
 edge-written e rest =
@@ -41,8 +39,9 @@ module _ (r : Rule) where
   unfolding edgesNumbers
   edges-numbers-length [] h = refl
   edges-numbers-length (e ∷ es) h =
-      omega
-      (arith, length-append (edgeNumbers e) (edgesNumbers es), edge-numbers-length e (first-edge r e es h .atoms-most), edges-numbers-length es (other-edges r e es h))
+      let one = edge-numbers-length e (first-edge r e es h .atoms-most) in
+      let more = edges-numbers-length es (other-edges r e es h) in
+      omega (arith, length-append (edgeNumbers e) (edgesNumbers es))
 
   pub edges-written :
       (es : List Edge) (rest : List ℕ) → edgesOk r es ≡ true → edgesIn (length es) (edgesNumbers es ++ rest) ≡ es

@@ -1,6 +1,6 @@
 -- The file of a valid rule is made of bytes: each of its numbers fits two of them.
-use mathlib.Core.Path.{_≡_, refl, sym, _∙_, ap}
-use mathlib.Core.Bool.{Bool, true, false, _&&_}
+use mathlib.Core.Path.{_≡_, refl}
+use mathlib.Core.Bool.{true}
 use mathlib.Core.List.{List, [], _∷_, _++_}
 use Prim.Native.Nat.{ℕ, zero, suc, _+_, _*_, _^_, _≤_, _<_}
 use native.Mathlib.Omega.{arith}
@@ -9,10 +9,10 @@ use lib.Dec.{ltb}
 use lib.ListN.{length}
 use borrow.Author.Tests.{lt-ltb}
 use Rattle.model.specs.Basics.{allBelow}
-use Rattle.model.specs.Rules.{Atom, Edge, Rule, rising, validRule}
+use Rattle.model.specs.Rules.{Atom, Edge, Rule, rising}
 use Rattle.model.specs.Files.{numbers, sizesRecord, locationRecords, ceilingRecord, atomNumbers, edgeRecord, edgeRecords, ruleBytes}
 use Rattle.model.proofs.Logic.{and-both, In, here, there}
-use Rattle.model.proofs.Valid.{AtomIn, EdgeIn, Valid, valid-of}
+use Rattle.model.proofs.Valid.{AtomIn, EdgeIn, Valid}
 use Rattle.model.proofs.MaskLists.{rising-below, rising-rest}
 use Rattle.model.proofs.Bytes.{all-below-append, numbers-are-bytes}
 

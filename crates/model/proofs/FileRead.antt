@@ -1,23 +1,22 @@
 -- The file of a valid rule is accepted and spells that rule: its records are read one after another, each a step.
-use mathlib.Core.Path.{_≡_, refl, sym, _∙_, ap, ap₂}
-use mathlib.Core.Bool.{Bool, true, false, not}
-use mathlib.Core.List.{List, [], _∷_, _++_, append-nil, append-assoc}
-use Prim.Native.Nat.{ℕ, zero, suc, _+_, _-_, _*_, _/_, _%_, _≤_, _<_}
+use mathlib.Core.Path.{_≡_, refl, _∙_, ap}
+use mathlib.Core.Bool.{true}
+use mathlib.Core.List.{List, [], _∷_, _++_, append-nil}
+use Prim.Native.Nat.{ℕ, zero, suc, _+_, _-_, _*_, _/_, _≤_, _<_}
 use native.Mathlib.Omega.{arith}
-use lib.Dec.{ltb, leb}
-use lib.ListN.{length, drop, length-append}
+use lib.ListN.{length, length-append}
 use lib.Seq.{append-snoc, drop-at}
 use borrow.Author.Tests.{le-leb, le-ltb}
-use Rattle.model.specs.Basics.{refuse, fine, _⨾_}
-use Rattle.model.specs.Rules.{Atom, Edge, Rule, rule, pairCount, mostPairs, mostEdges, mostAtoms, sizesOk, edgeOk, integerReset, rising, edgesOk, validRule}
-use Rattle.model.specs.Files.{numberAt, recordHead, atomsFrom, edgeFrom, pastLast, noRule, seenSizes, withSizes, withInitial, withFinal, withCeiling, withEdge, withRecord, Spelt, endRefusal, atEnd, readRule, numbers, sizesRecord, locationRecords, ceilingRecord, atomNumbers, edgeRecord, edgeRecords, ruleBytes}
-use Rattle.model.specs.Demands.{Read-back, Valid-is-spelt}
+use Rattle.model.specs.Basics.{fine}
+use Rattle.model.specs.Rules.{Atom, Edge, Rule, rule, pairCount, mostPairs, mostEdges, sizesOk, edgeOk, integerReset, rising, edgesOk}
+use Rattle.model.specs.Files.{numberAt, recordHead, atomsFrom, edgeFrom, pastLast, noRule, withInitial, withFinal, withCeiling, withEdge, withRecord, Spelt, atEnd, readRule, numbers, locationRecords, ceilingRecord, atomNumbers, edgeRecord, edgeRecords, ruleBytes}
+use Rattle.model.specs.Demands.{Valid-is-spelt}
 use Rattle.model.proofs.MaskLists.{rising-least, rising-below, rising-rest}
-use Rattle.model.proofs.Valid.{Sizes, sizes-of}
+use Rattle.model.proofs.Valid.{sizes-of}
 use Rattle.model.proofs.ValidParts.{Parts, valid-parts, valid-pairs, Edge-ok, first-edge, other-edges, same-sizes, past-last}
-use Rattle.model.proofs.Bytes.{two-back, numbers-length}
+use Rattle.model.proofs.Bytes.{two-back, numbers-length, atom-numbers-length}
 use Rattle.model.proofs.FileSteps.{readOn, read-all, read-ends}
-use Rattle.model.proofs.FileRecords.{Allowed, sizes, initial, final, ceiling, edge}
+use Rattle.model.proofs.FileRecords.{sizes, initial, final, ceiling, edge}
 use Rattle.model.proofs.FileChecks.{read-record}
 
 abbrev pub spelt : Rule → Spelt
@@ -46,19 +45,17 @@ edgeBytes e rest =
 edge-read : (e : Edge) (rest : List ℕ) → edgeFrom (8 + 6 * length (e .atoms)) (edgeBytes e rest) ≡ e
 edge-read e rest =
     let m : (8 + 6 * length (e .atoms) - 8) / 6 ≡ length (e .atoms) = omega arith in
-    rw (m, two-back (e .source), two-back (e .target), two-back (e .symbol), two-back (e .resets), atoms-read (e .atoms) rest)
-
-atoms-count : (xs : List Atom) → length (atomNumbers xs) ≡ 3 * length xs
-atoms-count [] = refl
-atoms-count (a ∷ xs) = omega (arith, atoms-count xs)
+    let xs = atoms-read (e .atoms) rest in
+    rw (m, two-back (e .source), two-back (e .target), two-back (e .symbol), two-back (e .resets), xs)
 
 pub edge-record-length : (e : Edge) → length (edgeRecord e) ≡ recordHead + (8 + 6 * length (e .atoms))
 edge-record-length e =
-    omega
-    (arith, numbers-length ((8 + 6 * length (e .atoms)) ∷ 5 ∷ e .source ∷ e .target ∷ e .symbol ∷ e .resets ∷ atomNumbers (e .atoms)), atoms-count (e .atoms))
+    let n : ℕ = 8 + 6 * length (e .atoms) in
+    let vs : List ℕ = e .source ∷ e .target ∷ e .symbol ∷ e .resets ∷ atomNumbers (e .atoms) in
+    omega (arith, numbers-length (n ∷ 5 ∷ vs), atom-numbers-length (e .atoms))
 
 -- One record read of each kind.
-edge-step :
+pub edge-step :
     (p last : ℕ) (r : Rule) (e : Edge) (rest : List ℕ) → 1 ≤ r .locations → last ≤ 5 → length (r .edges) < mostEdges
     → Edge-ok r e
     → readOn p last r (edgeRecord e ++ rest)
@@ -83,7 +80,7 @@ edge-step p last r e rest h b room ok =
     }))
     ∙ ap (λ (f : Edge). readOn (p + (recordHead + n)) 5 (withEdge r f) rest) back
 
-ceiling-step :
+pub ceiling-step :
     (p last : ℕ) (r : Rule) (c : ℕ) (rest : List ℕ) → 1 ≤ r .locations → last ≤ 4 → r .ceiling ≡ 0 → c ≤ 30
     → readOn p last r (numbers (2 ∷ 4 ∷ c ∷ []) ++ rest) ≡ readOn (p + 6) 4 (withCeiling r c) rest
 unfolding withRecord
@@ -94,7 +91,7 @@ ceiling-step p last r c rest h b none top =
     (ceiling refl (record { length-is = refl; sizes-seen = h; no-fall = b; none-yet = none; in-range = rw x top }))
     ∙ ap (λ (y : ℕ). readOn (p + 6) 4 (withCeiling r y) rest) x
 
-final-step :
+pub final-step :
     (p last : ℕ) (r : Rule) (x : ℕ) (rest : List ℕ) → 1 ≤ r .locations → last ≤ 3 → pastLast (r .final) ≤ x
     → x < r .locations
     → readOn p last r (numbers (2 ∷ 3 ∷ x ∷ []) ++ rest) ≡ readOn (p + 6) 3 (withFinal r x) rest
@@ -107,7 +104,7 @@ final-step p last r x rest h b past below =
     (record { length-is = refl; sizes-seen = h; no-fall = b; rises = rw back past; in-range = rw back below }))
     ∙ ap (λ (y : ℕ). readOn (p + 6) 3 (withFinal r y) rest) back
 
-initial-step :
+pub initial-step :
     (p last : ℕ) (r : Rule) (x : ℕ) (rest : List ℕ) → 1 ≤ r .locations → last ≤ 2 → pastLast (r .initial) ≤ x
     → x < r .locations
     → readOn p last r (numbers (2 ∷ 2 ∷ x ∷ []) ++ rest) ≡ readOn (p + 6) 2 (withInitial r x) rest
@@ -120,7 +117,7 @@ initial-step p last r x rest h b past below =
     (record { length-is = refl; sizes-seen = h; no-fall = b; rises = rw back past; in-range = rw back below }))
     ∙ ap (λ (y : ℕ). readOn (p + 6) 2 (withInitial r y) rest) back
 
-sizes-step :
+pub sizes-step :
     (p last : ℕ) (r : Rule) (l s k : ℕ) (rest : List ℕ) → r .locations ≡ 0 → sizesOk l s k ≡ true
     → readOn p last r (numbers (6 ∷ 1 ∷ l ∷ s ∷ k ∷ []) ++ rest) ≡ readOn (p + 10) 1 (rule l s k [] [] 0 []) rest
 unfolding withRecord

@@ -1,15 +1,15 @@
--- The rule so far, while a file is read: valid in all its parts, and with nothing yet of the kinds past the last record's.
--- A record that is allowed keeps it so.
-use mathlib.Core.Path.{_≡_, refl, sym, _∙_, ap}
-use mathlib.Core.Bool.{Bool, true, false}
-use mathlib.Core.List.{List, [], _∷_, _++_}
-use Prim.Native.Nat.{ℕ, zero, suc, _+_, _-_, _*_, _/_, _%_, _≤_, _<_}
+-- The rule so far, while a file is read: valid in all its parts, and with nothing yet of the kinds past the last
+-- record's. A record that is allowed keeps it so.
+use mathlib.Core.Path.{_≡_, refl, _∙_, ap}
+use mathlib.Core.Bool.{true}
+use mathlib.Core.List.{List, [], _∷_}
+use Prim.Native.Nat.{ℕ, zero, suc, _-_, _/_, _≤_}
 use native.Mathlib.Omega.{arith}
 use lib.ListN.{length, drop, length-append}
 use Rattle.model.specs.Rules.{Edge, Rule, edgesOk}
 use Rattle.model.specs.Files.{numberAt, atomsFrom, edgeFrom, withSizes, withInitial, withFinal, withCeiling, withEdge, withRecord}
 use Rattle.model.proofs.Valid.{sizes-of}
-use Rattle.model.proofs.ValidParts.{Parts, Edge-ok, same-sizes, edge-last, rising-last}
+use Rattle.model.proofs.ValidParts.{Parts, same-sizes, edge-last, rising-last}
 use Rattle.model.proofs.FileRecords.{Sizes-allowed, Location-allowed, Ceiling-allowed, Edge-allowed, Allowed, sizes, initial, final, ceiling, edge}
 
 pub record So-far (last : ℕ) (r : Rule) : Type 0 where
@@ -46,13 +46,15 @@ module _ (last : ℕ) (r : Rule) (was : So-far last r) where
   edges-still q a b c = same-sizes q r (r .edges) a b c ∙ was .parts .edges-ok
 
   initial-so-far :
-      (n : ℕ) (body : List ℕ) → Location-allowed last 2 r (r .initial) n body → So-far 2 (withInitial r (numberAt 0 body))
+      (n : ℕ) (body : List ℕ) → Location-allowed last 2 r (r .initial) n body
+      → So-far 2 (withInitial r (numberAt 0 body))
   initial-so-far n body a =
       let x : ℕ = numberAt 0 body in
       record {
         parts = record {
           sizes = was .parts .sizes;
-          initial-rises = rising-last (r .locations) (r .initial) x (was .parts .initial-rises) (a .rises) (a .in-range);
+          initial-rises =
+              rising-last (r .locations) (r .initial) x (was .parts .initial-rises) (a .rises) (a .in-range);
           final-rises = was .parts .final-rises;
           ceiling-most = was .parts .ceiling-most;
           edges-most = was .parts .edges-most;

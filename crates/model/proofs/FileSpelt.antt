@@ -2,16 +2,16 @@
 use mathlib.Core.Path.{_≡_, refl, sym, _∙_, ap}
 use mathlib.Core.Bool.{Bool, true, false, not}
 use mathlib.Core.List.{List, [], _∷_, _++_, append-nil, append-assoc}
-use Prim.Native.Nat.{ℕ, zero, suc, _+_, _-_, _*_, _/_, _%_, _≤_, _<_}
+use Prim.Native.Nat.{ℕ, _+_, _-_, _*_, _/_, _≤_}
 use native.Mathlib.Omega.{arith}
 use lib.Dec.{ltb}
 use lib.ListN.{length, drop}
 use borrow.Author.Tests.{ltb-false, leb-true, not-false}
 use Rattle.model.specs.Basics.{allBelow, fine, refuse, Refusal}
 use Rattle.model.specs.Rules.{Edge, Rule, pairCount, mostPairs, validRule}
-use Rattle.model.specs.Files.{numberAt, bodyLength, kindOf, bodyOf, edgeFrom, noRule, seenSizes, withSizes, withInitial, withFinal, withCeiling, withEdge, withRecord, Spelt, atEnd, readRule, numbers, atomNumbers, edgeRecord, edgeRecords, ruleBytes}
+use Rattle.model.specs.Files.{numberAt, bodyLength, kindOf, bodyOf, edgeFrom, noRule, seenSizes, withSizes, withInitial, withFinal, withCeiling, withEdge, withRecord, atEnd, readRule, numbers, atomNumbers, edgeRecord, edgeRecords, ruleBytes}
 use Rattle.model.specs.Demands.{Spells-valid, Same-bytes}
-use Rattle.model.proofs.Refusals.{refused-false, first-passes, then-passes, on-pass}
+use Rattle.model.proofs.Refusals.{refused-false, first-passes, then-passes}
 use Rattle.model.proofs.ValidParts.{parts-valid}
 use Rattle.model.proofs.Bytes.{numbersOf, all-below-drop}
 use Rattle.model.proofs.FileSteps.{recordLength, ruleAfter, bytesAfter, readOn, of-every-reading, read-all}
@@ -46,11 +46,11 @@ edge-again last r s b whole k a =
     let count : length (e .atoms) ≡ m = atoms-from-length m (drop 8 (bodyOf s)) in
     let long : n ≡ 2 * (4 + 3 * m) = omega (arith, a .length-least, a .whole-atoms) in
     let size : 8 + 6 * length (e .atoms) ≡ n = omega (arith, a .length-least, a .whole-atoms) in
-    let body : numbersOf (4 + 3 * m) (bodyOf s)
-    ≡ e .source ∷ e .target ∷ e .symbol ∷ e .resets ∷ atomNumbers (e .atoms) =
-    four-numbers (3 * m) (bodyOf s) ∙ rw (atoms-numbers m (drop 8 (bodyOf s))) in
-    ap (λ (j : ℕ). numbers (j ∷ 5 ∷ e .source ∷ e .target ∷ e .symbol ∷ e .resets ∷ atomNumbers (e .atoms)) ++ bytesAfter s) size
-    ∙ record-again s (4 + 3 * m) 5 (e .source ∷ e .target ∷ e .symbol ∷ e .resets ∷ atomNumbers (e .atoms)) b whole long k body
+    let vs : List ℕ = e .source ∷ e .target ∷ e .symbol ∷ e .resets ∷ atomNumbers (e .atoms) in
+    let body = four-numbers (3 * m) (bodyOf s) in
+    let with-atoms : numbersOf (4 + 3 * m) (bodyOf s) ≡ vs = body ∙ rw (atoms-numbers m (drop 8 (bodyOf s))) in
+    ap (λ (j : ℕ). numbers (j ∷ 5 ∷ vs) ++ bytesAfter s) size
+    ∙ record-again s (4 + 3 * m) 5 vs b whole long k with-atoms
 
 -- the rule after a record, by its kind
 after-kind : (r : Rule) (s : List ℕ) (k : ℕ) → kindOf s ≡ k → ruleAfter r s ≡ withRecord r k (bodyLength s) (bodyOf s)
@@ -143,7 +143,9 @@ no-bytes xs [] e = sym (append-nil xs)
 no-bytes xs (x ∷ s) e = absurd (omega arith)
 
 -- from a rule so far on
-valid-from : {whole : Rule} {last : ℕ} {r : Rule} {s : List ℕ} → Accepted whole last r s → So-far last r → validRule whole ≡ true
+valid-from :
+    {whole : Rule} {last : ℕ} {r : Rule} {s : List ℕ} → Accepted whole last r s → So-far last r
+    → validRule whole ≡ true
 valid-from (ended {r = r} e h few same) was = rw same (parts-valid r (was .parts) few)
 valid-from (went-on {last = last} {r = r} {s = s} a rest) was =
     valid-from rest (record-so-far last r was (kindOf s) (bodyLength s) (bodyOf s) (a .allowed))

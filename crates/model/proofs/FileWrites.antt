@@ -1,15 +1,15 @@
 -- The file of a rule with one record more is the file and that record; and the bytes of a record that was read are what
 -- writing its numbers gives.
 use mathlib.Core.Path.{_≡_, refl, sym, _∙_, ap, ap₂}
-use mathlib.Core.Bool.{Bool, true, false}
+use mathlib.Core.Bool.{true}
 use mathlib.Core.List.{List, [], _∷_, _++_, append-nil, append-assoc}
-use Prim.Native.Nat.{ℕ, zero, suc, _+_, _-_, _*_, _/_, _%_, _≤_, _<_}
+use Prim.Native.Nat.{ℕ, zero, suc, _+_, _*_, _≤_}
 use native.Mathlib.Omega.{arith}
 use lib.ListN.{length, drop}
 use lib.Seq.{drop-drop}
 use Rattle.model.specs.Basics.{allBelow}
-use Rattle.model.specs.Rules.{Atom, Edge, Rule}
-use Rattle.model.specs.Files.{numberAt, recordHead, bodyLength, kindOf, bodyOf, atomsFrom, edgeFrom, withInitial, withFinal, withCeiling, withEdge, numbers, sizesRecord, locationRecords, ceilingRecord, atomNumbers, edgeRecord, edgeRecords, ruleBytes}
+use Rattle.model.specs.Rules.{Edge, Rule}
+use Rattle.model.specs.Files.{numberAt, recordHead, bodyLength, kindOf, bodyOf, atomsFrom, withInitial, withFinal, withCeiling, withEdge, numbers, sizesRecord, locationRecords, ceilingRecord, atomNumbers, edgeRecord, edgeRecords, ruleBytes}
 use Rattle.model.proofs.Bytes.{number-later, numbersOf, numbers-back}
 
 -- records one after another
@@ -26,8 +26,11 @@ edges-append (e ∷ es) fs =
     ∙ sym (append-assoc (edgeRecord e) (edgeRecords es) (edgeRecords fs))
 
 -- parts in a row, with one more at the end
-after-two : (a b k : List ℕ) → a ++ ((b ++ k) ++ []) ≡ (a ++ (b ++ [])) ++ k
-after-two a b k = simp (append-nil, append-assoc)
+in-two : (a b k : List ℕ) → a ++ ((b ++ k) ++ []) ≡ (a ++ (b ++ [])) ++ k
+in-two a b k = simp (append-nil, append-assoc)
+
+in-three : (a b c k : List ℕ) → a ++ (b ++ ((c ++ k) ++ [])) ≡ (a ++ (b ++ (c ++ []))) ++ k
+in-three a b c k = simp (append-nil, append-assoc)
 
 after-three : (a b c k : List ℕ) → a ++ (b ++ (c ++ (k ++ []))) ≡ (a ++ (b ++ (c ++ []))) ++ k
 after-three a b c k = simp (append-nil, append-assoc)
@@ -43,24 +46,24 @@ module _ (r : Rule) where
   unfolding ruleBytes edgeRecords
   writes-initial x f c e =
       rw (f, c, e, locations-append 2 (r .initial) (x ∷ []))
-      (after-two (sizesRecord r) (locationRecords 2 (r .initial)) (numbers (2 ∷ 2 ∷ x ∷ [])))
+      (in-two (sizesRecord r) (locationRecords 2 (r .initial)) (numbers (2 ∷ 2 ∷ x ∷ [])))
 
   pub writes-final :
       (x : ℕ) → r .ceiling ≡ 0 → r .edges ≡ []
       → ruleBytes (withFinal r x) ≡ ruleBytes r ++ numbers (2 ∷ 3 ∷ x ∷ [])
   unfolding ruleBytes edgeRecords
   writes-final x c e =
+      let k : List ℕ = numbers (2 ∷ 3 ∷ x ∷ []) in
       rw (c, e, locations-append 3 (r .final) (x ∷ []))
-      (ap (λ (l : List ℕ). sizesRecord r ++ (locationRecords 2 (r .initial) ++ l)) (append-assoc (locationRecords 3 (r .final)) (numbers (2 ∷ 3 ∷ x ∷ [])) [])
-      ∙ after-three (sizesRecord r) (locationRecords 2 (r .initial)) (locationRecords 3 (r .final)) (numbers (2 ∷ 3 ∷ x ∷ [])))
+      (in-three (sizesRecord r) (locationRecords 2 (r .initial)) (locationRecords 3 (r .final)) k)
 
   pub writes-ceiling :
       (x : ℕ) → r .ceiling ≡ 0 → r .edges ≡ []
       → ruleBytes (withCeiling r x) ≡ ruleBytes r ++ numbers (2 ∷ 4 ∷ x ∷ [])
   unfolding ruleBytes edgeRecords
   writes-ceiling x c e =
-      rw (c, e)
-      (after-three (sizesRecord r) (locationRecords 2 (r .initial)) (locationRecords 3 (r .final)) (numbers (2 ∷ 4 ∷ x ∷ [])))
+      let k : List ℕ = numbers (2 ∷ 4 ∷ x ∷ []) in
+      rw (c, e) (after-three (sizesRecord r) (locationRecords 2 (r .initial)) (locationRecords 3 (r .final)) k)
 
   pub writes-edge : (e : Edge) → ruleBytes (withEdge r e) ≡ ruleBytes r ++ edgeRecord e
   unfolding ruleBytes edgeRecords

@@ -1,21 +1,20 @@
 -- The reader, then the writer: what an accepted reading leaves, written, is the file again, and bytes past it are as
 -- they were.
-use mathlib.Core.Path.{_≡_, refl, sym, _∙_, ap}
+use mathlib.Core.Path.{_≡_, sym, _∙_, ap}
 use mathlib.Core.Bool.{Bool, true, false}
-use mathlib.Core.List.{List, [], _∷_, _++_}
-use Prim.Native.Nat.{ℕ, zero, suc, _≤_, _<_}
-use native.Mathlib.Omega.{arith}
-use lib.Dec.{eqb, ltb, leb}
+use mathlib.Core.List.{List}
+use Prim.Native.Nat.{ℕ, _≤_}
+use lib.Dec.{ltb}
 use lib.ListN.{length}
 use borrow.Author.Tests.{ltb-false, leb-true, eq-eqb, le-ltb, le-leb}
 use Rattle.model.specs.declared.Head.{Head}
 use Rattle.model.specs.declared.Answer.{Answer}
 use Rattle.model.specs.declared.Reading.{Reading}
-use Rattle.model.specs.Basics.{pick, allBelow, written, Refusal, fine, refuse, passes, _⨾_}
-use Rattle.model.specs.Rules.{Rule, validRule}
+use Rattle.model.specs.Basics.{written, Refusal, fine, refuse, passes}
+use Rattle.model.specs.Rules.{Rule}
 use Rattle.model.specs.Files.{readRule, ruleBytes}
 use Rattle.model.specs.Layout.{edgeNeed, headOf, edgeTable, ruleIn, ruleRefusal}
-use Rattle.model.specs.Promises.{answerOf, tooShort, readRefusal, readingOf, edgesRead, ReadsRule, writeRefusal, WritesRule}
+use Rattle.model.specs.Promises.{tooShort, readRefusal, ReadsRule, writeRefusal, WritesRule}
 use Rattle.model.specs.Demands.{Left, Read-then-write}
 use Rattle.model.proofs.Refusals.{refused-false, first-passes, then-passes, both-fine, refuse-fine}
 use Rattle.model.proofs.FileSteps.{read-settled}

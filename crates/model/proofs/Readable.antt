@@ -1,20 +1,20 @@
 -- What a rule that was read becomes, a head record and an edge table, passes 20 and 21 and spells that rule again; and
 -- only what reading some accepted file leaves passes 21.
-use mathlib.Core.Path.{_≡_, refl, sym, _∙_, ap, ap₂}
-use mathlib.Core.Bool.{Bool, true, false, _&&_, not}
-use mathlib.Core.List.{List, [], _∷_, _++_}
-use Prim.Native.Nat.{ℕ, zero, suc, _+_, _-_, _*_, _≤_, _<_}
+use mathlib.Core.Path.{_≡_, refl, sym, _∙_, ap}
+use mathlib.Core.Bool.{Bool, true, _&&_, not}
+use mathlib.Core.List.{List}
+use Prim.Native.Nat.{ℕ, _-_, _≤_}
 use native.Mathlib.Omega.{arith}
-use lib.Dec.{eqb, ltb, leb}
+use lib.Dec.{eqb, ltb}
 use lib.ListN.{length}
 use borrow.Author.Tests.{leb-true, eqb-true, eq-eqb, le-ltb}
 use Rattle.model.specs.declared.Head.{Head}
-use Rattle.model.specs.Basics.{same, zeros, filled, maskOf, bitsFrom, allBelow, Refusal, fine, refuse, _⨾_}
-use Rattle.model.specs.Rules.{Edge, Rule, rule, mostEdges, edgesOk, validRule}
-use Rattle.model.specs.Files.{readRule, ruleBytes}
-use Rattle.model.specs.Layout.{edgeWidth, edgeNeed, headOf, edgesNumbers, edgeTable, edgesIn, ruleIn, sameMasks, isReadable, ruleRefusal}
-use Rattle.model.specs.Demands.{Left, Spelled, Left-by-reading, Only-read}
-use Rattle.model.proofs.Logic.{and-left, and-right, and-both, same-equal, same-self}
+use Rattle.model.specs.Basics.{same, zeros, maskOf, fine, refuse}
+use Rattle.model.specs.Rules.{Rule, validRule}
+use Rattle.model.specs.Files.{ruleBytes}
+use Rattle.model.specs.Layout.{edgeNeed, headOf, edgesNumbers, edgeTable, ruleIn, isReadable, ruleRefusal}
+use Rattle.model.specs.Demands.{Spelled, Only-read}
+use Rattle.model.proofs.Logic.{and-left, and-right, same-equal, same-self}
 use Rattle.model.proofs.Refusals.{Settled, refuse-settled, then-settled}
 use Rattle.model.proofs.MaskLists.{bits-of-mask}
 use Rattle.model.proofs.Valid.{sizes-of, valid-of}
@@ -104,10 +104,10 @@ spelled r n valid lent =
     let spells : ruleIn (headOf r) (edgeTable n r) ≡ r = table-spells r v n room in
     let long : length (edgeTable n r) ≡ n = table-length r v n room in
     let again : edgeTable (length (edgeTable n r)) r ≡ edgeTable n r = ap (λ (m : ℕ). edgeTable m r) long in
+    let own = readable-rule r (headOf r) (edgeTable n r) spells valid refl refl again in
     record {
       passes-both =
-          passes-both (headOf r) (edgeTable n r) (rw long room)
-          (is-readable (headOf r) (edgeTable n r) (readable-rule r (headOf r) (edgeTable n r) spells valid refl refl again));
+          passes-both (headOf r) (edgeTable n r) (rw long room) (is-readable (headOf r) (edgeTable n r) own);
       spells = spells;
     }
 
