@@ -6,21 +6,17 @@ use Prim.Native.Nat.{ℕ, zero, suc, _+_, _-_, _*_, _/_, _≤_, _<_}
 use native.Mathlib.Omega.{arith}
 use lib.ListN.{length, length-append}
 use lib.Seq.{append-snoc, drop-at}
-use borrow.Author.Tests.{le-leb, le-ltb}
-use Rattle.model.specs.Basics.{fine}
 use Rattle.model.specs.Rules.{Atom, Edge, Rule, rule, pairCount, mostPairs, mostEdges, sizesOk, edgeOk, integerReset, rising, edgesOk}
-use Rattle.model.specs.Files.{numberAt, recordHead, atomsFrom, edgeFrom, pastLast, noRule, withInitial, withFinal, withCeiling, withEdge, withRecord, Spelt, atEnd, readRule, numbers, locationRecords, ceilingRecord, atomNumbers, edgeRecord, edgeRecords, ruleBytes}
+use Rattle.model.specs.Files.{numberAt, recordHead, atomsFrom, edgeFrom, pastLast, noRule, withInitial, withFinal, withCeiling, withEdge, withRecord, Spelt, readRule, numbers, locationRecords, ceilingRecord, atomNumbers, edgeRecord, edgeRecords, ruleBytes}
 use Rattle.model.specs.Demands.{Valid-is-spelt}
 use Rattle.model.proofs.MaskLists.{rising-least, rising-below, rising-rest}
 use Rattle.model.proofs.Valid.{sizes-of}
 use Rattle.model.proofs.ValidParts.{Parts, valid-parts, valid-pairs, Edge-ok, first-edge, other-edges, same-sizes, past-last}
 use Rattle.model.proofs.Bytes.{two-back, numbers-length, atom-numbers-length}
 use Rattle.model.proofs.FileSteps.{readOn, read-all, read-ends}
+use Rattle.model.proofs.FileOutcomes.{spelt, end-fine}
 use Rattle.model.proofs.FileRecords.{sizes, initial, final, ceiling, edge}
 use Rattle.model.proofs.FileChecks.{read-record}
-
-abbrev pub spelt : Rule → Spelt
-spelt r = record { refused = fine; rule-is = r }
 
 -- from the rule so far, after a record of at most this kind, the bytes left spell the whole rule
 abbrev pub Reads : ℕ → Rule → List ℕ → Rule → Type 0
@@ -28,9 +24,7 @@ Reads most r s whole = (p last : ℕ) → last ≤ most → readOn p last r s �
 
 -- no bytes left
 end-reads : (r : Rule) → 1 ≤ r .locations → pairCount r ≤ mostPairs → Reads 5 r [] r
-unfolding atEnd
-end-reads r h q p last b =
-    read-ends p last r [] refl ∙ rw (le-leb 1 (r .locations) h, le-ltb mostPairs (pairCount r) q)
+end-reads r h q p last b = read-ends p last r [] refl ∙ end-fine p r h q
 
 -- an edge's body, read
 atoms-read : (xs : List Atom) (rest : List ℕ) → atomsFrom (length xs) (numbers (atomNumbers xs) ++ rest) ≡ xs

@@ -11,6 +11,7 @@ pub mod EdgesWritten
 -- Rule files: numbers as bytes
 pub mod Bytes
 pub mod FileSteps
+pub mod FileOutcomes
 pub mod FileRecords
 pub mod FileChecks
 pub mod FileRead
