@@ -1,7 +1,7 @@
 -- The edge table of a rule, read back: 29 numbers an edge, and the edges that they spell are the rule's.
-use mathlib.Core.Path.{_≡_, refl, _∙_, ap, ap₂}
+use mathlib.Core.Path.{_≡_, refl, sym, _∙_, ap, ap₂}
 use mathlib.Core.Bool.{true}
-use mathlib.Core.List.{List, [], _∷_, _++_, append-assoc}
+use mathlib.Core.List.{List, [], _∷_, _++_, append-nil, append-assoc}
 use Prim.Native.Nat.{ℕ, suc, _-_, _*_, _≤_}
 use native.Mathlib.Omega.{arith}
 use lib.ListN.{length, length-append, length-replicate}
@@ -33,6 +33,15 @@ edge-written e rest =
     let z : List ℕ = zeros (edgeWidth - edgeFields - length (atomNumbers (e .atoms))) in
     rw (append-assoc (atomNumbers (e .atoms)) z rest, atoms-written (e .atoms) (z ++ rest))
 
+-- one edge more
+pub edges-numbers-last : (es : List Edge) (e : Edge) → edgesNumbers (es ++ (e ∷ [])) ≡ edgesNumbers es ++ edgeNumbers e
+unfolding edgesNumbers
+edges-numbers-last [] e = append-nil (edgeNumbers e)
+edges-numbers-last (f ∷ es) e =
+    ap (λ (l : List ℕ). edgeNumbers f ++ l) (edges-numbers-last es e)
+    ∙ sym (append-assoc (edgeNumbers f) (edgesNumbers es) (edgeNumbers e))
+
+-- edges of at most eight atoms
 module _ (r : Rule) where
   pub edges-numbers-length :
       (es : List Edge) → edgesOk r es ≡ true → length (edgesNumbers es) ≡ edgeWidth * length es
