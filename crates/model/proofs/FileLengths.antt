@@ -33,8 +33,8 @@ edges-length-most r (e ∷ es) h =
 rising-count : (least l : ℕ) (xs : List ℕ) → least ≤ l → rising least l xs ≡ true → least + length xs ≤ l
 rising-count least l [] h q = omega arith
 rising-count least l (x ∷ xs) h q =
-    omega
-    (arith, rising-least least l x xs q, rising-count (suc x) l xs (rising-below least l x xs q) (rising-rest least l x xs q))
+    let rest = rising-count (suc x) l xs (rising-below least l x xs q) (rising-rest least l x xs q) in
+    omega (arith, rising-least least l x xs q)
 
 pub rising-length : (l : ℕ) (xs : List ℕ) → rising 0 l xs ≡ true → length xs ≤ l
 rising-length l xs q = omega (arith, rising-count 0 l xs (omega arith) q)

@@ -1,4 +1,5 @@
--- A mask as a set of locations, the other way: its bits rise, make it again, and are below l exactly if it is below 2^l.
+-- A mask as a set of locations, the other way: its bits rise, make it again, and are below l exactly if it is below
+-- 2^l.
 use mathlib.Core.Path.{_≡_, refl, sym, _∙_}
 use mathlib.Core.Bool.{Bool, true, false}
 use mathlib.Core.List.{List, [], _∷_, _++_}
