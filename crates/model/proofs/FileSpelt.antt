@@ -1,6 +1,6 @@
 -- An accepted file spells a valid rule, and that rule's file has the same bytes.
 use mathlib.Core.Path.{_≡_, refl, sym, _∙_, ap}
-use mathlib.Core.Bool.{Bool, true, false, not}
+use mathlib.Core.Bool.{true, false, not}
 use mathlib.Core.List.{List, [], _∷_, _++_, append-nil, append-assoc}
 use Prim.Native.Nat.{ℕ, _+_, _-_, _*_, _/_, _≤_}
 use native.Mathlib.Omega.{arith}
@@ -121,8 +121,6 @@ end-accepted :
     → Accepted (atEnd p r .rule-is) last r s
 unfolding atEnd
 end-accepted p last r s e h =
-    let a : Bool = not (seenSizes r) in
-    let b : Bool = ltb mostPairs (pairCount r) in
     let seen : not (seenSizes r) ≡ false =
     refused-false (not (seenSizes r)) 2 p (first-passes (refuse (not (seenSizes r)) 3 p) _ h) in
     let few : ltb mostPairs (pairCount r) ≡ false =
@@ -160,14 +158,14 @@ bytes-from (went-on {last = last} {r = r} {s = s} a rest) was b =
     ∙ record-same-bytes last r was s b (a .whole) (a .allowed)
 
 -- from the start on: the first record has the sizes
-start-so-far :
+first-is-sizes :
     (last : ℕ) (r : Rule) (kind n : ℕ) (body : List ℕ) → r .locations ≡ 0 → Allowed last r kind n body
     → (kind ≡ 1) × Sizes-allowed r n body
-start-so-far last r kind n body none (sizes e a) = (e, a)
-start-so-far last r kind n body none (initial e a) = absurd (omega (arith, a .sizes-seen))
-start-so-far last r kind n body none (final e a) = absurd (omega (arith, a .sizes-seen))
-start-so-far last r kind n body none (ceiling e a) = absurd (omega (arith, a .sizes-seen))
-start-so-far last r kind n body none (edge e a) = absurd (omega (arith, a .sizes-seen))
+first-is-sizes last r kind n body none (sizes e a) = (e, a)
+first-is-sizes last r kind n body none (initial e a) = absurd (omega (arith, a .sizes-seen))
+first-is-sizes last r kind n body none (final e a) = absurd (omega (arith, a .sizes-seen))
+first-is-sizes last r kind n body none (ceiling e a) = absurd (omega (arith, a .sizes-seen))
+first-is-sizes last r kind n body none (edge e a) = absurd (omega (arith, a .sizes-seen))
 
 first-so-far :
     (r : Rule) (kind n : ℕ) (body : List ℕ) → kind ≡ 1 → Sizes-allowed r n body → So-far kind (withRecord r kind n body)
@@ -179,7 +177,7 @@ valid-whole :
     → validRule whole ≡ true
 valid-whole (ended e h few same) none = absurd (omega arith)
 valid-whole (went-on {last = last} {r = r} {s = s} a rest) none =
-    let first = start-so-far last r (kindOf s) (bodyLength s) (bodyOf s) none (a .allowed) in
+    let first = first-is-sizes last r (kindOf s) (bodyLength s) (bodyOf s) none (a .allowed) in
     valid-from rest (first-so-far r (kindOf s) (bodyLength s) (bodyOf s) (first .0) (first .1))
 
 bytes-whole :
@@ -188,7 +186,7 @@ bytes-whole :
     → ruleBytes whole ≡ s
 bytes-whole (ended e h few same) none b = absurd (omega arith)
 bytes-whole (went-on {last = last} {r = r} {s = s} a rest) none b =
-    let first = start-so-far last r (kindOf s) (bodyLength s) (bodyOf s) none (a .allowed) in
+    let first = first-is-sizes last r (kindOf s) (bodyLength s) (bodyOf s) none (a .allowed) in
     bytes-from rest (first-so-far r (kindOf s) (bodyLength s) (bodyOf s) (first .0) (first .1))
     (all-below-drop 256 (recordLength s) s b)
     ∙ sizes-same-bytes r s b (a .whole) (first .0) (first .1)

@@ -41,7 +41,6 @@ pub record Readable (h : Head) (t : List ℕ) : Type 0 where
 pub readable-of : (h : Head) (t : List ℕ) → isReadable h t ≡ true → Readable h t
 unfolding isReadable
 readable-of h t q =
-    let r : Rule = ruleIn h t in
     let a : Bool = validRule (ruleIn h t) in
     let b : Bool = eqb (maskOf (ruleIn h t .initial)) (h .starts) in
     let c : Bool = eqb (maskOf (ruleIn h t .final)) (h .ends) in
