@@ -22,9 +22,14 @@ use Rattle.model.specs.Layout.{edgeNeed, headOf, noHead, edgeTable, rule
 use Rattle.model.specs.Tables.{Tables, tables, builtOf, tablesBy, tablesOf, noBuilt, tableRefusal}
 use Rattle.model.specs.Walks.{inShape, shapeRefusal, tableAccepts}
 use Rattle.model.specs.Promises.{answerOf, tooShort, readRefusal, readingOf, edgesRead, ReadsRule, buildRefusal, buildingOf, tablesMade, leaves, BuildsTable, runRefusal, RunsTable}
-use Rattle.model.specs.Demands.{Spells-valid, Valid-is-spelt, Left, Spelled, Walk-agrees, Table-walks, Built-in-shape, Three-calls, Three-calls-written}
+use Rattle.model.specs.Demands.{Left}
 use Rattle.model.proofs.Logic.{by-test, and-both}
 use Rattle.model.proofs.Refusals.{refused-false, first-passes, then-passes, on-pass}
+use Rattle.model.proofs.Agreement.{walk-agrees}
+use Rattle.model.proofs.TableWalk.{table-walks}
+use Rattle.model.proofs.Shape.{built-in-shape}
+use Rattle.model.proofs.FileSpelt.{spells-valid}
+use Rattle.model.proofs.Readable.{spelled}
 use Rattle.model.proofs.Numbers.{Among, among-none, among-zero, read-numbers, table-numbers, word-numbers}
 
 -- a number within a range that it is said not to be in
@@ -98,29 +103,28 @@ made h t scratch scratch′ cells cells′ rows rows′ pool pool′ building r 
       tables-are = rw (built, cells-are, rows-are, pool-is) (same-tables r (length cells) (length rows) (length pool));
     }
 
-module _ (spells : Spells-valid) (spelled : Spelled) where
-  pub read :
-      (file edges edges′ : List ℕ) (reading : Reading) → ReadsRule file edges edges′ reading → reading .number ≡ 0
-      → Read file edges edges′ reading
-  read file edges edges′ reading p z =
-      let none : readRefusal file edges .number ≡ 0 = sym (ap (λ (x : Reading). x .number) (p .answer-is)) ∙ z in
-      let long : tooShort edges ≡ false = read-long file edges none in
-      let fine-read : readRule file .refused ≡ fine =
-      among-zero (readRule file .refused) (omega arith) (read-numbers file)
-      (sym (ap (λ (f : Refusal). f .number) (read-numbered file edges long)) ∙ none) in
-      let ok : validRule (readRule file .rule-is) ≡ true = spells file fine-read in
-      let refused : readRefusal file edges ≡ fine = read-numbered file edges long ∙ fine-read in
-      let head : reading .head ≡ headOf (readRule file .rule-is) = ap (λ (x : Reading). x .head) (p .answer-is) ∙ rw refused in
-      let table : edges′ ≡ edgeTable (length edges) (readRule file .rule-is) = p .edges-are ∙ rw (long, refused) in
-      let left : Left (readRule file .rule-is) (headOf (readRule file .rule-is)) (edgeTable (length edges) (readRule file .rule-is)) =
-      spelled (readRule file .rule-is) (length edges) ok (le-leb edgeNeed (length edges) (ltb-false (length edges) edgeNeed long)) in
-      record {
-        accepted = fine-read;
-        valid = ok;
-        head-is = head;
-        passes-both = rw (head, table) (left .passes-both);
-        spells-it = rw (head, table) (left .spells);
-      }
+pub read :
+    (file edges edges′ : List ℕ) (reading : Reading) → ReadsRule file edges edges′ reading → reading .number ≡ 0
+    → Read file edges edges′ reading
+read file edges edges′ reading p z =
+    let none : readRefusal file edges .number ≡ 0 = sym (ap (λ (x : Reading). x .number) (p .answer-is)) ∙ z in
+    let long : tooShort edges ≡ false = read-long file edges none in
+    let fine-read : readRule file .refused ≡ fine =
+    among-zero (readRule file .refused) (omega arith) (read-numbers file)
+    (sym (ap (λ (f : Refusal). f .number) (read-numbered file edges long)) ∙ none) in
+    let ok : validRule (readRule file .rule-is) ≡ true = spells-valid file fine-read in
+    let refused : readRefusal file edges ≡ fine = read-numbered file edges long ∙ fine-read in
+    let head : reading .head ≡ headOf (readRule file .rule-is) = ap (λ (x : Reading). x .head) (p .answer-is) ∙ rw refused in
+    let table : edges′ ≡ edgeTable (length edges) (readRule file .rule-is) = p .edges-are ∙ rw (long, refused) in
+    let left : Left (readRule file .rule-is) (headOf (readRule file .rule-is)) (edgeTable (length edges) (readRule file .rule-is)) =
+    spelled (readRule file .rule-is) (length edges) ok (le-leb edgeNeed (length edges) (ltb-false (length edges) edgeNeed long)) in
+    record {
+      accepted = fine-read;
+      valid = ok;
+      head-is = head;
+      passes-both = rw (head, table) (left .passes-both);
+      spells-it = rw (head, table) (left .spells);
+    }
 
 -- the table runner on what the builder left: only the word can be refused, and the answer is that of the runs
 pub record Answered (r : Rule) (t : Tables) (d : ℕ) (symbols stamps : List ℕ) : Type 0 where
@@ -135,12 +139,11 @@ run-numbered :
 unfolding runRefusal shapeRefusal tablesBy tablesOf
 run-numbered r c n p d symbols stamps h = rw h
 
-module _ (shape : Built-in-shape) (walk : Walk-agrees) (table : Table-walks) where
-  pub answered :
-      (r : Rule) (scratch cells rows pool : ℕ) (d : ℕ) (symbols stamps : List ℕ) → validRule r ≡ true
-      → tableRefusal r scratch cells rows pool ≡ fine
-      → Answered r (tablesOf r cells rows pool) d symbols stamps
-  answered r scratch cells rows pool d symbols stamps v f = record {
-    refused-by-word = run-numbered r cells rows pool d symbols stamps (shape r scratch cells rows pool v f);
-    says = λ w. table r scratch cells rows pool d mostEvents symbols stamps v f w ∙ walk r d mostEvents symbols stamps v w;
-  }
+pub answered :
+    (r : Rule) (scratch cells rows pool : ℕ) (d : ℕ) (symbols stamps : List ℕ) → validRule r ≡ true
+    → tableRefusal r scratch cells rows pool ≡ fine
+    → Answered r (tablesOf r cells rows pool) d symbols stamps
+answered r scratch cells rows pool d symbols stamps v f = record {
+  refused-by-word = run-numbered r cells rows pool d symbols stamps (built-in-shape r scratch cells rows pool v f);
+  says = λ w. table-walks r scratch cells rows pool d mostEvents symbols stamps v f w ∙ walk-agrees r d mostEvents symbols stamps v w;
+}

@@ -18,7 +18,6 @@ use Rattle.model.specs.Files.{readRule}
 use Rattle.model.specs.Tables.{Tables, tables, tableRefusal}
 use Rattle.model.specs.Walks.{tableAccepts}
 use Rattle.model.specs.Promises.{answerOf, readRefusal, ReadsRule, buildRefusal, BuildsTable, runRefusal, RunsTable, roomedRefusal, decideRefusal, decideLeaves, leaves, Decides}
-use Rattle.model.specs.Demands.{Spells-valid, Spelled, Walk-agrees, Table-walks, Built-in-shape}
 use Rattle.model.proofs.Logic.{by-test}
 use Rattle.model.proofs.Refusals.{on-pass, on-refused}
 use Rattle.model.proofs.Numbers.{among-zero, word-numbers}
@@ -80,76 +79,74 @@ same-answer r t d symbols stamps z =
     rw (z .refused-by-word, z .says none))
     (λ e. rw (z .refused-by-word, e))
 
-module _ (spells : Spells-valid) (spelled : Spelled) where
-  module _
-      (file edges edges′ scratch scratch′ cells cells′ rows rows′ pool pool′ : List ℕ) (d : ℕ) (symbols stamps : List ℕ)
-      (reading : Reading) (building : Building) (p : ReadsRule file edges edges′ reading) (zero-read : reading .number ≡ 0)
-      (q : BuildsTable (reading .head) edges′ scratch scratch′ cells cells′ rows rows′ pool pool′ building) where
-    abbrev r : Rule
-    r = readRule file .rule-is
+module _
+    (file edges edges′ scratch scratch′ cells cells′ rows rows′ pool pool′ : List ℕ) (d : ℕ) (symbols stamps : List ℕ)
+    (reading : Reading) (building : Building) (p : ReadsRule file edges edges′ reading) (zero-read : reading .number ≡ 0)
+    (q : BuildsTable (reading .head) edges′ scratch scratch′ cells cells′ rows rows′ pool pool′ building) where
+  abbrev r : Rule
+  r = readRule file .rule-is
 
-    left : Read file edges edges′ reading
-    left = read spells spelled file edges edges′ reading p zero-read
+  left : Read file edges edges′ reading
+  left = read file edges edges′ reading p zero-read
 
-    reads : readRefusal file edges .number ≡ 0
-    reads = sym (ap (λ (x : Reading). x .number) (p .answer-is)) ∙ zero-read
+  reads : readRefusal file edges .number ≡ 0
+  reads = sym (ap (λ (x : Reading). x .number) (p .answer-is)) ∙ zero-read
 
-    goes-on : passes (readRefusal file edges) ≡ true
-    goes-on = eq-eqb (readRefusal file edges .number) 0 reads
+  goes-on : passes (readRefusal file edges) ≡ true
+  goes-on = eq-eqb (readRefusal file edges .number) 0 reads
 
-    same-refusal : buildRefusal (reading .head) edges′ scratch cells rows pool ≡ roomedRefusal file scratch cells rows pool
-    unfolding roomedRefusal
-    same-refusal = built-numbered (reading .head) edges′ scratch cells rows pool r (left .passes-both) (left .spells-it)
+  same-refusal : buildRefusal (reading .head) edges′ scratch cells rows pool ≡ roomedRefusal file scratch cells rows pool
+  unfolding roomedRefusal
+  same-refusal = built-numbered (reading .head) edges′ scratch cells rows pool r (left .passes-both) (left .spells-it)
 
-    decided-so-far : decideRefusal file edges scratch cells rows pool d symbols stamps ≡ (roomedRefusal file scratch cells rows pool ⨾ wordRefusal (r .symbols) d mostEvents symbols stamps)
-    unfolding decideRefusal
-    decided-so-far = on-pass (readRefusal file edges) _ reads
+  decided-so-far : decideRefusal file edges scratch cells rows pool d symbols stamps ≡ (roomedRefusal file scratch cells rows pool ⨾ wordRefusal (r .symbols) d mostEvents symbols stamps)
+  unfolding decideRefusal
+  decided-so-far = on-pass (readRefusal file edges) _ reads
 
-    -- the tables at exit, whatever the builder answers
-    made-so-far : (answer : Answer) → answer ≡ answerOf (decideRefusal file edges scratch cells rows pool d symbols stamps) (oneIf (accepts r d (eventsOf symbols stamps))) → Decides file edges edges′ scratch scratch′ cells cells′ rows rows′ pool pool′ d symbols stamps answer
-    made-so-far answer a = record {
-      answer-is = a;
-      edges-are = p .edges-are;
-      scratch-is = rw (goes-on, ← same-refusal) (q .scratch-is);
-      cells-are = rw (goes-on, ← same-refusal, ← left .spells-it) (q .cells-are);
-      rows-are = rw (goes-on, ← same-refusal, ← left .spells-it) (q .rows-are);
-      pool-is = rw (goes-on, ← same-refusal, ← left .spells-it) (q .pool-is);
-    }
+  -- the tables at exit, whatever the builder answers
+  made-so-far : (answer : Answer) → answer ≡ answerOf (decideRefusal file edges scratch cells rows pool d symbols stamps) (oneIf (accepts r d (eventsOf symbols stamps))) → Decides file edges edges′ scratch scratch′ cells cells′ rows rows′ pool pool′ d symbols stamps answer
+  made-so-far answer a = record {
+    answer-is = a;
+    edges-are = p .edges-are;
+    scratch-is = rw (goes-on, ← same-refusal) (q .scratch-is);
+    cells-are = rw (goes-on, ← same-refusal, ← left .spells-it) (q .cells-are);
+    rows-are = rw (goes-on, ← same-refusal, ← left .spells-it) (q .rows-are);
+    pool-is = rw (goes-on, ← same-refusal, ← left .spells-it) (q .pool-is);
+  }
 
-    -- the builder refuses
-    pub unbuilt :
-        (building .number ≡ 0 → ⊥)
-        → Decides file edges edges′ scratch scratch′ cells cells′ rows rows′ pool pool′ d symbols stamps
-        (handedOn (building .number) (building .place))
-    unbuilt h =
-        let f : Refusal = roomedRefusal file scratch cells rows pool in
-        let number : building .number ≡ f .number =
-        ap (λ (x : Building). x .number) (q .answer-is) ∙ ap (λ (x : Refusal). x .number) same-refusal in
-        let place : building .place ≡ f .place =
-        ap (λ (x : Building). x .place) (q .answer-is) ∙ ap (λ (x : Refusal). x .place) same-refusal in
-        let not-zero : f .number ≡ 0 → ⊥ = λ z. h (number ∙ z) in
-        made-so-far (handedOn (building .number) (building .place))
-        (rw (number, place, decided-so-far, on-refused f _ not-zero) (handed-on f _ not-zero))
+  -- the builder refuses
+  pub unbuilt :
+      (building .number ≡ 0 → ⊥)
+      → Decides file edges edges′ scratch scratch′ cells cells′ rows rows′ pool pool′ d symbols stamps
+      (handedOn (building .number) (building .place))
+  unbuilt h =
+      let f : Refusal = roomedRefusal file scratch cells rows pool in
+      let number : building .number ≡ f .number =
+      ap (λ (x : Building). x .number) (q .answer-is) ∙ ap (λ (x : Refusal). x .number) same-refusal in
+      let place : building .place ≡ f .place =
+      ap (λ (x : Building). x .place) (q .answer-is) ∙ ap (λ (x : Refusal). x .place) same-refusal in
+      let not-zero : f .number ≡ 0 → ⊥ = λ z. h (number ∙ z) in
+      made-so-far (handedOn (building .number) (building .place))
+      (rw (number, place, decided-so-far, on-refused f _ not-zero) (handed-on f _ not-zero))
 
-    -- the table runner answers
-    module _ (shape : Built-in-shape) (walk : Walk-agrees) (table : Table-walks) where
-      pub decided :
-          (answer : Answer) → building .number ≡ 0 → RunsTable (building .built) cells′ rows′ pool′ d symbols stamps answer
-          → Decides file edges edges′ scratch scratch′ cells cells′ rows rows′ pool pool′ d symbols stamps answer
-      decided answer zero-built u =
-          let y : Made r scratch cells cells′ rows rows′ pool pool′ building =
-          made (reading .head) edges′ scratch scratch′ cells cells′ rows rows′ pool pool′ building r
-          (left .passes-both)
-          (left .spells-it)
-          q
-          zero-built in
-          let z : Answered r (tables (building .built) cells′ rows′ pool′) d symbols stamps =
-          subst (λ (t : Tables). Answered r t d symbols stamps) (sym (y .tables-are))
-          (answered shape walk table r (length scratch) (length cells) (length rows) (length pool) d symbols stamps
-          (left .valid)
-          (y .fits)) in
-          made-so-far answer
-          (u .answer-is
-          ∙ (same-answer r (tables (building .built) cells′ rows′ pool′) d symbols stamps z
-          ∙ ap (λ (f : Refusal). answerOf f (oneIf (accepts r d (eventsOf symbols stamps))))
-          (sym (decided-so-far ∙ word-alone file scratch cells rows pool (y .fits) (wordRefusal (r .symbols) d mostEvents symbols stamps)))))
+  -- the table runner answers
+  pub decided :
+      (answer : Answer) → building .number ≡ 0 → RunsTable (building .built) cells′ rows′ pool′ d symbols stamps answer
+      → Decides file edges edges′ scratch scratch′ cells cells′ rows rows′ pool pool′ d symbols stamps answer
+  decided answer zero-built u =
+      let y : Made r scratch cells cells′ rows rows′ pool pool′ building =
+      made (reading .head) edges′ scratch scratch′ cells cells′ rows rows′ pool pool′ building r
+      (left .passes-both)
+      (left .spells-it)
+      q
+      zero-built in
+      let z : Answered r (tables (building .built) cells′ rows′ pool′) d symbols stamps =
+      subst (λ (t : Tables). Answered r t d symbols stamps) (sym (y .tables-are))
+      (answered r (length scratch) (length cells) (length rows) (length pool) d symbols stamps
+      (left .valid)
+      (y .fits)) in
+      made-so-far answer
+      (u .answer-is
+      ∙ (same-answer r (tables (building .built) cells′ rows′ pool′) d symbols stamps z
+      ∙ ap (λ (f : Refusal). answerOf f (oneIf (accepts r d (eventsOf symbols stamps))))
+      (sym (decided-so-far ∙ word-alone file scratch cells rows pool (y .fits) (wordRefusal (r .symbols) d mostEvents symbols stamps)))))

@@ -20,8 +20,9 @@ use Rattle.model.specs.Layout.{ruleIn, ruleRefusal}
 use Rattle.model.specs.Tables.{Tables, tables, tableRefusal}
 use Rattle.model.specs.Walks.{tableAccepts}
 use Rattle.model.specs.Promises.{answerOf, tooShort, readRefusal, ReadsRule, buildRefusal, tablesMade, BuildsTable, runRefusal, RunsTable}
-use Rattle.model.specs.Demands.{Spells-valid, Read-back, Valid-is-spelt, Spelled, Walk-agrees, Table-walks, Built-in-shape, Three-calls, Three-calls-written}
+use Rattle.model.specs.Demands.{Read-back, Three-calls, Three-calls-written}
 use Rattle.model.proofs.Logic.{by-test}
+use Rattle.model.proofs.FileRead.{valid-is-spelt}
 use Rattle.model.proofs.Numbers.{among-none, read-numbers, table-numbers, word-numbers}
 use Rattle.model.proofs.Calls.{outside, Read, read, read-short, read-numbered, Made, made, built-numbered, Answered, answered}
 
@@ -92,29 +93,28 @@ not-refused r edges edges′ reading f p =
     (λ h. rw (ap (λ (x : Reading). x .number) (p .answer-is), read-short (ruleBytes r) edges h))
     (λ h. rw (ap (λ (x : Reading). x .number) (p .answer-is), read-numbered (ruleBytes r) edges h, f))
 
-module _ (spells : Spells-valid) (spelled : Spelled) (shape : Built-in-shape) (walk : Walk-agrees) (table : Table-walks) where
-  pub three-calls : Three-calls
-  three-calls file edges edges′ scratch scratch′ cells cells′ rows rows′ pool pool′ d symbols stamps reading building answer p q u a b c e =
-      let r : Rule = readRule file .rule-is in
-      let zero-read : reading .number ≡ 0 = first-none file edges edges′ reading p a b in
-      let x : Read file edges edges′ reading = read spells spelled file edges edges′ reading p zero-read in
-      let zero-built : building .number ≡ 0 =
-      second-none (reading .head) edges′ scratch scratch′ cells cells′ rows rows′ pool pool′ building r
-      (x .passes-both) (x .spells-it) q c in
-      let y : Made r scratch cells cells′ rows rows′ pool pool′ building =
-      made (reading .head) edges′ scratch scratch′ cells cells′ rows rows′ pool pool′ building r (x .passes-both)
-      (x .spells-it) q zero-built in
-      let z : Answered r (tables (building .built) cells′ rows′ pool′) d symbols stamps =
-      subst (λ (t : Tables). Answered r t d symbols stamps) (sym (y .tables-are))
-      (answered shape walk table r (length scratch) (length cells) (length rows) (length pool) d symbols stamps
-      (x .valid)
-      (y .fits)) in
-      (zero-read, zero-built, third-none r (tables (building .built) cells′ rows′ pool′) d symbols stamps answer z (u .answer-is) e)
+pub three-calls : Three-calls
+three-calls file edges edges′ scratch scratch′ cells cells′ rows rows′ pool pool′ d symbols stamps reading building answer p q u a b c e =
+    let r : Rule = readRule file .rule-is in
+    let zero-read : reading .number ≡ 0 = first-none file edges edges′ reading p a b in
+    let x : Read file edges edges′ reading = read file edges edges′ reading p zero-read in
+    let zero-built : building .number ≡ 0 =
+    second-none (reading .head) edges′ scratch scratch′ cells cells′ rows rows′ pool pool′ building r
+    (x .passes-both) (x .spells-it) q c in
+    let y : Made r scratch cells cells′ rows rows′ pool pool′ building =
+    made (reading .head) edges′ scratch scratch′ cells cells′ rows rows′ pool pool′ building r (x .passes-both)
+    (x .spells-it) q zero-built in
+    let z : Answered r (tables (building .built) cells′ rows′ pool′) d symbols stamps =
+    subst (λ (t : Tables). Answered r t d symbols stamps) (sym (y .tables-are))
+    (answered r (length scratch) (length cells) (length rows) (length pool) d symbols stamps
+    (x .valid)
+    (y .fits)) in
+    (zero-read, zero-built, third-none r (tables (building .built) cells′ rows′ pool′) d symbols stamps answer z (u .answer-is) e)
 
-  pub three-calls-written : Valid-is-spelt → Three-calls-written
-  three-calls-written back r edges edges′ scratch scratch′ cells cells′ rows rows′ pool pool′ d symbols stamps reading building answer v p q u b c e =
-      let k : Read-back r = back r v in
-      let claim =
-      three-calls (ruleBytes r) edges edges′ scratch scratch′ cells cells′ rows rows′ pool pool′ d symbols stamps
-      reading building answer p q u (not-refused r edges edges′ reading (k .accepted) p) b c e in
-      claim .2 ∙ rw (k .spells)
+pub three-calls-written : Three-calls-written
+three-calls-written r edges edges′ scratch scratch′ cells cells′ rows rows′ pool pool′ d symbols stamps reading building answer v p q u b c e =
+    let k : Read-back r = valid-is-spelt r v in
+    let claim =
+    three-calls (ruleBytes r) edges edges′ scratch scratch′ cells cells′ rows rows′ pool pool′ d symbols stamps
+    reading building answer p q u (not-refused r edges edges′ reading (k .accepted) p) b c e in
+    claim .2 ∙ rw (k .spells)
