@@ -61,3 +61,5 @@ pub mod ReadWrite
 pub mod Calls
 pub mod ThreeCalls
 pub mod Decision
+-- The runners agree; the follower against the runs
+pub mod Runners

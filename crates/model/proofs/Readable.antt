@@ -7,7 +7,7 @@ use Prim.Native.Nat.{ℕ, _-_, _≤_}
 use native.Mathlib.Omega.{arith}
 use lib.Dec.{eqb, ltb}
 use lib.ListN.{length}
-use borrow.Author.Tests.{leb-true, eqb-true, eq-eqb, le-ltb}
+use borrow.Author.Tests.{leb-true, eqb-true, eq-eqb, le-ltb, not-false}
 use Rattle.model.specs.declared.Head.{Head}
 use Rattle.model.specs.Basics.{same, zeros, maskOf, fine, refuse}
 use Rattle.model.specs.Rules.{Rule, validRule}
@@ -15,7 +15,7 @@ use Rattle.model.specs.Files.{ruleBytes}
 use Rattle.model.specs.Layout.{edgeNeed, headOf, edgesNumbers, edgeTable, ruleIn, isReadable, ruleRefusal}
 use Rattle.model.specs.Demands.{Spelled, Only-read}
 use Rattle.model.proofs.Logic.{and-left, and-right, same-equal, same-self}
-use Rattle.model.proofs.Refusals.{Settled, refuse-settled, then-settled}
+use Rattle.model.proofs.Refusals.{refused-false, then-passes, Settled, refuse-settled, then-settled}
 use Rattle.model.proofs.MaskLists.{bits-of-mask}
 use Rattle.model.proofs.Valid.{sizes-of, valid-of}
 use Rattle.model.proofs.ValidParts.{Parts, valid-parts}
@@ -53,6 +53,16 @@ readable-of h t q =
       ends-are = eqb-true (maskOf (ruleIn h t .final)) (h .ends) (and-right b c masks);
       table-is = same-equal (edgeTable (length t) (ruleIn h t)) t (and-right (a && (b && c)) d q);
     }
+
+-- what passes 20 and 21 is a valid rule
+pub passes-valid : (h : Head) (t : List ℕ) → ruleRefusal h t .number ≡ 0 → validRule (ruleIn h t) ≡ true
+unfolding ruleRefusal
+passes-valid h t z =
+    readable-of h t
+    (not-false (isReadable h t)
+    (refused-false (not (isReadable h t)) 20 0
+    (then-passes (refuse (ltb (length t) edgeNeed) 20 0) (refuse (not (isReadable h t)) 21 0) z)))
+    .valid
 
 pub is-readable : (h : Head) (t : List ℕ) → Readable h t → isReadable h t ≡ true
 unfolding isReadable
