@@ -3,6 +3,7 @@ pub mod Logic
 pub mod Refusals
 pub mod Masks
 pub mod MaskLists
+pub mod MaskBits
 -- A valid rule as plain facts; the edge table by place
 pub mod Valid
 pub mod ValidParts
