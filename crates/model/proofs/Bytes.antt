@@ -1,16 +1,17 @@
 -- Numbers as two bytes each, low byte first, and back: what is written is read again, and bytes that were read are
 -- written again.
-use mathlib.Core.Path.{_≡_, refl, sym, _∙_, ap, ap₂}
-use mathlib.Core.Bool.{Bool, true, false, _&&_}
+use mathlib.Core.Path.{_≡_, refl, _∙_, ap, ap₂}
+use mathlib.Core.Bool.{true}
 use mathlib.Core.List.{List, [], _∷_, _++_}
-use Prim.Native.Nat.{ℕ, zero, suc, _+_, _-_, _*_, _/_, _%_, _≤_, _<_}
+use Prim.Native.Nat.{ℕ, zero, suc, _+_, _*_, _/_, _%_, _≤_, _<_}
 use native.Mathlib.Omega.{arith}
 use lib.Dec.{ltb}
 use lib.ListN.{length, getD, drop}
 use lib.Seq.{getD-drop}
 use borrow.Author.Tests.{ltb-true, lt-ltb}
 use Rattle.model.specs.Basics.{allBelow}
-use Rattle.model.specs.Files.{numberAt, two, numbers}
+use Rattle.model.specs.Rules.{Atom}
+use Rattle.model.specs.Files.{numberAt, two, numbers, atomNumbers}
 use Rattle.model.proofs.Logic.{and-left, and-right, and-both}
 
 -- a number as two bytes, and back
@@ -28,6 +29,11 @@ pub numbers-length : (vs : List ℕ) → length (numbers vs) ≡ 2 * length vs
 numbers-length [] = refl
 numbers-length (v ∷ vs) = omega (arith, numbers-length vs)
 
+-- an atom is three numbers
+pub atom-numbers-length : (xs : List Atom) → length (atomNumbers xs) ≡ 3 * length xs
+atom-numbers-length [] = refl
+atom-numbers-length (a ∷ xs) = omega (arith, atom-numbers-length xs)
+
 pub numbers-append : (xs ys : List ℕ) → numbers (xs ++ ys) ≡ numbers xs ++ numbers ys
 numbers-append [] ys = refl
 numbers-append (x ∷ xs) ys = ap (λ (l : List ℕ). x % 256 ∷ x / 256 ∷ l) (numbers-append xs ys)
@@ -38,6 +44,12 @@ number-later i k s =
     let a : 2 * k + 2 * i ≡ 2 * (k + i) = omega arith in
     let b : 2 * k + (2 * i + 1) ≡ 2 * (k + i) + 1 = omega arith in
     rw (getD-drop (2 * k) s (2 * i) 0, getD-drop (2 * k) s (2 * i + 1) 0, a, b)
+
+-- number i of the record at place p of a file
+pub number-at-place :
+    (i p : ℕ) (file : List ℕ)
+    → numberAt i (drop p file) ≡ getD file (p + 2 * i) 0 + 256 * getD file (p + (2 * i + 1)) 0
+number-at-place i p file = rw (getD-drop p file (2 * i) 0, getD-drop p file (2 * i + 1) 0)
 
 number-next : (i a b : ℕ) (s : List ℕ) → numberAt (suc i) (a ∷ b ∷ s) ≡ numberAt i s
 number-next i a b s =

@@ -1,18 +1,19 @@
 -- The checks of one record: it is not refused exactly if it is whole and has what its kind asks for.
-use mathlib.Core.Path.{_≡_, refl, sym, _∙_, ap}
-use mathlib.Core.Bool.{Bool, true, false, _||_, not}
-use mathlib.Core.List.{List, [], _∷_}
-use Prim.Native.Nat.{ℕ, zero, suc, _+_, _≤_, _<_}
+use mathlib.Core.Path.{_≡_, _∙_, ap}
+use mathlib.Core.Bool.{Bool, false, not}
+use mathlib.Core.List.{List}
+use Prim.Native.Nat.{ℕ, _+_, _≤_}
 use native.Mathlib.Omega.{arith}
 use lib.Dec.{ltb}
-use lib.ListN.{length}
+use lib.ListN.{length, drop}
 use borrow.Author.Tests.{ltb-false, le-ltb, not-false}
-use Rattle.model.specs.Basics.{Refusal, refusal, fine, refuse, _⨾_}
+use Rattle.model.specs.Basics.{Refusal, fine, refuse, _⨾_}
 use Rattle.model.specs.Rules.{Rule}
-use Rattle.model.specs.Files.{recordHead, bodyLength, kindOf, bodyOf, bodyOk, cutShort, outOfOrder, oneTooMany, badSizes, outOfRange, notPinned, recordRefusal}
+use Rattle.model.specs.Files.{recordHead, bodyLength, kindOf, bodyOf, bodyOk, cutShort, outOfOrder, oneTooMany, badSizes, outOfRange, notPinned, recordRefusal, withRecord}
 use Rattle.model.proofs.Logic.{neither-right}
 use Rattle.model.proofs.Refusals.{refused-false, first-passes, then-passes}
-use Rattle.model.proofs.FileRecords.{Allowed, Passed, passed-allowed, allowed-passes}
+use Rattle.model.proofs.FileSteps.{recordLength, ruleAfter, bytesAfter, readOn, read-goes-on}
+use Rattle.model.proofs.FileRecords.{Allowed, passed-allowed, allowed-passes}
 
 -- The record at the front of s, at place p: not refused exactly if it is whole and allowed.
 pub record Record-allowed (last : ℕ) (r : Rule) (s : List ℕ) : Type 0 where
@@ -61,7 +62,23 @@ record-fine p last r s h =
     let k : ℕ = kindOf s in
     let b : List ℕ = bodyOf s in
     let q = allowed-passes last r k n b (h .allowed) in
-    let cut : cutShort s ≡ false = rw (le-ltb (length s) recordHead (omega arith), le-ltb (length s) (recordHead + n) (h .whole)) in
+    let head = le-ltb (length s) recordHead (omega arith) in
+    let cut : cutShort s ≡ false = rw (head, le-ltb (length s) (recordHead + n) (h .whole)) in
     seven-fine (cutShort s) (not (bodyOk k n)) (outOfOrder last r k b) (oneTooMany r k) (badSizes k b)
     (outOfRange r k n b) (notPinned k n b) p
     cut (rw (q .of-length)) (q .in-order) (q .not-too-many) (q .good-sizes) (q .in-range) (q .pinned)
+
+-- The step: from a record that is allowed the reading goes on after it.
+pub read-record :
+    (p last : ℕ) (r : Rule) (s : List ℕ) (kind n : ℕ) (body rest : List ℕ) → kindOf s ≡ kind → bodyLength s ≡ n
+    → bodyOf s ≡ body → drop (recordHead + n) s ≡ rest → recordHead + n ≤ length s → Allowed last r kind n body
+    → readOn p last r s ≡ readOn (p + (recordHead + n)) kind (withRecord r kind n body) rest
+read-record p last r s kind n body rest k-is n-is body-is rest-is whole allowed =
+    let here : Allowed last r (kindOf s) (bodyLength s) (bodyOf s) = rw (k-is, n-is, body-is) allowed in
+    let fits : recordHead + bodyLength s ≤ length s = rw n-is whole in
+    let passes : recordRefusal p last r s .number ≡ 0 =
+    ap (λ (x : Refusal). x .number) (record-fine p last r s (record { whole = fits; allowed = here })) in
+    let after : bytesAfter s ≡ rest = rw n-is rest-is in
+    let rule-is : ruleAfter r s ≡ withRecord r kind n body = rw (k-is, n-is, body-is) in
+    let place : p + recordLength s ≡ p + (recordHead + n) = rw n-is in
+    read-goes-on p last r s (omega arith) passes ∙ rw (rule-is, after, place, k-is)

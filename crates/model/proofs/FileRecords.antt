@@ -1,14 +1,14 @@
 -- What each kind of record asks for, as plain facts: the tests of 2 to 7 pass exactly if they hold.
-use mathlib.Core.Path.{_≡_, refl, sym, _∙_, ap}
+use mathlib.Core.Path.{_≡_, refl}
 use mathlib.Core.Bool.{Bool, true, false, _&&_, _||_, not}
-use mathlib.Core.List.{List, [], _∷_}
-use Prim.Native.Nat.{ℕ, zero, suc, _+_, _-_, _*_, _/_, _%_, _≤_, _<_}
+use mathlib.Core.List.{List}
+use Prim.Native.Nat.{ℕ, _-_, _%_, _≤_, _<_}
 use native.Mathlib.Omega.{arith}
 use lib.Dec.{eqb, ltb, leb}
-use lib.ListN.{length, drop}
-use borrow.Author.Tests.{ltb-true, ltb-false, leb-true, leb-false, eqb-true, lt-ltb, le-ltb, le-leb, lt-leb, eqb-false, eq-eqb, ne-eqb, not-false, not-true}
+use lib.ListN.{length}
+use borrow.Author.Tests.{ltb-false, leb-true, leb-false, eqb-true, le-ltb, le-leb, lt-leb, eqb-false, eq-eqb, ne-eqb, not-false}
 use Rattle.model.specs.Basics.{within}
-use Rattle.model.specs.Rules.{Edge, Rule, mostEdges, mostAtoms, sizesOk, edgeOk, integerReset}
+use Rattle.model.specs.Rules.{Edge, Rule, mostEdges, sizesOk, edgeOk, integerReset}
 use Rattle.model.specs.Files.{numberAt, edgeBody, bodyOk, edgeFrom, pastLast, seenSizes, outOfOrder, oneTooMany, badSizes, outOfRange, notPinned}
 use Rattle.model.proofs.Logic.{by-test, and-left, and-right, and-both, neither-left, neither-right, within-least, within-most, in-within}
 
@@ -97,7 +97,9 @@ record Ordered (last kind : ℕ) (r : Rule) (body : List ℕ) : Type 0 where
   initial-rises : (eqb kind 2 && ltb (numberAt 0 body) (pastLast (r .initial))) ≡ false
   final-rises : (eqb kind 3 && ltb (numberAt 0 body) (pastLast (r .final))) ≡ false
 
-ordered : (last kind : ℕ) (r : Rule) (body : List ℕ) → 2 ≤ kind → outOfOrder last r kind body ≡ false → Ordered last kind r body
+ordered :
+    (last kind : ℕ) (r : Rule) (body : List ℕ) → 2 ≤ kind → outOfOrder last r kind body ≡ false
+    → Ordered last kind r body
 ordered last kind r body p h =
     let one : eqb kind 1 ≡ false = ne-eqb kind 1 (omega arith) in
     let a : Bool = not (seenSizes r) in
@@ -136,7 +138,8 @@ ranged kind r n body h =
     }
 
 initial-by :
-    (last : ℕ) (r : Rule) (n : ℕ) (body : List ℕ) → Passed last r 2 n body → Location-allowed last 2 r (r .initial) n body
+    (last : ℕ) (r : Rule) (n : ℕ) (body : List ℕ) → Passed last r 2 n body
+    → Location-allowed last 2 r (r .initial) n body
 initial-by last r n body h =
     let o = ordered last 2 r body (omega arith) (h .in-order) in
     let q = ranged 2 r n body (h .in-range) in
@@ -216,26 +219,31 @@ sizes-pass last r n body h = record {
 }
 
 initial-pass :
-    (last : ℕ) (r : Rule) (n : ℕ) (body : List ℕ) → Location-allowed last 2 r (r .initial) n body → Passed last r 2 n body
-initial-pass last r n body h = record {
-  of-length = eq-eqb n 2 (h .length-is);
-  in-order = rw (le-leb 1 (r .locations) (h .sizes-seen), le-ltb 2 last (h .no-fall), le-ltb (numberAt 0 body) (pastLast (r .initial)) (h .rises));
-  not-too-many = refl;
-  good-sizes = refl;
-  in-range = rw (lt-leb (r .locations) (numberAt 0 body) (h .in-range));
-  pinned = refl;
-}
+    (last : ℕ) (r : Rule) (n : ℕ) (body : List ℕ) → Location-allowed last 2 r (r .initial) n body
+    → Passed last r 2 n body
+initial-pass last r n body h =
+    let rises = le-ltb (numberAt 0 body) (pastLast (r .initial)) (h .rises) in
+    record {
+      of-length = eq-eqb n 2 (h .length-is);
+      in-order = rw (le-leb 1 (r .locations) (h .sizes-seen), le-ltb 2 last (h .no-fall), rises);
+      not-too-many = refl;
+      good-sizes = refl;
+      in-range = rw (lt-leb (r .locations) (numberAt 0 body) (h .in-range));
+      pinned = refl;
+    }
 
 final-pass :
     (last : ℕ) (r : Rule) (n : ℕ) (body : List ℕ) → Location-allowed last 3 r (r .final) n body → Passed last r 3 n body
-final-pass last r n body h = record {
-  of-length = eq-eqb n 2 (h .length-is);
-  in-order = rw (le-leb 1 (r .locations) (h .sizes-seen), le-ltb 3 last (h .no-fall), le-ltb (numberAt 0 body) (pastLast (r .final)) (h .rises));
-  not-too-many = refl;
-  good-sizes = refl;
-  in-range = rw (lt-leb (r .locations) (numberAt 0 body) (h .in-range));
-  pinned = refl;
-}
+final-pass last r n body h =
+    let rises = le-ltb (numberAt 0 body) (pastLast (r .final)) (h .rises) in
+    record {
+      of-length = eq-eqb n 2 (h .length-is);
+      in-order = rw (le-leb 1 (r .locations) (h .sizes-seen), le-ltb 3 last (h .no-fall), rises);
+      not-too-many = refl;
+      good-sizes = refl;
+      in-range = rw (lt-leb (r .locations) (numberAt 0 body) (h .in-range));
+      pinned = refl;
+    }
 
 ceiling-pass : (last : ℕ) (r : Rule) (n : ℕ) (body : List ℕ) → Ceiling-allowed last r n body → Passed last r 4 n body
 ceiling-pass last r n body h = record {
@@ -249,7 +257,9 @@ ceiling-pass last r n body h = record {
 
 edge-pass : (last : ℕ) (r : Rule) (n : ℕ) (body : List ℕ) → Edge-allowed last r n body → Passed last r 5 n body
 edge-pass last r n body h = record {
-  of-length = and-both (within 8 56 n) (eqb ((n - 8) % 6) 0) (in-within 8 56 n (h .length-least) (h .length-most)) (eq-eqb ((n - 8) % 6) 0 (h .whole-atoms));
+  of-length =
+      and-both (within 8 56 n) (eqb ((n - 8) % 6) 0) (in-within 8 56 n (h .length-least) (h .length-most))
+      (eq-eqb ((n - 8) % 6) 0 (h .whole-atoms));
   in-order = rw (le-leb 1 (r .locations) (h .sizes-seen), le-ltb 5 last (h .no-fall));
   not-too-many = lt-leb mostEdges (length (r .edges)) (h .room);
   good-sizes = refl;

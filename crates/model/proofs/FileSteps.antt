@@ -1,18 +1,18 @@
 -- One record read: from a place on, the reading ends, is refused at this record, or goes on after it. More turns than
 -- there are bytes change nothing, so that a reading is settled by where it stands.
-use mathlib.Core.Path.{_≡_, refl, sym, _∙_, ap}
-use mathlib.Core.Bool.{Bool, true, false, _&&_, _||_, not}
-use mathlib.Core.List.{List, [], _∷_}
-use Prim.Native.Nat.{ℕ, zero, suc, _+_, _-_, _≤_, _<_}
+use mathlib.Core.Path.{_≡_, refl, sym, _∙_}
+use mathlib.Core.Bool.{not}
+use mathlib.Core.List.{List}
+use Prim.Native.Nat.{ℕ, zero, suc, _+_, _≤_, _<_}
 use native.Mathlib.Omega.{arith}
-use lib.Dec.{eqb, ltb, leb}
+use lib.Dec.{eqb, ltb}
 use lib.ListN.{length, drop, length-drop}
-use borrow.Author.Tests.{ltb-false, le-ltb, eqb-true, eqb-false, eq-eqb, ne-eqb, not-false}
-use Rattle.model.specs.Basics.{Refusal, fine, refuse, passes, _⨾_}
+use borrow.Author.Tests.{eqb-true, eqb-false, eq-eqb, ne-eqb}
+use Rattle.model.specs.Basics.{refuse, passes}
 use Rattle.model.specs.Rules.{Rule, pairCount, mostPairs}
-use Rattle.model.specs.Files.{recordHead, bodyLength, kindOf, bodyOf, bodyOk, cutShort, outOfOrder, oneTooMany, badSizes, outOfRange, notPinned, recordRefusal, withRecord, noRule, seenSizes, Spelt, unspelt, endRefusal, atEnd, readFrom, readRule}
-use Rattle.model.proofs.Logic.{by-test, neither-left, neither-right}
-use Rattle.model.proofs.Refusals.{refused-false, first-passes, then-passes, Settled, refuse-settled, then-settled}
+use Rattle.model.specs.Files.{recordHead, bodyLength, kindOf, bodyOf, recordRefusal, withRecord, noRule, seenSizes, Spelt, unspelt, atEnd, readFrom, readRule}
+use Rattle.model.proofs.Logic.{by-test}
+use Rattle.model.proofs.Refusals.{Settled, refuse-settled, then-settled}
 
 -- where the reading stands after the record at the front of s
 abbrev pub recordLength : List ℕ → ℕ

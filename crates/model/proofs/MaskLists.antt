@@ -1,12 +1,12 @@
 -- A set of locations as a mask, read back: the mask of a rising list below 32 has exactly that list for its bits.
-use mathlib.Core.Path.{_≡_, refl, sym, _∙_, ap, ap₂}
-use mathlib.Core.Bool.{Bool, true, false, _&&_, _||_}
-use mathlib.Core.List.{List, [], _∷_, _++_}
+use mathlib.Core.Path.{_≡_, refl, _∙_, ap}
+use mathlib.Core.Bool.{true, false, _&&_}
+use mathlib.Core.List.{List, [], _∷_}
 use Prim.Native.Nat.{ℕ, zero, suc, _+_, _≤_, _<_}
 use native.Mathlib.Omega.{arith}
 use lib.Dec.{eqb, ltb, leb}
-use borrow.Author.Tests.{ltb-true, leb-true, lt-ltb, le-leb, eq-eqb, ne-eqb}
-use Rattle.model.specs.Basics.{pick, isIn, bit, maskOf, bitsFrom}
+use borrow.Author.Tests.{ltb-true, leb-true, eq-eqb, ne-eqb}
+use Rattle.model.specs.Basics.{isIn, bit, maskOf, bitsFrom}
 use Rattle.model.specs.Rules.{rising}
 use Rattle.model.proofs.Logic.{and-left, and-right, Cmp, cmp, is-lt, is-eq, is-gt}
 use Rattle.model.proofs.Masks.{Asc, not-below, mask-bits}
@@ -61,14 +61,15 @@ bits-are (suc n) i mask (x ∷ xs) a b k = go (cmp i x) (bits-are n (suc i) mask
     s = omega arith
 
     go :
-        Cmp i x → ((ys : List ℕ) → Asc (suc i) ys → Below (suc i + n) ys → Bits (suc i) mask ys → bitsFrom n (suc i) mask ≡ ys)
+        Cmp i x
+        → ((ys : List ℕ) → Asc (suc i) ys → Below (suc i + n) ys → Bits (suc i) mask ys → bitsFrom n (suc i) mask ≡ ys)
         → bitsFrom (suc n) i mask ≡ x ∷ xs
     go (is-lt h) rest =
         rw (k i (omega arith), not-below x (x ∷ xs) i (omega arith, a .1) h)
         (rest (x ∷ xs) (omega arith, a .1) (rw s at b) (λ l q. k l (omega arith)))
     go (is-eq h) rest =
-        rw (k i (omega arith), eq-eqb i x h, h)
-        (ap (λ (ys : List ℕ). x ∷ ys) (rw h at (rest xs (rw (← h) at (a .1)) (rw s at (b .1)) (bits-rest i mask x xs h k))))
+        let others = rest xs (rw (← h) at (a .1)) (rw s at (b .1)) (bits-rest i mask x xs h k) in
+        rw (k i (omega arith), eq-eqb i x h, h) (ap (λ (ys : List ℕ). x ∷ ys) (rw h at others))
     go (is-gt h) rest = absurd (omega arith)
 
 pub bits-of-mask : (l : ℕ) (xs : List ℕ) → l ≤ 32 → rising 0 l xs ≡ true → bitsFrom 32 0 (maskOf xs) ≡ xs

@@ -1,13 +1,13 @@
 -- A valid rule in parts and back: the tests of its lists and edges one by one, and with one location or edge more.
-use mathlib.Core.Path.{_≡_, refl, sym, _∙_, ap₂}
-use mathlib.Core.Bool.{Bool, true, false, _&&_}
+use mathlib.Core.Path.{_≡_, refl, ap₂}
+use mathlib.Core.Bool.{Bool, true, _&&_}
 use mathlib.Core.List.{List, [], _∷_, _++_}
-use Prim.Native.Nat.{ℕ, suc, _+_, _≤_, _<_}
+use Prim.Native.Nat.{ℕ, suc, _≤_, _<_}
 use native.Mathlib.Omega.{arith}
 use lib.Dec.{ltb, leb}
 use lib.ListN.{length}
 use borrow.Author.Tests.{leb-true, lt-ltb, le-leb}
-use Rattle.model.specs.Rules.{Atom, Edge, Rule, pairCount, mostPairs, mostEdges, mostAtoms, sizesOk, edgeOk, integerReset, rising, edgesOk, validRule}
+use Rattle.model.specs.Rules.{Edge, Rule, pairCount, mostPairs, mostEdges, mostAtoms, sizesOk, edgeOk, integerReset, rising, edgesOk, validRule}
 use Rattle.model.specs.Files.{pastLast}
 use Rattle.model.proofs.Logic.{and-left, and-right, and-both}
 use Rattle.model.proofs.Valid.{valid-of}
@@ -115,8 +115,9 @@ after-last :
     (least l y : ℕ) (ys : List ℕ) (x : ℕ) → rising least l (y ∷ ys) ≡ true → pastLast (y ∷ ys) ≤ x → x < l
     → rising least l ((y ∷ ys) ++ (x ∷ [])) ≡ true
 after-last least l y [] x h b c =
-    rw
-    (le-leb least y (rising-least least l y [] h), lt-ltb y l (rising-below least l y [] h), le-leb (suc y) x b, lt-ltb x l c)
+    let p = le-leb least y (rising-least least l y [] h) in
+    let q = lt-ltb y l (rising-below least l y [] h) in
+    rw (p, q, le-leb (suc y) x b, lt-ltb x l c)
 after-last least l y (z ∷ ys) x h b c =
     and-both (leb least y && ltb y l) (rising (suc y) l ((z ∷ ys) ++ (x ∷ [])))
     (and-left (leb least y && ltb y l) (rising (suc y) l (z ∷ ys)) h)

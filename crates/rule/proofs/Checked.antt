@@ -7,17 +7,17 @@ use Prim.Native.Nat.{ℕ, zero, suc, _+_, _-_, _*_, _^_, _≤_, _<_}
 use native.Mathlib.Omega.{arith}
 use lib.Dec.{ltb, leb}
 use lib.ListN.{length, getD, take, drop}
-use borrow.Author.Tests.{leb-true, ltb-false, eq-eqb, not-false, lt-ltb, le-ltb}
+use borrow.Author.Tests.{leb-true, ltb-true, ltb-false, eq-eqb, not-false, lt-ltb, le-ltb}
 use Rattle.model.specs.declared.Head.{Head}
 use Rattle.model.specs.declared.Answer.{Answer}
 use Rattle.model.specs.Basics.{same, maskOf, bitsFrom, Refusal, refusal, fine, refuse, _⨾_}
-use Rattle.model.specs.Rules.{Atom, Rule, largestConstant, largestOf, cm, pairCount, mostPairs, mostEdges, mostAtoms, sizesOk, atomOk, atomsOk, integerReset, edgesOk, validRule}
+use Rattle.model.specs.Rules.{Atom, Rule, largestConstant, largestOf, cm, pairCount, mostPairs, mostEdges, mostAtoms, sizesOk, atomOk, atomsOk, integerReset, rising, edgesOk, validRule}
 use Rattle.model.specs.Layout.{edgeNeed, edgeFields, edgeWidth, edgeTable, edgeIn, edgesIn, ruleIn, sameMasks, isReadable, ruleRefusal}
 use Rattle.model.specs.Promises.{ChecksRule}
-use Rattle.model.proofs.Logic.{and-left, and-right, same-equal, larger-most}
+use Rattle.model.proofs.Logic.{same-truth, and-left, and-right, same-equal, larger-most}
 use Rattle.model.proofs.Refusals.{refused-false, first-passes, then-passes, Settled, refuse-settled, then-settled}
 use Rattle.model.proofs.Valid.{atom-of, Sizes, sizes-of}
-use Rattle.model.proofs.MaskBits.{mask-of-bits, mask-rises}
+use Rattle.model.proofs.MaskSets.{mask-below, bits-rise, mask-again}
 use Rattle.model.proofs.EdgeTable.{edges-length}
 use Rattle.rule.specs.Checks.{allZero, headGood, Sized, fieldsGood, edgeGood, edgesGood, pairsGood}
 use Rattle.rule.proofs.Unused.{edges-same}
@@ -49,6 +49,13 @@ good-sized h q =
     let s = good-head h q .sizes in
     record { locations-most = s .locations-most; symbols-most = s .symbols-most; clocks-most = s .clocks-most }
 
+-- the test of a mask: its bits rise below l exactly if it is below 2 ^ l
+mask-rises : (l mask : ℕ) → mask < 2 ^ 32 → rising 0 l (bitsFrom 32 0 mask) ≡ ltb mask (2 ^ l)
+mask-rises l mask h =
+    same-truth (rising 0 l (bitsFrom 32 0 mask)) (ltb mask (2 ^ l))
+    (λ r. lt-ltb mask (2 ^ l) (omega (arith, mask-below l (bitsFrom 32 0 mask) r, mask-again mask h)))
+    (λ b. bits-rise 32 0 l mask (ltb-true mask (2 ^ l) b))
+
 -- the tests in the code's order and in the definition's
 reorder : (x f g m k : Bool) → (x ≡ true → (f && m) ≡ k) → (x && f && g && true && m) ≡ (x && k && g)
 reorder false f g m k e = refl
@@ -71,11 +78,11 @@ readable-is h t p q long =
     && ltb (h .ends) (2 ^ h .locations)
     && leb (h .ceiling) 31 in
     rw (
-      mask-rises 32 (h .locations) (h .starts) p,
-      mask-rises 32 (h .locations) (h .ends) q,
+      mask-rises (h .locations) (h .starts) p,
+      mask-rises (h .locations) (h .ends) q,
       edges-length (h .count) t,
-      eq-eqb (maskOf (bitsFrom 32 0 (h .starts))) (h .starts) (mask-of-bits 32 (h .starts) p),
-      eq-eqb (maskOf (bitsFrom 32 0 (h .ends))) (h .ends) (mask-of-bits 32 (h .ends) q),
+      eq-eqb (maskOf (bitsFrom 32 0 (h .starts))) (h .starts) (mask-again (h .starts) p),
+      eq-eqb (maskOf (bitsFrom 32 0 (h .ends))) (h .ends) (mask-again (h .ends) q),
     )
     (reorder (x && leb (h .count) mostEdges) (edgesOk (ruleIn h t) (edgesIn (h .count) t))
     (leb (pairCount (ruleIn h t)) mostPairs) (same (edgeTable (length t) (ruleIn h t)) t)

@@ -6,16 +6,17 @@ use mathlib.Core.List.{List, [], _∷_, _++_, append-assoc}
 use Prim.Native.Nat.{ℕ, zero, suc, _+_, _-_, _*_, _≤_}
 use native.Mathlib.Omega.{arith}
 use lib.Dec.{eqb, leb}
-use lib.ListN.{length, getD, take, drop, length-append, length-drop, length-replicate, take-append-drop}
+use lib.ListN.{length, getD, take, drop, length-append, length-drop, take-append-drop}
 use lib.Seq.{length-take-le, take-add}
 use borrow.Author.Tests.{eq-eqb, eqb-true, leb-true}
 use Rattle.model.specs.Basics.{same, zeros, filled}
 use Rattle.model.specs.declared.Head.{Head}
-use Rattle.model.specs.Rules.{Atom, Edge, rule, mostAtoms, atomsOk, integerReset, edgesOk}
+use Rattle.model.specs.Rules.{Edge, rule, mostAtoms, atomsOk, integerReset, edgesOk}
 use Rattle.model.specs.Files.{atomNumbers}
 use Rattle.model.specs.Layout.{edgeFields, edgeWidth, atomsIn, edgeIn, edgesIn, edgeNumbers, edgesNumbers}
 use Rattle.model.proofs.Logic.{same-truth, same-self}
 use Rattle.model.proofs.EdgeTable.{atoms-length}
+use Rattle.model.proofs.EdgesWritten.{edge-numbers-length}
 use Rattle.rule.specs.Checks.{allZero, fieldsGood, edgeGood, edgesGood}
 
 -- two lists in two parts each
@@ -99,20 +100,6 @@ edge-same (a ∷ b ∷ c ∷ d ∷ n ∷ t) h m =
     )
     (atoms-same n t (omega arith) m)
 
--- an edge of at most 8 atoms takes its 29 places
-atom-numbers-length : (xs : List Atom) → length (atomNumbers xs) ≡ 3 * length xs
-atom-numbers-length [] = refl
-atom-numbers-length (x ∷ xs) = omega (arith, atom-numbers-length xs)
-
-pub edge-width : (e : Edge) → length (e .atoms) ≤ 8 → length (edgeNumbers e) ≡ edgeWidth
-edge-width e h =
-    rw (
-      length-append (atomNumbers (e .atoms)) (zeros (24 - length (atomNumbers (e .atoms)))),
-      length-replicate {A = ℕ} (24 - length (atomNumbers (e .atoms))) 0,
-      atom-numbers-length (e .atoms),
-    )
-    (omega arith)
-
 -- the first edge, and the rest
 table-parts :
     (xs ys t : List ℕ) → length xs ≡ 29 → 29 ≤ length t
@@ -166,7 +153,7 @@ edges-same h i f c es (suc n) t b =
     (edgesGood h n (drop edgeWidth t)) (same (filled (length t) (edgeNumbers e ++ edgesNumbers rest)) t)
     (λ q.
     let m : length (e .atoms) ≤ 8 = leb-true (length (e .atoms)) 8 q in
-    table-parts (edgeNumbers e) (edgesNumbers rest) t (edge-width e m) (omega arith)
+    table-parts (edgeNumbers e) (edgesNumbers rest) t (edge-numbers-length e m) (omega arith)
     ∙ ap (λ (x : Bool). x && rest-same) (edge-same t (omega arith) (leb-true (getD t 4 0) 8 (sym few ∙ q))))
     (edges-same h i f c es n (drop edgeWidth t) (rw (length-drop 29 t) (omega arith)))
     ∙ ap (λ (x : Bool). (fields && x && atoms && integerReset e && unused) && edgesGood h n (drop edgeWidth t))
