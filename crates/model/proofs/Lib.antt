@@ -9,6 +9,7 @@ pub mod MaskSets
 pub mod Valid
 pub mod ValidParts
 pub mod Words
+pub mod Events
 pub mod EdgeTable
 pub mod EdgesWritten
 -- P1 to P9, two whole tables, every refusal at its edges: by computation from the definitions
