@@ -33,10 +33,9 @@ pub mod Agreement
 pub mod RowsKeep
 pub mod RowNumbers
 pub mod Discovery
--- The tables: room, places, walk, shape, follower
+-- The tables: room, places, walk, shape; the follower against the runs
 pub mod CodeBounds
 pub mod EvenResets
-pub mod TableNeeds
 pub mod TableRoom
 pub mod TablePlaces
 pub mod TableWalk
@@ -62,5 +61,5 @@ pub mod ReadWrite
 pub mod Calls
 pub mod ThreeCalls
 pub mod Decision
--- The runners agree; the follower against the runs
+-- The runners agree
 pub mod Runners
