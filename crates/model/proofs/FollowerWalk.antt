@@ -21,7 +21,7 @@ use Rattle.model.specs.Claims.{noEvent, Follower-agrees}
 use Rattle.model.proofs.Logic.{remainder-is, in-within}
 use Rattle.model.proofs.Valid.{Valid, valid-of}
 use Rattle.model.proofs.Discovery.{Closed, discovered}
-use Rattle.model.proofs.EvenResets.{resets-even}
+use Rattle.model.proofs.RowSets.{even-reset}
 use Rattle.model.proofs.Regions.{Age, beyond, whole, part, age}
 use Rattle.model.proofs.Words.{Ordered, Below, Keeps, fine-keeps, keeps-fine, events-length}
 use Rattle.model.proofs.Agreement.{walk-agrees}
@@ -116,7 +116,7 @@ module _
         timer = rowResets r (e .symbol) i (rowAt rows (f .row))
 
         even : timer ≡ true → intervalOf (cm r) d (e .stamp - f .reset .0) % 2 ≡ 0
-        even t = rw (k .grain-is) at (resets-even r (e .symbol) i (rowAt rows (f .row)) v t)
+        even t = rw (k .grain-is) at (even-reset r (e .symbol) i (rowAt rows (f .row)) v t)
 
         reset : Reset d (e .stamp) (pick timer (e .stamp) (f .reset .0))
         reset =

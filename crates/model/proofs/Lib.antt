@@ -3,6 +3,7 @@
 pub mod Logic
 pub mod Refusals
 pub mod Masks
+pub mod Rising
 pub mod MaskLists
 pub mod MaskSets
 -- A valid rule and a word that keeps the rules, as plain facts; the edge table by place, and read back
@@ -35,7 +36,6 @@ pub mod RowNumbers
 pub mod Discovery
 -- The tables: room, places, walk, shape; the follower against the runs
 pub mod CodeBounds
-pub mod EvenResets
 pub mod TableRoom
 pub mod TablePlaces
 pub mod TableWalk

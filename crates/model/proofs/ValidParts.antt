@@ -11,7 +11,7 @@ use Rattle.model.specs.Rules.{Edge, Rule, pairCount, mostPairs, mostEdge
 use Rattle.model.specs.Files.{pastLast}
 use Rattle.model.proofs.Logic.{and-left, and-right, and-both}
 use Rattle.model.proofs.Valid.{valid-of}
-use Rattle.model.proofs.MaskLists.{rising-least, rising-below, rising-rest}
+use Rattle.model.proofs.Rising.{rising-least, rising-below, rising-rest}
 
 -- all but the bound on N
 pub record Parts (r : Rule) : Type 0 where
