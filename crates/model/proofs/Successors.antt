@@ -10,7 +10,7 @@ use borrow.Author.Tests.{ltb-true, leb-true, lt-ltb, le-leb}
 use Rattle.model.specs.Basics.{isIn}
 use Rattle.model.specs.Rules.{Edge, Rule}
 use Rattle.model.specs.Runs.{noEdge}
-use Rattle.model.specs.Construction.{rowResets, nextRow}
+use Rattle.model.specs.Construction.{allows, rowResets, nextRow}
 use Rattle.model.specs.Claims.{Allowed, Makes, Resets, Successors-are}
 use Rattle.model.proofs.Logic.{In, is-in, in-is, in-at, Numbered, in-number}
 use Rattle.model.proofs.RowSets.{Leads, next-has, next-of, ResetsBy, reset-has, reset-of}
