@@ -19,7 +19,7 @@ edge-in : (r : Rule) (n : ℕ) → ltb n (length (r .edges)) ≡ true → In (ge
 edge-in r n h = in-at noEdge (r .edges) n (ltb-true n (length (r .edges)) h)
 
 module _ (r : Rule) (s i : ℕ) (row : List ℕ) where
-  allowed-by :
+  abbrev allowed-by :
       (pair : ℕ) (e : Edge) → In pair row → Numbered noEdge (r .edges) e → allows r s i pair e ≡ true → Allowed r s i row
   allowed-by pair e j n a = record {
     pair = pair;
