@@ -9,6 +9,7 @@ pub mod MaskSets
 -- A valid rule and a word that keeps the rules, as plain facts; the edge table by place, and read back
 pub mod Valid
 pub mod ValidParts
+pub mod TopMost
 pub mod Words
 pub mod Events
 pub mod EdgeTable

@@ -2,24 +2,26 @@
 -- table are what that rule becomes.
 use mathlib.Core.Path.{_≡_, refl, _∙_, ap}
 use mathlib.Core.Bool.{Bool, true, false, _&&_, not}
-use mathlib.Core.List.{List, [], _∷_}
-use Prim.Native.Nat.{ℕ, zero, suc, _+_, _-_, _*_, _^_, _≤_, _<_}
+use mathlib.Core.List.{List}
+use Prim.Native.Nat.{ℕ, _-_, _^_, _≤_, _<_}
 use native.Mathlib.Omega.{arith}
 use lib.Dec.{ltb, leb}
-use lib.ListN.{length, getD, take, drop}
-use borrow.Author.Tests.{leb-true, ltb-true, ltb-false, eq-eqb, not-false, lt-ltb, le-ltb}
+use lib.ListN.{length}
+use borrow.Author.Tests.{le-leb, leb-true, ltb-true, ltb-false, eq-eqb, not-false, lt-ltb, le-ltb}
 use Rattle.model.specs.declared.Head.{Head}
 use Rattle.model.specs.declared.Answer.{Answer}
-use Rattle.model.specs.Basics.{same, maskOf, bitsFrom, Refusal, refusal, fine, refuse, _⨾_}
-use Rattle.model.specs.Rules.{Atom, Rule, largestConstant, largestOf, cm, pairCount, mostPairs, mostEdges, mostAtoms, sizesOk, atomOk, atomsOk, integerReset, rising, edgesOk, validRule}
-use Rattle.model.specs.Layout.{edgeNeed, edgeFields, edgeWidth, edgeTable, edgeIn, edgesIn, ruleIn, sameMasks, isReadable, ruleRefusal}
+use Rattle.model.specs.Basics.{filled, same, maskOf, bitsFrom, Refusal, refusal, fine, refuse, _⨾_}
+use Rattle.model.specs.Rules.{Edge, rule, Rule, largestOf, cm, pairCount, mostPairs, mostEdges, sizesOk, rising, edgesOk, validRule}
+use Rattle.model.specs.Layout.{edgesNumbers, edgeNeed, edgeTable, edgesIn, ruleIn, sameMasks, isReadable, ruleRefusal}
 use Rattle.model.specs.Promises.{ChecksRule}
 use Rattle.model.proofs.Logic.{same-truth, and-left, and-right, same-equal, larger-most}
 use Rattle.model.proofs.Refusals.{refused-false, first-passes, then-passes, Settled, refuse-settled, then-settled}
-use Rattle.model.proofs.Valid.{atom-of, Sizes, sizes-of}
+use Rattle.model.proofs.Valid.{Sizes, sizes-of}
+use Rattle.model.proofs.TopMost.{edges-top}
 use Rattle.model.proofs.MaskSets.{mask-below, bits-rise, mask-again}
 use Rattle.model.proofs.EdgeTable.{edges-length}
-use Rattle.rule.specs.Checks.{allZero, headGood, Sized, fieldsGood, edgeGood, edgesGood, pairsGood}
+use Rattle.edges.specs.Powers.{smallPairs}
+use Rattle.rule.specs.Checks.{headGood, edgesGood, pairsGood}
 use Rattle.rule.proofs.Unused.{edges-same}
 
 -- a good head record, as plain facts
@@ -43,11 +45,6 @@ good-head h q =
       ceiling-most = leb-true (h .ceiling) 31 (and-right (a && b && c) d q4);
       count-most = leb-true (h .count) mostEdges (and-right (a && b && c && d) e q);
     }
-
-pub good-sized : (h : Head) → headGood h ≡ true → Sized h
-good-sized h q =
-    let s = good-head h q .sizes in
-    record { locations-most = s .locations-most; symbols-most = s .symbols-most; clocks-most = s .clocks-most }
 
 -- the test of a mask: its bits rise below l exactly if it is below 2 ^ l
 mask-rises : (l mask : ℕ) → mask < 2 ^ 32 → rising 0 l (bitsFrom 32 0 mask) ≡ ltb mask (2 ^ l)
@@ -92,42 +89,33 @@ readable-is h t p q long =
     (h .count) t
     (omega arith)))
 
--- cm of a table that is good
-atoms-top : (k : ℕ) (xs : List Atom) → atomsOk k xs ≡ true → largestConstant xs ≤ 30
-atoms-top k [] q = omega arith
-atoms-top k (x ∷ xs) q =
-    larger-most (x .constant) (largestConstant xs) 30
-    (atom-of k x (and-left (atomOk k x) (atomsOk k xs) q) .constant-most)
-    (atoms-top k xs (and-right (atomOk k x) (atomsOk k xs) q))
-
-edge-top : (h : Head) (t : List ℕ) → edgeGood h t ≡ true → largestConstant (edgeIn t .atoms) ≤ 30
-unfolding edgeGood
-edge-top h t q =
-    let a : Bool = fieldsGood h t in
-    let b : Bool = leb (getD t 4 0) mostAtoms in
-    let c : Bool = atomsOk (h .clocks) (edgeIn t .atoms) in
-    let d : Bool = integerReset (edgeIn t) in
-    let e : Bool =
-    allZero (take (edgeWidth - (edgeFields + 3 * getD t 4 0)) (drop (edgeFields + 3 * getD t 4 0) t)) in
-    let q3 : (a && b && c) ≡ true = and-left (a && b && c) d (and-left (a && b && c && d) e q) in
-    atoms-top (h .clocks) (edgeIn t .atoms) (and-right (a && b) c q3)
-
-edges-top : (h : Head) (n : ℕ) (t : List ℕ) → edgesGood h n t ≡ true → largestOf (edgesIn n t) ≤ 30
-unfolding edgesGood
-edges-top h zero t q = omega arith
-edges-top h (suc n) t q =
-    let a : Bool = edgeGood h t in
-    let b : Bool = edgesGood h n (drop edgeWidth t) in
-    larger-most (largestConstant (edgeIn t .atoms)) (largestOf (edgesIn n (drop edgeWidth t))) 30
-    (edge-top h t (and-left a b q))
-    (edges-top h n (drop edgeWidth t) (and-right a b q))
-
-pub good-top :
-    (h : Head) (t : List ℕ) → headGood h ≡ true → edgesGood h (h .count) t ≡ true → cm (ruleIn h t) ≤ 30
+-- N, where head record and edge table are good: sizes in range, and cm at most 30
+good-top :
+    (h : Head) (t : List ℕ) → Good-head h → edgeNeed ≤ length t → edgesGood h (h .count) t ≡ true
+    → cm (ruleIn h t) ≤ 30
 unfolding cm ruleIn
-good-top h t p q =
-    larger-most (largestOf (edgesIn (h .count) t)) (h .ceiling - 1) 30 (edges-top h (h .count) t q)
-    (omega (arith, good-head h p .ceiling-most))
+good-top h t good long q =
+    let i : List ℕ = bitsFrom 32 0 (h .starts) in
+    let f : List ℕ = bitsFrom 32 0 (h .ends) in
+    let es : List Edge = edgesIn (h .count) t in
+    let r : Rule = rule (h .locations) (h .symbols) (h .clocks) i f (h .ceiling) es in
+    let both = edges-same h i f (h .ceiling) es (h .count) t (omega (arith, good .count-most)) ∙ q in
+    larger-most (largestOf es) (h .ceiling - 1) 30
+    (edges-top r es (and-left (edgesOk r es) (same (filled (length t) (edgesNumbers es)) t) both))
+    (omega (arith, good .ceiling-most))
+
+pub pairs-good :
+    (h : Head) (t : List ℕ) (p : ℕ) → headGood h ≡ true → edgeNeed ≤ length t → edgesGood h (h .count) t ≡ true
+    → p ≡ smallPairs h t
+    → leb p 65536 ≡ pairsGood h t
+pairs-good h t p q long edges e =
+    let good = good-head h q in
+    rw (
+      e,
+      le-leb (h .locations) 32 (good .sizes .locations-most),
+      le-leb (h .clocks) 4 (good .sizes .clocks-most),
+      le-leb (cm (ruleIn h t)) 30 (good-top h t good long edges),
+    )
 
 -- What a call that passes has shown.
 pub record Checked (h : Head) (t : List ℕ) : Type 0 where

@@ -2,39 +2,20 @@
 use mathlib.Core.Path.{_≡_, sym, _∙_, ap, ap₂}
 use mathlib.Core.Bool.{Bool, true, false, _&&_, _||_, not}
 use mathlib.Core.List.{List}
-use Prim.Native.Nat.{ℕ, suc, _+_, _-_, _*_, _/_, _^_, _≤_, _<_}
+use Prim.Native.Nat.{ℕ, suc, _+_, _-_, _*_, _^_, _≤_, _<_}
 use native.Mathlib.Omega.{arith}
-use native.Mathlib.Nat.{div-eq-of-lt, div-add-mod', mod-lt, le-trans, mul-le-mul, pow-le-pow-left, pow-le-pow-right}
 use native.Mathlib.Numerals.{add-one}
 use lib.Dec.{eqb, ltb, leb}
 use lib.ListN.{length, getD, take, drop, length-drop, drop-of-length-le}
 use lib.Seq.{drop-cons, drop-drop, take-all}
-use lib.Pow.{pow-pos}
-use borrow.Author.Tests.{lt-ltb, le-ltb, le-leb, lt-leb, eq-eqb, ne-eqb, not-true, not-false, ltb-true, eqb-true}
+use borrow.Author.Tests.{lt-ltb, le-ltb, le-leb, lt-leb, eq-eqb, ne-eqb}
 use Rattle.model.specs.declared.Head.{Head}
-use Rattle.model.specs.Rules.{cm, pairCount, atomsOk, hasEqual, integerReset}
-use Rattle.model.specs.Layout.{edgeFields, edgeWidth, atomsIn, edgeIn, ruleIn}
-use Rattle.model.proofs.Logic.{same-truth, or-right}
+use Rattle.model.specs.Rules.{sizesOk, atomsOk, hasEqual, integerReset}
+use Rattle.model.specs.Layout.{edgeFields, edgeWidth, atomsIn, edgeIn}
+use Rattle.model.proofs.Logic.{or-right}
 use Rattle.model.proofs.EdgeTable.{atoms-rest}
-use Rattle.edges.specs.Powers.{smallPower}
-use Rattle.rule.specs.Checks.{allZero, edgeGood, edgesGood, pairsGood}
-
--- a call's answer that was tested
-pub failed : {t a : Bool} → t ≡ a → not t ≡ true → a ≡ false
-failed {t} e h = sym e ∙ not-true t h
-
-pub passed : {t a : Bool} → t ≡ a → not t ≡ false → a ≡ true
-passed {t} e h = sym e ∙ not-false t h
-
--- a shift that leaves nothing
-pub shifted-out : (mask bits : ℕ) → eqb (mask / 2 ^ bits) 0 ≡ ltb mask (2 ^ bits)
-shifted-out mask bits =
-    same-truth (eqb (mask / 2 ^ bits) 0) (ltb mask (2 ^ bits))
-    (λ e. lt-ltb mask (2 ^ bits) (below (eqb-true (mask / 2 ^ bits) 0 e)))
-    (λ h. eq-eqb (mask / 2 ^ bits) 0 (div-eq-of-lt (ltb-true mask (2 ^ bits) h)))
-  where
-    below : mask / 2 ^ bits ≡ 0 → mask < 2 ^ bits
-    below e = omega (arith, rw e at (div-add-mod' mask (2 ^ bits)), mod-lt mask {m = 2 ^ bits} (pow-pos bits))
+use Rattle.edges.proofs.Answers.{failed, passed}
+use Rattle.rule.specs.Checks.{allZero, edgeGood, edgesGood}
 
 -- zeros from a place on
 pub record Zeros (i : ℕ) (xs : List ℕ) : Type 0 where
@@ -167,7 +148,11 @@ module _ (h : Head) (t : List ℕ) (n : ℕ) (n-is : n ≡ getD t 4 0) where
       → x ≡ allZero (take (edgeWidth - (edgeFields + 3 * getD t 4 0)) (drop (edgeFields + 3 * getD t 4 0) t))
   edge-unused q = q ∙ rw n-is
 
--- a mask test of numbers that were widened
+-- tests of numbers that were widened
+pub sizes-known :
+    {x : Bool} {l s k m t n : ℕ} → x ≡ sizesOk l s k → l ≡ m → s ≡ t → k ≡ n → x ≡ sizesOk m t n
+sizes-known e p q r = e ∙ rw (p, q, r)
+
 pub mask-known : {x : Bool} {m n k l : ℕ} → x ≡ ltb m (2 ^ k) → m ≡ n → k ≡ l → x ≡ ltb n (2 ^ l)
 mask-known e p q = e ∙ ap₂ (λ (a b : ℕ). ltb a (2 ^ b)) p q
 
@@ -217,24 +202,3 @@ module _ {h : Head} {count e : ℕ} {t : List ℕ} (inv : Edges h count e t) whe
       r
       ∙ (ap allZero (part-rest (29 * count) t) ∙ (rw (z, s) at (inv .rest-is))
       ∙ ap (λ (k : ℕ). edgesGood h k t) c)
-
--- N from its factors, which fit
-power-known : (bases k : ℕ) → bases ≤ 32 → k ≤ 4 → smallPower bases k ≡ bases ^ k
-power-known bases k p q = rw (le-leb bases 65535 (omega arith), le-leb k 4 q)
-
-power-most : (bases k : ℕ) → bases ≤ 32 → k ≤ 4 → bases ^ k ≤ 32 ^ 4
-power-most bases k p q =
-    le-trans (pow-le-pow-left p k) (pow-le-pow-right {n = 32} (omega arith) {i = k} {j = 4} q)
-
-pub pairs-fit : (l top k p : ℕ) → l ≤ 32 → top ≤ 30 → k ≤ 4 → p ≡ smallPower (top + 2) k → l * p ≤ 32 * 32 ^ 4
-pairs-fit l top k p a b c e =
-    rw (e, power-known (top + 2) k (omega arith) c) (mul-le-mul a (power-most (top + 2) k (omega arith) c))
-
-pub pairs-known :
-    (h : Head) (t : List ℕ) (l top k p : ℕ) → top ≤ 30 → k ≤ 4 → l ≡ h .locations → top ≡ cm (ruleIn h t)
-    → k ≡ h .clocks
-    → p ≡ smallPower (top + 2) k
-    → leb (l * p) 65536 ≡ pairsGood h t
-unfolding pairCount ruleIn
-pairs-known h t l top k p a b le te ke e =
-    rw (e, power-known (top + 2) k (omega arith) b, le, te, ke)

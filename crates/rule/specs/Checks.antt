@@ -1,7 +1,7 @@
 -- The direct test of a head record and an edge table, part by part.
 use mathlib.Core.Bool.{Bool, true, _&&_}
 use mathlib.Core.List.{List, [], _∷_}
-use Prim.Native.Nat.{ℕ, zero, suc, _+_, _-_, _*_, _^_, _≤_}
+use Prim.Native.Nat.{ℕ, zero, suc, _+_, _-_, _*_, _^_}
 use lib.Dec.{eqb, ltb, leb}
 use lib.ListN.{getD, take, drop}
 use Rattle.model.specs.declared.Head.{Head}
@@ -19,12 +19,6 @@ headGood h =
     && ltb (h .ends) (2 ^ h .locations)
     && leb (h .ceiling) 31
     && leb (h .count) mostEdges
-
--- what the tests of the edge table lean on
-pub record Sized (h : Head) : Type 0 where
-  pub locations-most : h .locations ≤ 32
-  pub symbols-most : h .symbols ≤ 16
-  pub clocks-most : h .clocks ≤ 4
 
 -- the edge at the front of a table: source, target, symbol and reset mask in range
 abbrev pub fieldsGood : Head → List ℕ → Bool

@@ -1,17 +1,17 @@
 // Whether a head record and an edge table are what reading some accepted file leaves: refusals 20 and 21.
 // A direct test in one pass; no file is built.
 ghost use mathlib.Core.Path.{_≡_};
-ghost use mathlib.Core.Bool.{true, _||_};
-ghost use Prim.Native.Nat.{ℕ, _+_, _*_, _^_, _≤_, _<_};
-ghost use lib.Dec.{eqb, ltb};
+ghost use mathlib.Core.Bool.{_||_};
+ghost use Prim.Native.Nat.{_*_, _≤_};
+ghost use lib.Dec.{eqb};
 ghost use lib.ListN.{length};
-ghost use Rattle.model.specs.Basics.{within};
-ghost use Rattle.model.specs.Rules.{mostAtoms, mostEdges, cm, sizesOk, atomsOk, hasEqual};
-ghost use Rattle.model.specs.Layout.{edgeNeed, edgeWidth, atomsIn, ruleIn, isReadable};
+ghost use Rattle.model.specs.Rules.{mostAtoms, mostEdges, atomsOk, hasEqual};
+ghost use Rattle.model.specs.Layout.{edgeNeed, edgeWidth, atomsIn, isReadable};
 ghost use Rattle.model.specs.Promises.{ChecksRule};
-ghost use Rattle.rule.specs.Checks.{allZero, headGood, Sized, fieldsGood, edgeGood, edgesGood, pairsGood};
-use edges::power;
-use edges::top_of;
+ghost use Rattle.rule.specs.Checks.{allZero, headGood, fieldsGood, edgeGood, edgesGood};
+use edges::mask_ok;
+use edges::pairs_of;
+use edges::sizes_ok;
 use edges::wide16;
 use edges::wide32;
 use model::Answer;
@@ -52,45 +52,16 @@ pub(crate) fn readable(head: Head, edges: &[u16]) -> bool
     if !edges_ok(head, edges) {
         return false;
     }
-    pairs_ok(head, edges)
-}
-
-pub(crate) fn in_range(x: u32, most: u32) -> bool
-    ensures { λ r. ⌜ r ≡ within 1 most x ⌝ }
-{
-    if x < 1 {
-        return false;
-    }
-    x <= most
-}
-
-pub(crate) fn sizes_ok(head: Head) -> bool
-    ensures { λ r. ⌜ r ≡ sizesOk (head .locations) (head .symbols) (head .clocks) ⌝ }
-{
-    if !in_range(head.locations, 32) {
-        return false;
-    }
-    if !in_range(head.symbols, 16) {
-        return false;
-    }
-    in_range(head.clocks, 4)
-}
-
-// Whether a mask has no bit at or past `bits`.
-pub(crate) fn mask_ok(mask: usize, bits: usize) -> bool
-    requires { ⌜ bits ≤ 32 ⌝ }
-    ensures { λ r. ⌜ r ≡ ltb mask (2 ^ bits) ⌝ }
-{
-    mask >> bits == 0
+    pairs_of(head, edges) <= 65536
 }
 
 pub(crate) fn head_ok(head: Head) -> bool
     ensures { λ r. ⌜ r ≡ headGood head ⌝ }
 {
-    if !sizes_ok(head) {
+    let locations = wide32(head.locations);
+    if !sizes_ok(locations, wide32(head.symbols), wide32(head.clocks)) {
         return false;
     }
-    let locations = wide32(head.locations);
     if !mask_ok(wide32(head.starts), locations) {
         return false;
     }
@@ -105,7 +76,7 @@ pub(crate) fn head_ok(head: Head) -> bool
 
 // Every edge, then zeros up to the end of the table.
 pub(crate) fn edges_ok(head: Head, edges: &[u16]) -> bool
-    requires { ⌜ Sized head × (head .count ≤ mostEdges) × (edgeNeed ≤ length (now edges)) ⌝ }
+    requires { ⌜ (head .count ≤ mostEdges) × (edgeNeed ≤ length (now edges)) ⌝ }
     ensures { λ r. ⌜ r ≡ edgesGood head (head .count) (now (edges .entry)) ⌝ }
 {
     let count = wide32(head.count);
@@ -123,7 +94,7 @@ pub(crate) fn edges_ok(head: Head, edges: &[u16]) -> bool
 
 // The edge at the front of a table.
 pub(crate) fn edge_ok(head: Head, edge: &[u16]) -> bool
-    requires { ⌜ Sized head × (edgeWidth ≤ length (now edge)) ⌝ }
+    requires { ⌜ edgeWidth ≤ length (now edge) ⌝ }
     ensures { λ r. ⌜ r ≡ edgeGood head (now (edge .entry)) ⌝ }
 {
     if !fields_ok(head, edge) {
@@ -146,7 +117,7 @@ pub(crate) fn edge_ok(head: Head, edge: &[u16]) -> bool
 
 // An edge's source, target, symbol and reset mask.
 pub(crate) fn fields_ok(head: Head, edge: &[u16]) -> bool
-    requires { ⌜ Sized head × (edgeWidth ≤ length (now edge)) ⌝ }
+    requires { ⌜ edgeWidth ≤ length (now edge) ⌝ }
     ensures { λ r. ⌜ r ≡ fieldsGood head (now (edge .entry)) ⌝ }
 {
     let locations = wide32(head.locations);
@@ -213,14 +184,4 @@ pub(crate) fn all_zero(places: &[u16]) -> bool
         i += 1;
     }
     true
-}
-
-// N is at most 65,536: computed only for sizes in range and a cm of at most 30.
-pub(crate) fn pairs_ok(head: Head, edges: &[u16]) -> bool
-    requires { ⌜ Sized head × (cm (ruleIn head (now edges)) ≤ 30) ⌝ }
-    ensures { λ r. ⌜ r ≡ pairsGood head (now (edges .entry)) ⌝ }
-{
-    let bases = top_of(head, edges) + 2;
-    let pairs = wide32(head.locations) * power(bases, wide32(head.clocks));
-    pairs <= 65536
 }

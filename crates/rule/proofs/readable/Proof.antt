@@ -2,8 +2,8 @@
 use mathlib.Core.Path.{sym, _∙_}
 use native.Mathlib.Omega.{arith}
 use borrow.Author.Needs.{needs}
-use Rattle.rule.proofs.Checked.{readable-is, good-head, good-sized, good-top}
-use Rattle.rule.proofs.Laws.{failed, passed}
+use Rattle.edges.proofs.Answers.{failed, passed}
+use Rattle.rule.proofs.Checked.{readable-is, good-head, pairs-good}
 use Rattle.rule.proofs.readable.Statement.{statement}
 use Rattle.rule.proofs.readable.Tie as tie
 
@@ -25,8 +25,7 @@ edges-ok-requires : tie.Need-edges-ok-requires
 edges-ok-requires c κs =
     let head-ok = c .before .head-ok in
     let asked = c .before .before .before .pre in
-    let good = passed (head-ok .ensures) (c .if1 .left) in
-    (good-sized _ good, good-head _ good .count-most, asked)
+    (good-head _ (passed (head-ok .ensures) (c .if1 .left)) .count-most, asked)
 
 returns-2 : tie.Need-returns-2
 returns-2 c =
@@ -41,14 +40,8 @@ returns-2 c =
     sym (readable-is h t (omega (arith, good)) (omega (arith, good)) (asked)
     ∙ rw (passed (head-ok .ensures) (if1 .left), failed (edges-ok .ensures) (c .if2 .taken)))
 
-pairs-ok-requires : tie.Need-pairs-ok-requires
-pairs-ok-requires c κs =
-    let edges-ok = c .before .edges-ok in
-    let if1 = c .before .before .if1 in
-    let head-ok = c .before .before .before .head-ok in
-    let a = c .before .before .before .before .before .args in
-    let good = passed (head-ok .ensures) (if1 .left) in
-    (good-sized _ good, good-top (a .head) (a .edges .now) good (passed (edges-ok .ensures) (c .if2 .left)))
+pairs-of-requires : tie.Need-pairs-of-requires
+pairs-of-requires c κs = search needs
 
 returns-3 : tie.Need-returns-3
 returns-3 c =
@@ -61,11 +54,12 @@ returns-3 c =
     let asked = c .before .before .before .before .before .before .pre in
     let h = a .head in
     let t = a .edges .now in
-    c .pairs-ok .ensures
-    ∙ sym (readable-is h t (omega (arith, good)) (omega (arith, good)) (asked)
-    ∙ rw (passed (head-ok .ensures) (if1 .left), passed (edges-ok .ensures) (if2 .left)))
+    let head-good = passed (head-ok .ensures) (if1 .left) in
+    let edges-good = passed (edges-ok .ensures) (if2 .left) in
+    pairs-good h t (c .pairs-of .result) head-good (asked) edges-good (c .pairs-of .ensures)
+    ∙ sym (readable-is h t (omega (arith, good)) (omega (arith, good)) (asked) ∙ rw (head-good, edges-good))
 
 pub readable-spec : {M : Type 1} → statement M
 readable-spec =
     tie.close
-    (tie.spec head-ok-requires returns edges-ok-requires returns-2 pairs-ok-requires returns-3)
+    (tie.spec head-ok-requires returns edges-ok-requires returns-2 pairs-of-requires returns-3)

@@ -1,9 +1,7 @@
--- `rule::in_range` meets its contract: the two halves of the range.
-use borrow.Author.Needs.{needs}
--- `rule::in_range` meets its contract: the two halves of the range.
+-- `edges::in_range` meets its contract: the two halves of the range.
 use borrow.Author.Tests.{le-leb, lt-leb}
-use Rattle.rule.proofs.in_range.Statement.{statement}
-use Rattle.rule.proofs.in_range.Tie as tie
+use Rattle.edges.proofs.in_range.Statement.{statement}
+use Rattle.edges.proofs.in_range.Tie as tie
 
 returns : tie.Need-returns
 returns c = rw (lt-leb 1 (c .before .args .x) (c .if1 .taken))

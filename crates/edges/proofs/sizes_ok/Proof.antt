@@ -1,8 +1,8 @@
--- `rule::sizes_ok` meets its contract: its three ranges in the definition's order.
+-- `edges::sizes_ok` meets its contract: its three ranges in the definition's order.
 use borrow.Author.Needs.{needs}
-use Rattle.rule.proofs.Laws.{failed, passed}
-use Rattle.rule.proofs.sizes_ok.Statement.{statement}
-use Rattle.rule.proofs.sizes_ok.Tie as tie
+use Rattle.edges.proofs.Answers.{failed, passed}
+use Rattle.edges.proofs.sizes_ok.Statement.{statement}
+use Rattle.edges.proofs.sizes_ok.Tie as tie
 
 in-range-requires : tie.Need-in-range-requires
 in-range-requires c κs = search needs
