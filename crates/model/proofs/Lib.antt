@@ -1,6 +1,7 @@
 -- Plain laws
 pub mod Logic
 pub mod Refusals
+pub mod Answers
 pub mod Masks
 -- A valid rule as plain facts; the edge table by place
 pub mod Valid
