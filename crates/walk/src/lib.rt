@@ -56,14 +56,12 @@ impl Walk {
         let age = stamp.since(self.reset);
         let interval = Interval::of(age, built.top, grain);
         let cell = cell_at(built, cells, self.row, symbol, interval);
+        let row = cell / 2;
         let mut reset = self.reset;
         if cell % 2 == 1 {
             reset = stamp;
         }
-        Walk {
-            row: cell / 2,
-            reset,
-        }
+        Walk { row, reset }
     }
 }
 
@@ -142,10 +140,10 @@ pub(crate) fn walk_all(
         row: 0,
         reset: Stamp(0),
     };
-    let mut i: usize = 0;
-    while i < symbols.len() {
-        walk = walk.step(built, cells, grain, symbols[i], Stamp(stamps[i]));
-        i += 1;
+    let mut event: usize = 0;
+    while event < symbols.len() {
+        walk = walk.step(built, cells, grain, symbols[event], Stamp(stamps[event]));
+        event += 1;
     }
     walk.row
 }

@@ -7,10 +7,10 @@ use Rattle.walk.proofs.walk_all.Statement.{statement}
 use Rattle.walk.proofs.walk_all.Tie as tie
 
 abbrev Inv-loop : tie.InvT-loop
-Inv-loop built cells grain symbols stamps walk₀ i₀ walk i = Walked built cells grain symbols stamps walk i
+Inv-loop built cells grain symbols stamps walk₀ event₀ walk event = Walked built cells grain symbols stamps walk event
 
 abbrev μ-loop : tie.MeasureT-loop
-μ-loop built cells grain symbols stamps walk₀ i₀ walk i = length symbols - i
+μ-loop built cells grain symbols stamps walk₀ event₀ walk event = length symbols - event
 
 loop-holds : tie.Need-loop-holds Inv-loop μ-loop
 loop-holds c = walked-none _ _ _ _ _
@@ -30,8 +30,8 @@ shared-slice-read-t15 c = search needs
 step-requires : tie.Need-step-requires Inv-loop μ-loop
 step-requires c κs = search needs
 
-add-i : tie.Need-add-i Inv-loop μ-loop
-add-i c = search needs
+add-event : tie.Need-add-event Inv-loop μ-loop
+add-event c = search needs
 
 loop-less : tie.Need-loop-less Inv-loop μ-loop
 loop-less c = search needs
@@ -55,7 +55,7 @@ walk-all-spec =
     mul-t13
     shared-slice-read-t15
     step-requires
-    add-i
+    add-event
     loop-less
     loop-again
     returns)

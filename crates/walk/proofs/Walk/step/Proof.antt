@@ -1,5 +1,5 @@
 -- `walk::Walk::step` meets its contract: age, interval and cell in turn, then the timer.
-use mathlib.Core.Logic.{⊎-elim}
+use mathlib.Core.Path.{refl}
 use borrow.Author.Needs.{needs}
 use Rattle.interval.proofs.Laws.{interval-most}
 use Rattle.walk.proofs.Moves.{Found, timer-reset, timer-kept}
@@ -29,9 +29,10 @@ found-at c = record {
 }
 
 returns : tie.Need-returns
-returns c =
-    let found = found-at (c .before .before) in
-    ⊎-elim (λ w. timer-reset found (w .0 .taken) (w .1)) (λ w. timer-kept found (w .0 .left) (w .1)) (c .if1 .came)
+returns c = timer-reset (found-at (c .before .before)) (c .if1 .taken) refl
+
+returns-2 : tie.Need-returns-2
+returns-2 c = timer-kept (found-at (c .before .before)) (c .if1 .left) refl
 
 pub step-spec : {M : Type 1} → statement M
-step-spec = tie.close (tie.spec since-requires of-requires cell-at-requires returns)
+step-spec = tie.close (tie.spec since-requires of-requires cell-at-requires returns returns-2)
