@@ -1,5 +1,6 @@
 -- Plain laws
 pub mod Logic
+pub mod Flags
 pub mod Refusals
 pub mod Answers
 pub mod Masks

@@ -17,7 +17,7 @@ use Rattle.model.proofs.Events.{word-settled}
 use Rattle.walk.specs.Steps.{rowAfter}
 
 -- the steps do not look at the rows, nor a verdict at the cells
-step-any :
+pub step-any :
     (b : Built) (cs ns ps : List ℕ) (f : Follower) (v : Event)
     → step (tables b cs [] []) f v ≡ step (tables b cs ns ps) f v
 unfolding step
@@ -32,7 +32,8 @@ steps-any b cs ns ps f (v ∷ vs) =
     steps-any b cs ns ps (step (tables b cs [] []) f v) vs
     ∙ ap (λ (g : Follower). stepAll (tables b cs ns ps) g vs) (step-any b cs ns ps f v)
 
-verdict-any : (b : Built) (cs ns ps : List ℕ) (n : ℕ) → verdict (tables b [] ns ps) n ≡ verdict (tables b cs ns ps) n
+pub verdict-any :
+    (b : Built) (cs ns ps : List ℕ) (n : ℕ) → verdict (tables b [] ns ps) n ≡ verdict (tables b cs ns ps) n
 unfolding verdict
 verdict-any b cs ns ps n = refl
 
