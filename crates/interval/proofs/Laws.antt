@@ -1,11 +1,14 @@
 -- The interval of an age, case by case: 0, above cm, a whole number of seconds, between two.
 use mathlib.Core.Path.{_≡_}
+use mathlib.Core.Bool.{Bool, true, false}
 use Prim.Native.Nat.{ℕ, zero, suc, _+_, _*_, _/_, _%_, _^_, _≤_, _<_}
-use native.Mathlib.Nat.{zero-div, zero-mod, mul-le-mul}
+use native.Mathlib.Nat.{zero-div, zero-mod, mul-le-mul, mul-comm, div-le-of-le-mul}
 use native.Mathlib.Omega.{arith}
-use borrow.Author.Tests.{lt-ltb, le-ltb, le-leb}
+use lib.Dec.{ltb, leb}
+use borrow.Author.Tests.{lt-ltb, le-ltb, le-leb, ltb-false}
+use Rattle.model.specs.Basics.{oneIf, quotient, remainder}
 use Rattle.model.specs.Construction.{topInterval, intervalOf}
-use Rattle.model.proofs.Logic.{quotient-is, remainder-is}
+use Rattle.model.proofs.Logic.{by-test, quotient-is, remainder-is}
 
 pub at-zero : (c d a : ℕ) → a ≡ 0 → 0 ≡ intervalOf c d a
 at-zero c zero a e = rw (e, le-ltb (c * 0) 0 (omega arith))
@@ -34,3 +37,17 @@ module _ (c d a : ℕ) (n : a ≡ 0 → ⊥) (h : a ≤ c * d) where
 pub product-fits : (c d : ℕ) → c < 2 ^ 32 → d < 2 ^ 32 → c * d < 2 ^ 64
 product-fits c d p q =
     omega (arith, mul-le-mul {n₁ = c} {m₁ = d} {n₂ = 4294967295} {m₂ = 4294967295} (omega arith) (omega arith))
+
+-- no interval lies past the top
+pub interval-most : (c d a : ℕ) → intervalOf c d a ≤ topInterval c
+interval-most c d a = by-test (ltb (c * d) a) (λ e. rw e (omega arith)) (λ e. rw e (within d (ltb-false (c * d) a e)))
+  where
+    one-most : (t : Bool) → oneIf t ≤ 1
+    one-most true = omega arith
+    one-most false = omega arith
+
+    within : (d : ℕ) → a ≤ c * d → 2 * quotient a d + oneIf (leb 1 (remainder a d)) ≤ topInterval c
+    within zero h = omega arith
+    within (suc d) h =
+        let q : a / suc d ≤ c = div-le-of-le-mul (suc d) (rw (mul-comm (suc d) c) h) in
+        omega (arith, q, one-most (leb 1 (a % suc d)))

@@ -1,7 +1,9 @@
 -- What is proved of the definitions, in the order in which it is built.
 -- Plain laws: tests, membership, refusals in order, masks
 pub mod Logic
+pub mod Flags
 pub mod Refusals
+pub mod Answers
 pub mod Masks
 pub mod Rising
 pub mod MaskLists

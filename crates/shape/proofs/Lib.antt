@@ -1,4 +1,3 @@
-pub mod Tests
 pub mod Sizes
 pub mod Loops
 pub mod Shape

@@ -5,7 +5,7 @@ use mathlib.Core.Logic.{⊎-elim}
 use borrow.Author.Needs.{needs}
 use Rattle.model.specs.Basics.{within}
 use Rattle.model.specs.Rules.{sizesOk}
-use Rattle.shape.proofs.Tests.{held, failed}
+use Rattle.model.proofs.Flags.{held, failed}
 use Rattle.shape.proofs.in_range.Statement.{statement}
 use Rattle.shape.proofs.in_range.Tie as tie
 

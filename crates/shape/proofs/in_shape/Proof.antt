@@ -3,7 +3,7 @@ use mathlib.Core.Path.{_≡_, _∙_}
 use mathlib.Core.Bool.{true}
 use borrow.Author.Needs.{needs}
 use Rattle.model.specs.Walks.{builtSizesOk}
-use Rattle.shape.proofs.Tests.{is-false, is-true}
+use Rattle.model.proofs.Flags.{is-false, is-true}
 use Rattle.shape.proofs.Shape.{Sized, Linked, Coded, ranges, sizes-out, too-short, rows-reach, pool-part}
 use Rattle.shape.proofs.Shape.{chain-out, code-out, cells-part, all-but-cells}
 use Rattle.shape.proofs.in_shape.Statement.{statement}

@@ -9,7 +9,7 @@ use borrow.Author.Needs.{needs}
 use borrow.Author.Tests.{le-leb, lt-leb}
 use Rattle.model.specs.Tables.{rowWidth}
 use Rattle.model.specs.Walks.{cellNeed}
-use Rattle.shape.proofs.Tests.{held, failed}
+use Rattle.model.proofs.Flags.{held, failed}
 use Rattle.shape.proofs.long_enough.Statement.{statement}
 use Rattle.shape.proofs.long_enough.Tie as tie
 

@@ -8,7 +8,7 @@ use borrow.Author.Needs.{needs}
 use Rattle.model.specs.Rules.{mostPairs}
 use Rattle.model.specs.Walks.{builtPairs}
 use Rattle.shape.specs.Ranges.{sizesInRange}
-use Rattle.shape.proofs.Tests.{held, failed}
+use Rattle.model.proofs.Flags.{held, failed}
 use Rattle.shape.proofs.Sizes.{in-range}
 use Rattle.shape.proofs.sizes_ok.Statement.{statement}
 use Rattle.shape.proofs.sizes_ok.Tie as tie

@@ -1,7 +1,7 @@
 -- `shape::within` meets its contract, by its two tests.
 use mathlib.Core.Path.{refl}
 use borrow.Author.Tests.{le-leb, lt-leb}
-use Rattle.shape.proofs.Tests.{held, failed}
+use Rattle.model.proofs.Flags.{held, failed}
 use Rattle.shape.proofs.within.Statement.{statement}
 use Rattle.shape.proofs.within.Tie as tie
 

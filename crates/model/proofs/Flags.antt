@@ -1,4 +1,4 @@
--- Two tests in a row, as a branch meets them: `r` is how the first came out, `q` the second.
+-- Flags of tests, as the branches of code meet them: `r` is how a test came out, `q` how the next one did.
 use mathlib.Core.Path.{_≡_, sym, _∙_}
 use mathlib.Core.Bool.{Bool, true, false, _&&_, not}
 use borrow.Author.Tests.{not-true, not-false}
