@@ -19,5 +19,7 @@ pub mod RowSets
 pub mod Successors
 -- The walk of the one timer over the rows accepts what the runs accept
 pub mod Agreement
+-- A word's events by place
+pub mod Events
 -- P1 to P9 and two whole tables, by computation from the definitions
 pub mod Examples
