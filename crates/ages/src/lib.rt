@@ -31,6 +31,14 @@ pub fn no_ages() -> Ages
     Ages { of: [Age(0); 4] }
 }
 
+// A location with all ages 0.
+pub fn start_at(location: usize) -> Configuration
+    ensures { λ r. ⌜ (r .location ≡ location) × (numbersOf (r .ages .of) ≡ zeros 4) ⌝ }
+{
+    let ages = no_ages();
+    Configuration { location, ages }
+}
+
 // One age after the delay, at most the last number of 32 bits.
 pub fn later(age: Age, delay: Age) -> Age
     ensures { λ r. ⌜ r .0 ≡ lesser (age .0 + delay .0) mostAge ⌝ }

@@ -11,6 +11,8 @@ pub mod Ages
 -- Runs: a word is accepted exactly if some run is accepting; the least run
 pub mod Runs
 pub mod LeastRun
+-- With all configurations kept, accepted is to end in a final location
+pub mod Configs
 -- Rows: bases track ages, codes give their pairs back, the successor row is the paper's set
 pub mod Regions
 pub mod Clocks
@@ -19,7 +21,8 @@ pub mod RowSets
 pub mod Successors
 -- The walk of the one timer over the rows accepts what the runs accept
 pub mod Agreement
--- A word's events by place
+-- A word's events by place; the checks that come before a run
 pub mod Events
+pub mod Inputs
 -- P1 to P9 and two whole tables, by computation from the definitions
 pub mod Examples
