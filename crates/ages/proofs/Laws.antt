@@ -6,23 +6,23 @@ use Prim.Native.Nat.{ℕ, zero, suc, _+_, _-_, _*_, _/_, _^_, _≤_, _<_}
 use native.Mathlib.Omega.{arith}
 use native.Mathlib.Nat.{mul-le-mul, div-eq-of-lt, lt-of-lt-of-le}
 use lib.Dec.{eqb, ltb, leb}
-use lib.ListN.{length, getD, drop, List·getD-eq-default, length-take}
+use lib.ListN.{length, getD, drop, List·getD-eq-default, drop-of-length-le, length-take}
 use lib.Pow.{pow-mono}
-use lib.Seq.{getD-drop, getD-take}
+use lib.Seq.{drop-nil, getD-drop, getD-take}
 use mir.Syntax.{w64}
 use mir.Val.{Fits}
 use borrow.Author.Tests.{le-leb, lt-leb, eq-eqb, ne-eqb, not-true, not-false}
 use Rattle.model.specs.declared.Age.{Age}
-use Rattle.model.specs.Basics.{pick, lesser, bit, isIn}
+use Rattle.model.specs.Basics.{same, pick, lesser, bit, isIn}
 use Rattle.model.specs.Rules.{Edge}
 use Rattle.model.specs.Words.{Event}
-use Rattle.model.specs.Runs.{related, holds, zeroed, canTake}
+use Rattle.model.specs.Runs.{Config, related, holds, zeroed, canTake}
 use Rattle.model.specs.Layout.{edgeFields, edgeWidth, atomsIn, locationsIn}
 use Rattle.model.proofs.Logic.{by-test}
 use Rattle.model.proofs.EdgeTable.{atoms-rest}
 use Rattle.model.proofs.Ages.{bits-in, bits-high}
 use Rattle.ages.specs.declared.Ages.{Ages}
-use Rattle.ages.specs.Ages.{numbersOf, agesOf, mostAge, olderCapped, atomHolds, atomAt, edgeAt}
+use Rattle.ages.specs.Ages.{sameConfig, numbersOf, agesOf, mostAge, olderCapped, atomHolds, atomAt, edgeAt}
 
 -- owning an array of ages tells the length of the list of what they hold, and so of the list
 pub length-mapped : (X Y : Type 0) (f : X → Y) (xs : List X) (n : ℕ) → length (map f xs) ≡ n → length xs ≡ n
@@ -101,8 +101,9 @@ bit-past width i mask h g =
 pub location-past : (mask l : ℕ) → 32 ≤ l → false ≡ isIn l (locationsIn mask)
 location-past mask l h = sym (bits-high 32 0 mask l h)
 
-pub location-bit : (mask set l : ℕ) (r : Bool) → l < 32 → mask ≡ set → r ≡ bit l mask → r ≡ isIn l (locationsIn set)
-location-bit mask set l r h e b = b ∙ rw e (sym (bits-in 32 0 set l (omega arith) h))
+pub location-bit :
+    (mask set w l : ℕ) (r : Bool) → l < 32 → mask ≡ set → w ≡ l → r ≡ bit w mask → r ≡ isIn l (locationsIn set)
+location-bit mask set w l r h e f b = b ∙ rw (e, f) (sym (bits-in 32 0 set l (omega arith) h))
 
 -- constant · D fits
 pub limit-fits : (constant d : ℕ) → constant < 65536 → d < 2 ^ 32 → Fits w64 (constant * d)
@@ -202,9 +203,9 @@ count-known d ages t e count h = rw h
 
 -- source, symbol and guard, tested in this order
 pub other-source :
-    (d l : ℕ) (ages : List ℕ) (v : Event) (e : Edge) (n : ℕ) → n ≡ e .source → (n ≡ l → ⊥)
+    (d l : ℕ) (ages : List ℕ) (v : Event) (e : Edge) (n m : ℕ) → n ≡ e .source → m ≡ l → (n ≡ m → ⊥)
     → false ≡ canTake d l ages v e
-other-source d l ages v e n h g = rw (ne-eqb (e .source) l (λ q. g (h ∙ q)))
+other-source d l ages v e n m h k g = rw (ne-eqb (e .source) l (λ q. g (h ∙ (q ∙ sym k))))
 
 pub other-symbol :
     (d l : ℕ) (ages : List ℕ) (v : Event) (e : Edge) (n m : ℕ) → n ≡ e .symbol → m ≡ v .symbol → (n ≡ m → ⊥)
@@ -214,10 +215,66 @@ other-symbol d l ages v e n m h k g =
     by-test (eqb (e .source) l) (λ s. rw (s, z)) (λ s. rw s)
 
 pub guard-decides :
-    (d l : ℕ) (ages : List ℕ) (v : Event) (e : Edge) (n m p : ℕ) (r : Bool) → n ≡ e .source → n ≡ l → m ≡ e .symbol
-    → p ≡ v .symbol
-    → m ≡ p
+    (d l : ℕ) (ages : List ℕ) (v : Event) (e : Edge) (n n′ m m′ : ℕ) (r : Bool) → n ≡ e .source → n′ ≡ l → n ≡ n′
+    → m ≡ e .symbol
+    → m′ ≡ v .symbol
+    → m ≡ m′
     → r ≡ holds d ages (e .atoms)
     → r ≡ canTake d l ages v e
-guard-decides d l ages v e n m p r a b f g h i =
-    rw (eq-eqb (e .source) l (sym a ∙ b), eq-eqb (e .symbol) (v .symbol) (sym f ∙ (h ∙ g))) i
+guard-decides d l ages v e n n′ m m′ r a b c f g h i =
+    rw (eq-eqb (e .source) l (sym a ∙ (c ∙ b)), eq-eqb (e .symbol) (v .symbol) (sym f ∙ (h ∙ g))) i
+
+-- Two lists of one length are the same from place k on exactly if they are the same there and after.
+same-step :
+    (xs ys : List ℕ) (k : ℕ) → length xs ≡ length ys
+    → same (drop k xs) (drop k ys) ≡ (eqb (getD xs k 0) (getD ys k 0) && same (drop (k + 1) xs) (drop (k + 1) ys))
+same-step [] [] k h = rw (drop-nil {A = ℕ} k, drop-nil {A = ℕ} (k + 1))
+same-step [] (y ∷ ys) k h = absurd (omega arith)
+same-step (x ∷ xs) [] k h = absurd (omega arith)
+same-step (x ∷ xs) (y ∷ ys) zero h = refl
+same-step (x ∷ xs) (y ∷ ys) (suc k) h =
+    let e : suc k + 1 ≡ suc (k + 1) = omega arith in rw e (same-step xs ys k (omega arith))
+
+-- the ages from clock k on are the same exactly if all are: those before were
+pub record SameRest (xs ys : List ℕ) (k : ℕ) : Type 0 where
+  pub lengths-equal : length xs ≡ length ys
+  pub rest-is : same (drop k xs) (drop k ys) ≡ same xs ys
+
+pub same-start : (k : ℕ) (one other : Ages) → length (one .of) ≡ 4 → length (other .of) ≡ 4 → SameRest (agesOf k one) (agesOf k other) 0
+same-start k one other a b =
+    let e : length (numbersOf (one .of)) ≡ length (numbersOf (other .of)) =
+    numbers-length (one .of) ∙ (a ∙ (sym b ∙ sym (numbers-length (other .of)))) in
+    record {
+      lengths-equal = rw (length-take k (numbersOf (one .of)), length-take k (numbersOf (other .of)), e);
+      rest-is = refl;
+    }
+
+module _ {xs ys : List ℕ} {k : ℕ} (inv : SameRest xs ys k) where
+  pub same-next : (a b : ℕ) → a ≡ getD xs k 0 → b ≡ getD ys k 0 → a ≡ b → SameRest xs ys (k + 1)
+  same-next a b p q e =
+      let t : eqb (getD xs k 0) (getD ys k 0) ≡ true = eq-eqb (getD xs k 0) (getD ys k 0) (sym p ∙ (e ∙ q)) in
+      record {
+        lengths-equal = inv .lengths-equal;
+        rest-is = (rw t at (sym (same-step xs ys k (inv .lengths-equal)))) ∙ inv .rest-is;
+      }
+
+  pub same-differs : (a b : ℕ) → a ≡ getD xs k 0 → b ≡ getD ys k 0 → (a ≡ b → ⊥) → false ≡ same xs ys
+  same-differs a b p q n =
+      let t : eqb (getD xs k 0) (getD ys k 0) ≡ false = ne-eqb (getD xs k 0) (getD ys k 0) (λ e. n (p ∙ (e ∙ sym q))) in
+      (rw t at (sym (same-step xs ys k (inv .lengths-equal)))) ∙ inv .rest-is
+
+  pub same-all : length xs ≤ k → true ≡ same xs ys
+  same-all h =
+      let g : length ys ≤ k = omega (arith, inv .lengths-equal) in
+      rw (drop-of-length-le xs h, drop-of-length-le ys g) at (inv .rest-is)
+
+pub clocks-passed : (clocks k : ℕ) (ages : Ages) → clocks ≤ k → length (agesOf clocks ages) ≤ k
+clocks-passed clocks k ages h = rw (length-take clocks (numbersOf (ages .of))) (omega arith)
+
+-- locations, then ages
+pub other-location : (c x : Config) → (c .location ≡ x .location → ⊥) → false ≡ sameConfig c x
+other-location c x n = rw (ne-eqb (c .location) (x .location) n)
+
+pub ages-decide :
+    (c x : Config) (r : Bool) → c .location ≡ x .location → r ≡ same (c .ages) (x .ages) → r ≡ sameConfig c x
+ages-decide c x r e h = rw (eq-eqb (c .location) (x .location) e) h

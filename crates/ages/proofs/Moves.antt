@@ -20,21 +20,29 @@ take-capped (suc k) delay [] = refl
 take-capped (suc k) delay (a ∷ ages) = ap (λ (l : List ℕ). lesser (a + delay) mostAge ∷ l) (take-capped k delay ages)
 
 capped-exact :
-    (last now : ℕ) (ages : List ℕ) → AtMost last ages → last ≤ now → now < 2 ^ 32
-    → olderCapped (now - last) ages ≡ older (now - last) ages
-capped-exact last now [] m h g = refl
-capped-exact last now (a ∷ ages) m h g =
-    ap₂ _∷_ (sym (under-cap (a + (now - last)) (omega (arith, m .0)))) (capped-exact last now ages (m .1) h g)
+    (m delay : ℕ) (ages : List ℕ) → AtMost m ages → m + delay ≤ mostAge → olderCapped delay ages ≡ older delay ages
+capped-exact m delay [] h g = refl
+capped-exact m delay (a ∷ ages) h g =
+    ap₂ _∷_ (sym (under-cap (a + delay) (omega (arith, h .0)))) (capped-exact m delay ages (h .1) g)
 
+-- ages of at most m, and a delay that keeps them below the cap
 pub waited-ages :
+    (k m : ℕ) {delay : ℕ} {from to : Configuration} → Waited delay from to → AtMost m (agesOf k (from .ages))
+    → m + delay ≤ mostAge
+    → agesOf k (to .ages) ≡ older delay (agesOf k (from .ages))
+waited-ages k m {delay} {from} {to} w h g =
+    ap (take k) (w .ages-are)
+    ∙ (take-capped k delay (numbersOf (from .ages .of)) ∙ capped-exact m delay (agesOf k (from .ages)) h g)
+
+-- from one stamp to the next
+pub waited-until :
     (k last now : ℕ) {delay : ℕ} {from to : Configuration} → Waited delay from to → delay ≡ now - last
     → AtMost last (agesOf k (from .ages))
     → last ≤ now
     → now < 2 ^ 32
     → agesOf k (to .ages) ≡ older (now - last) (agesOf k (from .ages))
-waited-ages k last now {delay} {from} {to} w e m h g =
-    ap (take k) (w .ages-are)
-    ∙ (take-capped k delay (numbersOf (from .ages .of)) ∙ (rw e (capped-exact last now (agesOf k (from .ages)) m h g)))
+waited-until k last now {from = from} w e m h g =
+    waited-ages k last w m (omega arith) ∙ ap (λ (n : ℕ). older n (agesOf k (from .ages))) e
 
 pub moved-ages :
     (k : ℕ) {e : Edge} {from to : Configuration} → Moved e from to

@@ -1,11 +1,12 @@
 -- The ages that the code keeps, as the lists of numbers that the definitions speak of.
 use mathlib.Core.Path.{_≡_}
 use mathlib.Core.List.{List, [], _∷_}
-use mathlib.Core.Bool.{Bool}
+use mathlib.Core.Bool.{Bool, _&&_}
 use Prim.Native.Nat.{ℕ, _+_, _*_, _<_}
+use lib.Dec.{eqb}
 use lib.ListN.{getD, take, drop}
 use Rattle.model.specs.declared.Age.{Age}
-use Rattle.model.specs.Basics.{lesser}
+use Rattle.model.specs.Basics.{lesser, same}
 use Rattle.model.specs.Rules.{Atom, Edge}
 use Rattle.model.specs.Words.{Event}
 use Rattle.model.specs.Runs.{related, canTake, zeroed, Config, config}
@@ -24,6 +25,9 @@ agesOf k ages = take k (numbersOf (ages .of))
 -- a configuration over k clocks
 abbrev pub configOf : ℕ → Configuration → Config
 configOf k c = config (c .location) (agesOf k (c .ages))
+
+abbrev pub sameConfig : Config → Config → Bool
+sameConfig c x = eqb (c .location) (x .location) && same (c .ages) (x .ages)
 
 -- the delay added to every age, none past the last number of 32 bits
 abbrev pub mostAge : ℕ
@@ -57,5 +61,4 @@ pub record Waited (delay : ℕ) (from to : Configuration) : Type 0 where
 
 pub record Moved (e : Edge) (from to : Configuration) : Type 0 where
   pub location-is : to .location ≡ e .target
-  pub location-below : to .location < 65536
   pub ages-are : numbersOf (to .ages .of) ≡ zeroed (e .resets) (numbersOf (from .ages .of))

@@ -3,11 +3,11 @@
 ghost use mathlib.Core.Path.{_≡_};
 ghost use Prim.Native.Nat.{_+_, _*_, _^_, _<_};
 ghost use lib.ListN.{getD};
-ghost use Rattle.model.specs.Basics.{pick, lesser, zeros, bit, isIn};
+ghost use Rattle.model.specs.Basics.{pick, lesser, zeros, bit, isIn, same};
 ghost use Rattle.model.specs.Runs.{related, holds, zeroed};
 ghost use Rattle.model.specs.Layout.{locationsIn};
 ghost use Rattle.ages.specs.Ages.{numbersOf, agesOf, mostAge, olderCapped, Waited, Moved};
-ghost use Rattle.ages.specs.Ages.{atomHolds, atomAt, edgeAt, takes};
+ghost use Rattle.ages.specs.Ages.{atomHolds, atomAt, edgeAt, takes, configOf, sameConfig};
 use edges::number_at;
 use edges::wide16;
 use edges::wide32;
@@ -20,7 +20,7 @@ pub struct Ages {
 
 // A location and the ages of the clocks.
 pub struct Configuration {
-    pub location: usize,
+    pub location: u32,
     pub ages: Ages,
 }
 
@@ -32,7 +32,7 @@ pub fn no_ages() -> Ages
 }
 
 // A location with all ages 0.
-pub fn start_at(location: usize) -> Configuration
+pub fn start_at(location: u32) -> Configuration
     ensures { λ r. ⌜ (r .location ≡ location) × (numbersOf (r .ages .of) ≡ zeros 4) ⌝ }
 {
     let ages = no_ages();
@@ -174,7 +174,7 @@ pub fn can_take(
 {
     let at = 29 * wide16(e);
     let ages = from.ages;
-    if number_at(edges, at) != from.location {
+    if number_at(edges, at) != wide32(from.location) {
         return false;
     }
     if number_at(edges, at + 2) != wide16(symbol) {
@@ -200,19 +200,48 @@ pub fn after_edge(edges: &[u16], e: u16, from: Configuration) -> Configuration
 {
     let at = 29 * wide16(e);
     let ages = from.ages;
+    let target = number_at(edges, at + 1);
     let resets = number_at(edges, at + 3);
     Configuration {
-        location: number_at(edges, at + 1),
+        location: target as u32,
         ages: zeroed(ages, resets),
     }
 }
 
+// Equal ages, as far as there are clocks.
+pub fn same_ages(one: Ages, other: Ages, clocks: usize) -> bool
+    ensures { λ r. ⌜ r ≡ same (agesOf clocks one) (agesOf clocks other) ⌝ }
+{
+    let mut k: usize = 0;
+    while k < clocks {
+        let age = age_of(one, clocks, k);
+        let against = age_of(other, clocks, k);
+        if age.0 != against.0 {
+            return false;
+        }
+        k += 1;
+    }
+    true
+}
+
+// Equal locations and ages.
+pub fn same_configuration(one: Configuration, other: Configuration, clocks: usize) -> bool
+    ensures { λ r. ⌜ r ≡ sameConfig (configOf clocks one) (configOf clocks other) ⌝ }
+{
+    if one.location != other.location {
+        return false;
+    }
+    let ages = one.ages;
+    let against = other.ages;
+    same_ages(ages, against, clocks)
+}
+
 // Is a location in a set of locations.
-pub fn has_location(set: u32, location: usize) -> bool
+pub fn has_location(set: u32, location: u32) -> bool
     ensures { λ r. ⌜ r ≡ isIn location (locationsIn set) ⌝ }
 {
     if 32 <= location {
         return false;
     }
-    has_bit(wide32(set), location)
+    has_bit(wide32(set), wide32(location))
 }

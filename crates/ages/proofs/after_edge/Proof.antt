@@ -1,12 +1,17 @@
 -- `ages::after_edge` meets its contract: target and mask are the edge's numbers 1 and 3.
 use mathlib.Core.Path.{_∙_, ap}
-use Rattle.ages.proofs.Laws.{edge-number}
 use Prim.Native.Nat.{ℕ}
 use Rattle.model.specs.Runs.{zeroed}
 use Rattle.ages.specs.Ages.{numbersOf}
+use Rattle.ages.proofs.Laws.{edge-number}
 use borrow.Author.Needs.{needs}
 use Rattle.ages.proofs.after_edge.Statement.{statement}
 use Rattle.ages.proofs.after_edge.Tie as tie
+use Rattle.ages.proofs.after_edge.Reads as reads
+use Rattle.ages.proofs.after_edge.Lts as lts
+use Rattle.ages.proofs.zeroed.Reads as zeroed-reads
+use Rattle.edges.proofs.number_at.Reads as number-at-reads
+use Rattle.edges.proofs.wide16.Reads as wide16-reads
 
 wide16-requires : tie.Need-wide16-requires
 wide16-requires c κs = search needs
@@ -26,6 +31,9 @@ add-number-at-2 c = search needs
 number-at-requires-2 : tie.Need-number-at-requires-2
 number-at-requires-2 c κs = search needs
 
+cast-t9 : tie.Need-cast-t9
+cast-t9 c = search needs
+
 zeroed-requires : tie.Need-zeroed-requires
 zeroed-requires c κs = search needs
 
@@ -33,13 +41,11 @@ returns : tie.Need-returns
 returns c =
     let a = c .before .before .before .before .before .before .args in
     let w = c .before .before .before .before .wide16 in
-    let n = c .before .number-at2 .ensures in
-    let m = c .before .before .number-at .ensures in
-    let target = edge-number (a .edges .now) (w .result) (a .e) 1 _ (w .ensures .0) (n .0) in
+    let n = c .before .before .number-at .ensures in
+    let m = c .before .number-at2 .ensures in
     let resets = edge-number (a .edges .now) (w .result) (a .e) 3 _ (w .ensures .0) (m .0) in
     record {
-      location-is = target;
-      location-below = search needs;
+      location-is = edge-number (a .edges .now) (w .result) (a .e) 1 _ (w .ensures .0) (n .0);
       ages-are = c .zeroed .ensures ∙ ap (λ (mask : ℕ). zeroed mask (numbersOf (a .from .ages .of))) resets;
     }
 
@@ -53,5 +59,6 @@ after-edge-spec =
     number-at-requires
     add-number-at-2
     number-at-requires-2
+    cast-t9
     zeroed-requires
     returns)

@@ -4,6 +4,12 @@ use Rattle.ages.proofs.Laws.{edge-number, edge-source, other-source, ot
 use borrow.Author.Needs.{needs}
 use Rattle.ages.proofs.can_take.Statement.{statement}
 use Rattle.ages.proofs.can_take.Tie as tie
+use Rattle.ages.proofs.can_take.Reads as reads
+use Rattle.ages.proofs.can_take.Lts as lts
+use Rattle.ages.proofs.guard_holds.Reads as guard-holds-reads
+use Rattle.edges.proofs.number_at.Reads as number-at-reads
+use Rattle.edges.proofs.wide16.Reads as wide16-reads
+use Rattle.edges.proofs.wide32.Reads as wide32-reads
 
 wide16-requires : tie.Need-wide16-requires
 wide16-requires c κs = search needs
@@ -14,12 +20,17 @@ mul-at c = search needs
 number-at-requires : tie.Need-number-at-requires
 number-at-requires c κs = search needs
 
+wide32-requires : tie.Need-wide32-requires
+wide32-requires c κs = search needs
+
 returns : tie.Need-returns
 returns c =
     let a = c .before .before .before .before .before .before .args in
     let w = c .before .before .before .before .wide16 in
-    other-source _ _ _ (withSymbol (a .symbol)) (edgeAt (a .e) (a .edges .now)) _
-    (edge-source (a .edges .now) (w .result) (a .e) _ (w .ensures .0) (c .before .before .number-at .ensures .0))
+    let n = c .before .before .number-at .ensures in
+    other-source _ _ _ (withSymbol (a .symbol)) (edgeAt (a .e) (a .edges .now)) _ _
+    (edge-source (a .edges .now) (w .result) (a .e) _ (w .ensures .0) (n .0))
+    (c .before .wide32 .ensures .0)
     (c .if1 .taken)
 
 add-number-at : tie.Need-add-number-at
@@ -35,8 +46,9 @@ returns-2 : tie.Need-returns-2
 returns-2 c =
     let a = c .before .before .before .before .before .before .before .before .before .args in
     let w = c .before .before .before .before .before .before .before .wide16 in
+    let m = c .before .before .number-at2 .ensures in
     other-symbol _ _ _ (withSymbol (a .symbol)) (edgeAt (a .e) (a .edges .now)) _ _
-    (edge-number (a .edges .now) (w .result) (a .e) 2 _ (w .ensures .0) (c .before .before .number-at2 .ensures .0))
+    (edge-number (a .edges .now) (w .result) (a .e) 2 _ (w .ensures .0) (m .0))
     (c .before .wide162 .ensures .0)
     (c .if2 .taken)
 
@@ -49,8 +61,9 @@ returns-3 c =
     let w = c .before .before .before .before .before .before .before .before .wide16 in
     let n = c .before .before .before .before .before .before .number-at .ensures in
     let m = c .before .before .before .number-at2 .ensures in
-    guard-decides _ _ _ (withSymbol (a .symbol)) (edgeAt (a .e) (a .edges .now)) _ _ _ _
+    guard-decides _ _ _ (withSymbol (a .symbol)) (edgeAt (a .e) (a .edges .now)) _ _ _ _ _
     (edge-source (a .edges .now) (w .result) (a .e) _ (w .ensures .0) (n .0))
+    (c .before .before .before .before .before .wide32 .ensures .0)
     (c .before .before .before .before .if1 .left)
     (edge-number (a .edges .now) (w .result) (a .e) 2 _ (w .ensures .0) (m .0))
     (c .before .before .wide162 .ensures .0)
@@ -64,6 +77,7 @@ can-take-spec =
     wide16-requires
     mul-at
     number-at-requires
+    wide32-requires
     returns
     add-number-at
     number-at-requires-2
