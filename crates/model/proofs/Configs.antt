@@ -13,6 +13,7 @@ use Rattle.model.specs.Basics.{pick, isIn, same}
 use Rattle.model.specs.Rules.{Edge, Rule}
 use Rattle.model.specs.Words.{Event}
 use Rattle.model.specs.Runs.{older, zeroed, canTake, startAges, someEdge, acceptsFrom, acceptsFromSome, accepts, Config, config, hasConfig, withConfig, byEdges, byConfigs, startConfigs}
+use Rattle.model.proofs.Ages.{AtMost, older-most, zeroed-most, zeros-most}
 use Rattle.model.proofs.Logic.{no-way, by-test, and-left, and-right, or-left, or-right, or-cases, same-equal}
 
 -- some configuration passes a test
@@ -173,3 +174,63 @@ configs-grow r d v delay (c ∷ cs) new =
     let made : List Config = byEdges d v (c .location) (older delay (c .ages)) (r .edges) new in
     omega
     (arith, edges-grow d v (c .location) (older delay (c .ages)) (r .edges) new, configs-grow r d v delay cs made)
+
+-- Only the event's symbol decides which edges can be taken.
+edges-symbol :
+    (d : ℕ) (v w : Event) (l : ℕ) (ages : List ℕ) (es : List Edge) (cs : List Config) → v .symbol ≡ w .symbol
+    → byEdges d v l ages es cs ≡ byEdges d w l ages es cs
+unfolding byEdges
+edges-symbol d v w l ages [] cs h = refl
+edges-symbol d v w l ages (e ∷ es) cs h =
+    let to : Config = config (e .target) (zeroed (e .resets) ages) in
+    edges-symbol d v w l ages es (pick (canTake d l ages v e) (withConfig to cs) cs) h
+    ∙ rw h
+
+pub configs-symbol :
+    (r : Rule) (d : ℕ) (v w : Event) (delay : ℕ) (cs new : List Config) → v .symbol ≡ w .symbol
+    → byConfigs r d v delay cs new ≡ byConfigs r d w delay cs new
+unfolding byConfigs
+configs-symbol r d v w delay [] new h = refl
+configs-symbol r d v w delay (c ∷ cs) new h =
+    let now-are : List ℕ = older delay (c .ages) in
+    ap (byConfigs r d v delay cs) (edges-symbol d v w (c .location) now-are (r .edges) new h)
+    ∙ configs-symbol r d v w delay cs (byEdges d w (c .location) now-are (r .edges) new) h
+
+-- All ages of all configurations at most m: after an event they are at most its stamp.
+abbrev pub Aged : ℕ → List Config → Type 0
+Aged m [] = Unit {0}
+Aged m (c ∷ cs) = AtMost m (c .ages) × Aged m cs
+
+aged-append : (m : ℕ) (cs : List Config) (c : Config) → Aged m cs → AtMost m (c .ages) → Aged m (cs ++ (c ∷ []))
+aged-append m [] c h a = (a, tt)
+aged-append m (x ∷ cs) c h a = (h .0, aged-append m cs c (h .1) a)
+
+aged-with : (m : ℕ) (c : Config) (cs : List Config) → Aged m cs → AtMost m (c .ages) → Aged m (withConfig c cs)
+aged-with m c cs h a = by-test (hasConfig c cs) (λ e. rw e h) (λ e. rw e (aged-append m cs c h a))
+
+aged-edges :
+    (m d : ℕ) (v : Event) (l : ℕ) (ages : List ℕ) (es : List Edge) (cs : List Config) → AtMost m ages → Aged m cs
+    → Aged m (byEdges d v l ages es cs)
+unfolding byEdges
+aged-edges m d v l ages [] cs a h = h
+aged-edges m d v l ages (e ∷ es) cs a h =
+    let to : Config = config (e .target) (zeroed (e .resets) ages) in
+    by-test (canTake d l ages v e)
+    (λ t.
+    rw t
+    (aged-edges m d v l ages es (withConfig to cs) a (aged-with m to cs h (zeroed-most m 0 (e .resets) ages a))))
+    (λ t. rw t (aged-edges m d v l ages es cs a h))
+
+pub aged-configs :
+    (r : Rule) (d : ℕ) (v : Event) (last stamp : ℕ) (cs new : List Config) → last ≤ stamp → Aged last cs → Aged stamp new
+    → Aged stamp (byConfigs r d v (stamp - last) cs new)
+unfolding byConfigs
+aged-configs r d v last stamp [] new h a b = b
+aged-configs r d v last stamp (c ∷ cs) new h a b =
+    let now-are : List ℕ = older (stamp - last) (c .ages) in
+    aged-configs r d v last stamp cs (byEdges d v (c .location) now-are (r .edges) new) h (a .1)
+    (aged-edges stamp d v (c .location) now-are (r .edges) new (older-most last stamp (c .ages) (a .0) h) b)
+
+pub aged-start : (r : Rule) (m : ℕ) (ls : List ℕ) → Aged m (startConfigs r ls)
+aged-start r m [] = tt
+aged-start r m (l ∷ ls) = (zeros-most m (r .clocks), aged-start r m ls)
