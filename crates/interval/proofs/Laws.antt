@@ -1,5 +1,5 @@
 -- The interval of an age, case by case: 0, above cm, a whole number of seconds, between two.
-use mathlib.Core.Path.{_≡_, refl}
+use mathlib.Core.Path.{_≡_}
 use Prim.Native.Nat.{ℕ, zero, suc, _+_, _*_, _/_, _%_, _^_, _≤_, _<_}
 use native.Mathlib.Nat.{zero-div, zero-mod, mul-le-mul}
 use native.Mathlib.Omega.{arith}

@@ -1,7 +1,7 @@
 -- A word's refusals, as the checks meet them: D, the count, then event by event.
-use mathlib.Core.Path.{_≡_, refl, sym, _∙_, ap}
-use mathlib.Core.Bool.{Bool, true, false, not, _||_}
-use mathlib.Core.List.{List, [], _∷_}
+use mathlib.Core.Path.{_≡_, refl, sym, _∙_}
+use mathlib.Core.Bool.{true, false, not}
+use mathlib.Core.List.{List, _∷_}
 use Prim.Native.Nat.{ℕ, suc, _+_, _≤_, _<_}
 use native.Mathlib.Omega.{arith}
 use native.Mathlib.Numerals.{add-one}
@@ -9,7 +9,7 @@ use lib.Dec.{eqb, ltb, leb}
 use lib.ListN.{length, getD, drop}
 use borrow.Author.Tests.{lt-ltb, le-ltb, le-leb, lt-leb, eq-eqb, ne-eqb}
 use Rattle.model.specs.declared.Answer.{Answer}
-use Rattle.model.specs.Basics.{Refusal, refusal}
+use Rattle.model.specs.Basics.{refusal}
 use Rattle.model.specs.Words.{Event, eventsOf, grainOk, eventsRefusal, wordRefusal}
 use Rattle.model.specs.Promises.{answerOf}
 use Rattle.word.specs.Answers.{eventsAnswer}

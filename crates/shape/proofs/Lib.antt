@@ -1,0 +1,4 @@
+pub mod Tests
+pub mod Sizes
+pub mod Loops
+pub mod Shape
