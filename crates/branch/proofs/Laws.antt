@@ -1,25 +1,27 @@
 -- The least run edge by edge: what the edges passed and those still to try give together.
-use mathlib.Core.Path.{_≡_, refl, sym, _∙_, ap, ap₂, subst}
+use mathlib.Core.Path.{_≡_, refl, sym, _∙_, ap, ap₂}
 use mathlib.Core.Bool.{Bool, true, false}
 use mathlib.Core.List.{List, [], _∷_, _++_}
 use Prim.Native.Nat.{ℕ, zero, suc, _+_, _-_, _*_, _^_, _≤_, _<_}
 use native.Mathlib.Omega.{arith}
 use native.Mathlib.Numerals.{add-one}
-use lib.ListN.{length, getD, set, drop, replicate, length-replicate, replicate-append-replicate, drop-of-length-le}
-use lib.Seq.{drop-cons, set-at}
+use lib.ListN.{length, getD, set, drop, length-replicate, replicate-append-replicate}
+use lib.Seq.{set-at}
 use Rattle.model.specs.declared.Head.{Head}
 use Rattle.model.specs.declared.Branch.{Branch}
 use Rattle.model.specs.Basics.{pick, isIn, zeros, filled}
-use Rattle.model.specs.Rules.{Edge, Rule}
-use Rattle.model.specs.Words.{Event, eventsOf}
-use Rattle.model.specs.Runs.{older, zeroed, canTake, Path, path, noPath, leastEdge, leastFrom}
+use Rattle.model.specs.Rules.{Edge}
+use Rattle.model.specs.Words.{eventsOf}
+use Rattle.model.specs.Runs.{zeroed, Path, path, noPath, leastEdge, leastFrom}
 use Rattle.model.specs.Layout.{edgeWidth, edgesIn, locationsIn, ruleIn}
 use Rattle.model.proofs.EdgeTable.{edges-rest}
+use Rattle.model.proofs.Events.{eventAt, events-rest, events-end}
+use Rattle.model.proofs.Inputs.{ordered-rest}
 use Rattle.model.proofs.Ages.{AtMost, older-most, zeroed-most}
 use Rattle.ages.specs.declared.Configuration.{Configuration}
 use Rattle.ages.specs.Ages.{agesOf, edgeAt, takes, Waited, Moved}
-use Rattle.ages.proofs.Moves.{waited-ages, moved-ages}
-use Rattle.branch.specs.Branches.{placed, leastAt, Rising, Ready}
+use Rattle.ages.proofs.Moves.{waited-until, moved-ages}
+use Rattle.branch.specs.Branches.{placed, leastAt, Ready}
 
 -- A run in the twelve places. No run: all zero, wherever it would begin.
 pub nowhere : (depth : ℕ) (p : Path) → depth ≤ 12 → p .taken ≡ [] → placed 0 p ≡ placed depth p
@@ -53,25 +55,13 @@ pub ended-is :
     ≡ placed 0 (path (isIn l (locationsIn ends)) 0 [])
 ended-is b t ends l e f = rw (e, f)
 
--- the events from number i on
-pub events-rest :
-    (xs ts : List ℕ) (i : ℕ) → i < length xs → length xs ≡ length ts
-    → eventsOf (drop i xs) (drop i ts)
-    ≡ record { symbol = getD xs i 0; stamp = getD ts i 0 } ∷ eventsOf (drop (i + 1) xs) (drop (i + 1) ts)
-events-rest xs ts i h e = rw (add-one i, drop-cons xs i 0 h, drop-cons ts i 0 (omega arith))
-
-pub rising-rest :
-    (last : ℕ) (ts : List ℕ) (i : ℕ) → i < length ts → Rising last (drop i ts)
-    → (last ≤ getD ts i 0) × Rising (getD ts i 0) (drop (i + 1) ts)
-rising-rest last ts i h r = rw (add-one i) (rw (drop-cons ts i 0 h) at r)
-
 -- with no events left
 pub at-end :
     (head : Head) (edges : List ℕ) (d : ℕ) (symbols stamps : List ℕ) (depth last : ℕ) (from : Configuration)
     → length symbols ≤ depth
     → leastAt head edges d symbols stamps depth last from ≡ path (isIn (from .location) (locationsIn (head .ends))) 0 []
 unfolding leastFrom ruleIn
-at-end head edges d symbols stamps depth last from h = rw (drop-of-length-le symbols h)
+at-end head edges d symbols stamps depth last from h = rw (events-end symbols stamps depth h)
 
 pub end-is :
     (head : Head) (edges : List ℕ) (d : ℕ) (symbols stamps : List ℕ) (depth last : ℕ) (from : Configuration) (r : Branch)
@@ -88,9 +78,6 @@ end-is head edges d symbols stamps depth last from r ready h e =
 
 -- one event: v is the event, `now` the configuration after the delay
 module _ (head : Head) (edges : List ℕ) (d : ℕ) (symbols stamps : List ℕ) (depth : ℕ) (now : Configuration) where
-  abbrev pub here : Event
-  here = record { symbol = getD symbols depth 0; stamp = getD stamps depth 0 }
-
   abbrev pub onward : ℕ → List ℕ → Path
   onward to ages =
       leastFrom (ruleIn head edges) d (eventsOf (drop (depth + 1) symbols) (drop (depth + 1) stamps)) (getD stamps depth 0)
@@ -102,7 +89,7 @@ module _ (head : Head) (edges : List ℕ) (d : ℕ) (symbols stamps : List ℕ) 
   tryFrom e =
       leastEdge e (edgesIn (head .count - e) (drop (edgeWidth * e) edges)) d (now .location)
       (agesOf (head .clocks) (now .ages))
-      here
+      (eventAt symbols stamps depth)
       onward
 
   -- what edge e leads to
@@ -126,7 +113,7 @@ module _ (head : Head) (edges : List ℕ) (d : ℕ) (symbols stamps : List ℕ) 
       → tryFrom e ≡ pick (byEdge e .found) (path true 0 (e ∷ byEdge e .taken)) (tryFrom (e + 1))
   try-step e h =
       ap
-      (λ (es : List Edge). leastEdge e es d (now .location) (agesOf (head .clocks) (now .ages)) here onward)
+      (λ (es : List Edge). leastEdge e es d (now .location) (agesOf (head .clocks) (now .ages)) (eventAt symbols stamps depth) onward)
       (edges-rest (head .count) e edges h)
       ∙ rw (add-one e)
 
@@ -200,10 +187,10 @@ pub at-event :
     → leastAt head edges d symbols stamps depth last from ≡ tryFrom head edges d symbols stamps depth now 0
 unfolding leastFrom ruleIn
 at-event head edges d symbols stamps depth last delay from now ready h b e w =
-    let rises = rising-rest last stamps depth (omega (arith, ready .counts-equal)) (ready .stamps-rise) in
+    let order = ordered-rest last symbols stamps depth h (ready .counts-equal) (ready .stamps-ordered) in
     let z : head .count - 0 ≡ head .count = omega arith in
-    let aged = waited-ages (head .clocks) last (getD stamps depth 0) w e (ready .ages-most) (rises .0) b in
-    rw (events-rest symbols stamps depth h (ready .counts-equal), z, aged, w .location-is)
+    let aged = waited-until (head .clocks) last (getD stamps depth 0) w e (ready .ages-most) (order .0) b in
+    rw (events-rest symbols stamps depth h (omega (arith, ready .counts-equal)), z, aged, w .location-is)
 
 -- the next event is ready too
 pub next-ready :
@@ -216,16 +203,16 @@ pub next-ready :
     → Moved (edgeAt e edges) now next
     → Ready head symbols stamps (depth + 1) (getD stamps depth 0) next
 next-ready head edges symbols stamps depth last delay e from now next ready h b q w m =
-    let rises = rising-rest last stamps depth (omega (arith, ready .counts-equal)) (ready .stamps-rise) in
-    let aged = waited-ages (head .clocks) last (getD stamps depth 0) w q (ready .ages-most) (rises .0) b in
+    let order = ordered-rest last symbols stamps depth h (ready .counts-equal) (ready .stamps-ordered) in
+    let aged = waited-until (head .clocks) last (getD stamps depth 0) w q (ready .ages-most) (order .0) b in
     let most : AtMost (getD stamps depth 0) (agesOf (head .clocks) (now .ages)) =
-    rw aged (older-most last (getD stamps depth 0) (agesOf (head .clocks) (from .ages)) (ready .ages-most) (rises .0)) in
+    rw aged (older-most last (getD stamps depth 0) (agesOf (head .clocks) (from .ages)) (ready .ages-most) (order .0)) in
     record {
       depth-in = omega arith;
       counts-equal = ready .counts-equal;
       events-most = ready .events-most;
       edges-most = ready .edges-most;
-      stamps-rise = rises .1;
+      stamps-ordered = order .1;
       ages-most =
           rw (moved-ages (head .clocks) m)
           (zeroed-most (getD stamps depth 0) 0 (edgeAt e edges .resets) (agesOf (head .clocks) (now .ages)) most);

@@ -1,16 +1,16 @@
 -- A branch record as a run from some event on, and what must hold there.
 use mathlib.Core.Path.{_≡_}
-use mathlib.Core.List.{List, [], _∷_, _++_}
+use mathlib.Core.List.{List, _++_}
 use Prim.Native.Nat.{ℕ, _-_, _≤_}
 use lib.ListN.{length, drop}
 use Rattle.model.specs.declared.Head.{Head}
 use Rattle.model.specs.declared.Branch.{Branch}
 use Rattle.model.specs.Basics.{zeros, filled}
 use Rattle.model.specs.Words.{mostBranchEvents, eventsOf}
-use Rattle.model.specs.Runs.{Path, leastFrom}
+use Rattle.model.specs.Runs.{Path, leastFrom, leastRun}
 use Rattle.model.specs.Layout.{ruleIn}
+use Rattle.model.proofs.Words.{Ordered}
 use Rattle.model.proofs.Ages.{AtMost}
-use Rattle.ages.specs.declared.Ages.{Ages}
 use Rattle.ages.specs.declared.Configuration.{Configuration}
 use Rattle.ages.specs.Ages.{agesOf}
 
@@ -30,10 +30,19 @@ leastAt head edges d symbols stamps depth last from =
     leastFrom (ruleIn head edges) d (eventsOf (drop depth symbols) (drop depth stamps)) last (from .location)
     (agesOf (head .clocks) (from .ages))
 
--- stamps that never fall, the first of them no lower than `last`
-abbrev pub Rising : ℕ → List ℕ → Type 0
-Rising last [] = Unit {0}
-Rising last (t ∷ ts) = (last ≤ t) × Rising t ts
+-- the whole run: a start location and the edges from place 0 on
+abbrev pub begun : Path → Branch
+begun p = record {
+  number = 0;
+  place = 0;
+  found = p .found;
+  start = p .start;
+  edges = filled mostBranchEvents (p .taken);
+}
+
+-- the least accepting run over the whole word
+abbrev pub leastOf : Head → List ℕ → ℕ → List ℕ → List ℕ → Path
+leastOf head edges d symbols stamps = leastRun (ruleIn head edges) d (eventsOf symbols stamps)
 
 -- at most 12 events, their stamps in order, ages of no more than the stamp before
 pub record Ready (head : Head) (symbols stamps : List ℕ) (depth last : ℕ) (from : Configuration) : Type 0 where
@@ -41,5 +50,13 @@ pub record Ready (head : Head) (symbols stamps : List ℕ) (depth last : ℕ) (f
   pub counts-equal : length symbols ≡ length stamps
   pub events-most : length symbols ≤ mostBranchEvents
   pub edges-most : head .count ≤ 256
-  pub stamps-rise : Rising last (drop depth stamps)
+  pub stamps-ordered : Ordered last (eventsOf (drop depth symbols) (drop depth stamps))
   pub ages-most : AtMost last (agesOf (head .clocks) (from .ages))
+
+-- the same before the first event, with at most 4 clocks
+pub record Begins (head : Head) (symbols stamps : List ℕ) : Type 0 where
+  pub clocks-most : head .clocks ≤ 4
+  pub edges-most : head .count ≤ 256
+  pub counts-equal : length symbols ≡ length stamps
+  pub events-most : length symbols ≤ mostBranchEvents
+  pub stamps-ordered : Ordered 0 (eventsOf symbols stamps)

@@ -130,8 +130,7 @@ module _ (k room n : ℕ) (c : Config) (s : List ℕ) (ready : Roomy k room n s)
         → Holds k room 0 (withConfig c (configsAt k n 0 s)) s′ (Count (n + 1))
     added-new s′ h l e =
         let fits : n * (k + 1) + k < length s = next-fits k room n s ready h in
-        let z : 0 + n * (k + 1) ≡ n * (k + 1) = omega arith in
-        (
+        let z : 0 + n * (k + 1) ≡ n * (k + 1) = omega arith in (
           omega arith,
           rw (with-new, e, add-one n, configs-snoc k n 0 (sets s (n * (k + 1)) (numbersIn c)), z)
               (rw (

@@ -120,11 +120,11 @@ module _ (head : Head) (edges : List ℕ) (d symbol delay room from n to : ℕ) 
 
       module _ (span : ℕ) (span-is : span ≡ size) (part′ : List ℕ) (added : Added)
           (holds :
-              Holds (head .clocks) room 0
-              (byEdgesOf (head .clocks) (head .count) edges d symbol now-is
-              (configsAt (head .clocks) held 0 (part to span s)))
-              part′
-              added)
+          Holds (head .clocks) room 0
+          (byEdgesOf (head .clocks) (head .count) edges d symbol now-is
+          (configsAt (head .clocks) held 0 (part to span s)))
+          part′
+          added)
           (long : length part′ ≡ length (part to span s)) where
         abbrev new : List Config
         new = byEdgesOf (head .clocks) (head .count) edges d symbol now-is (configsAt (head .clocks) held to s)

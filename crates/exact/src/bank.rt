@@ -7,7 +7,10 @@ ghost use Rattle.model.specs.Runs.{hasConfig, withConfig};
 ghost use Rattle.ages.specs.Ages.{configOf};
 ghost use Rattle.exact.specs.Banks.{numbersIn, configsAt, Loaded, Holds};
 ghost use Rattle.exact.specs.Ready.{Roomy};
-use ages::{Ages, Configuration, age_of, same_configuration};
+use ages::Ages;
+use ages::Configuration;
+use ages::age_of;
+use ages::same_configuration;
 use model::Age;
 
 // What adding a configuration to a bank finds.

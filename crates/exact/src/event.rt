@@ -3,10 +3,16 @@ ghost use Prim.Native.Nat.{_≤_};
 ghost use Rattle.ages.specs.Ages.{agesOf};
 ghost use Rattle.exact.specs.Banks.{configsAt, Holds};
 ghost use Rattle.exact.specs.Ready.{Roomy, byEdgesOf, byConfigsOf, Stepping};
-use crate::bank::{Added, add, load};
-use ages::{Configuration, after_delay, after_edge, can_take};
+use crate::bank::Added;
+use crate::bank::add;
+use crate::bank::load;
+use ages::Configuration;
+use ages::after_delay;
+use ages::after_edge;
+use ages::can_take;
 use edges::wide32;
-use model::{Age, Head};
+use model::Age;
+use model::Head;
 
 // The configurations that the edges lead to from one, added to the n of the bank.
 pub(crate) fn by_edges(
@@ -64,7 +70,16 @@ pub(crate) fn by_configs(
     while i < n {
         let before = load(scratch, at);
         let after = after_delay(before, delay);
-        let added = by_edges(head, edges, grain, symbol, after, &mut scratch[to..end], room, held);
+        let added = by_edges(
+            head,
+            edges,
+            grain,
+            symbol,
+            after,
+            &mut scratch[to..end],
+            room,
+            held,
+        );
         let Added::Count(more) = added else {
             return Added::Full;
         };

@@ -1,10 +1,10 @@
 -- `branch::least_from` meets its contract: it calls itself with one event fewer. The edges passed led to no accepting run,
 -- so the least one is what the edges still to try give; the first edge that leads to one gives it.
-use mathlib.Core.Path.{_≡_, refl, sym, _∙_, ap}
+use mathlib.Core.Path.{refl, sym, _∙_, ap}
 use mathlib.Core.Logic.{⊎-elim}
 use Prim.Native.Nat.{ℕ, _-_, _<_}
 use native.Mathlib.Omega.{arith}
-use lib.ListN.{length, getD}
+use lib.ListN.{length}
 use borrow.Author.Needs.{needs}
 use borrow.Fn.Kinds.{In}
 use borrow.Fn.PlainCycle.{Measures, is, falls, and}
@@ -100,8 +100,7 @@ module _ (t : ℕ) where
 
   loop-holds : lts.Need-loop-holds (claims t) (here t) own.Post Inv-loop μ-loop
   loop-holds c =
-      let pre = c .before .before .before .before .before .before .before .before .before .pre .1 in
-      (
+      let pre = c .before .before .before .before .before .before .before .before .before .pre .1 in (
         omega (arith, pre .events-most, c .before .before .before .before .before .if1 .left),
         trying-start _ _ _ _ _ _ _ _ _ (c .before .wide32 .ensures .0) (search needs),
       )
@@ -189,9 +188,9 @@ module _ (t : ℕ) where
         l .inv .0,
         ⊎-elim
             (λ w.
-              trying-stuck (a .head) (a .edges .now) (a .grain) (a .symbols .now) (a .stamps .now) (a .depth) now-is (l .inv .1) test (w .1 .result) (w .1 .ensures) _ (w .2 .result) can (w .0 .taken) (w .2 .ensures) (w .3 .left))
+            trying-stuck (a .head) (a .edges .now) (a .grain) (a .symbols .now) (a .stamps .now) (a .depth) now-is (l .inv .1) test (w .1 .result) (w .1 .ensures) _ (w .2 .result) can (w .0 .taken) (w .2 .ensures) (w .3 .left))
             (λ w.
-              trying-other (a .head) (a .edges .now) (a .grain) (a .symbols .now) (a .stamps .now) (a .depth) now-is (l .inv .1) test _ can (w .left))
+            trying-other (a .head) (a .edges .now) (a .grain) (a .symbols .now) (a .stamps .now) (a .depth) now-is (l .inv .1) test _ can (w .left))
             (c .if2 .came),
       )
 

@@ -76,8 +76,7 @@ by-edges-requires : tie.Need-by-edges-requires Inv-loop μ-loop
 by-edges-requires c κs =
     let a = c .before .before .before .before .before .before .before .before .before .args in
     let l = c .before .before .before .before .before .loop in
-    let w = c .before .before .before .before .before .before .wide32 in
-    (
+    let w = c .before .before .before .before .before .before .wide32 in (
       l .inv .2 .edges-most,
       part-ready (a .head) (a .edges .now) (a .grain) (a .symbol) (a .delay .0) (a .room) (a .from) (a .n) (a .to) (l .inv .2) (c .before .before .before .before .loop-test .taken) _ (span-known (a .to) (a .room) (w .result) _ (w .ensures .0)),
     )

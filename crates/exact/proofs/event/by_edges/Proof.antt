@@ -95,8 +95,8 @@ loop-again c =
       l .inv .0,
       ⊎-elim
           (λ w.
-            rw (w .9, w .10)
-            (spreading-added clocks (a .head .count) (a .edges .now) (a .grain) (a .symbol) (a .from) (a .room) (l .inv .1) test _ can (w .0 .taken) (w .1 .result) (w .1 .ensures) _ (w .3 .result) (w .3 .ensures) _ (w .7 .given .1) (w .3 .kept .0)))
+          rw (w .9, w .10)
+          (spreading-added clocks (a .head .count) (a .edges .now) (a .grain) (a .symbol) (a .from) (a .room) (l .inv .1) test _ can (w .0 .taken) (w .1 .result) (w .1 .ensures) _ (w .3 .result) (w .3 .ensures) _ (w .7 .given .1) (w .3 .kept .0)))
           (λ w. rw (w .1, w .2) (spreading-other clocks (a .head .count) (a .edges .now) (a .grain) (a .symbol) (a .from) (a .room) (l .inv .1) test _ can (w .0 .left)))
           (c .if1 .came),
     )
