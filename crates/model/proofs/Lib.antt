@@ -16,6 +16,9 @@ pub mod Words
 pub mod Events
 pub mod EdgeTable
 pub mod EdgesWritten
+-- Ages as lists; the checks that come before a run
+pub mod Ages
+pub mod Inputs
 -- P1 to P9, two whole tables, every refusal at its edges: by computation from the definitions
 pub mod Examples
 pub mod Refused
@@ -25,6 +28,8 @@ pub mod Numbers
 -- Runs: a word is accepted exactly if some run is accepting; the least run
 pub mod Runs
 pub mod LeastRun
+-- With all configurations kept, accepted is to end in a final location
+pub mod Configs
 -- Rows: bases track ages, codes give their pairs back, the successor row is the paper's set
 pub mod Regions
 pub mod Clocks
