@@ -84,7 +84,7 @@ edge-of r e h p m =
       atoms-most = leb-true (length (e .atoms)) mostAtoms m;
     }
 
-edges-of : (r : Rule) (es : List Edge) → edgesOk r es ≡ true → (e : Edge) → In e es → EdgeIn r e
+pub edges-of : (r : Rule) (es : List Edge) → edgesOk r es ≡ true → (e : Edge) → In e es → EdgeIn r e
 edges-of r (f ∷ es) h e i =
     let a : Bool = edgeOk r f in
     let b : Bool = integerReset f in
@@ -183,12 +183,12 @@ constant-below r e a i j =
     omega
     (arith, constant-largest a (e .atoms) j, edge-largest e (r .edges) i, larger-left (largestOf (r .edges)) (r .ceiling - 1))
 
-atoms-largest : (xs : List Atom) (m : ℕ) → ((a : Atom) → In a xs → a .constant ≤ m) → largestConstant xs ≤ m
+pub atoms-largest : (xs : List Atom) (m : ℕ) → ((a : Atom) → In a xs → a .constant ≤ m) → largestConstant xs ≤ m
 atoms-largest [] m h = omega arith
 atoms-largest (x ∷ xs) m h =
     larger-most (x .constant) (largestConstant xs) m (h x (here refl)) (atoms-largest xs m (λ a i. h a (there i)))
 
-edges-largest : (es : List Edge) (m : ℕ) → ((e : Edge) → In e es → largestConstant (e .atoms) ≤ m) → largestOf es ≤ m
+pub edges-largest : (es : List Edge) (m : ℕ) → ((e : Edge) → In e es → largestConstant (e .atoms) ≤ m) → largestOf es ≤ m
 edges-largest [] m h = omega arith
 edges-largest (x ∷ xs) m h =
     larger-most (largestConstant (x .atoms)) (largestOf xs) m (h x (here refl)) (edges-largest xs m (λ e i. h e (there i)))
