@@ -15,6 +15,7 @@ use Rattle.model.specs.Layout.{edgeFields, edgeWidth, atomsIn, edgeIn}
 use Rattle.model.proofs.Logic.{or-right}
 use Rattle.model.proofs.EdgeTable.{atoms-rest}
 use Rattle.edges.proofs.Answers.{failed, passed}
+use Rattle.edges.proofs.Parts.{part-rest}
 use Rattle.rule.specs.Checks.{allZero, edgeGood, edgesGood}
 
 -- zeros from a place on
@@ -126,10 +127,6 @@ pub unpinned-end :
 unpinned-end {count} {j} {t} resets inv h n =
     let z : count - j ≡ 0 = omega arith in
     rw (ne-eqb resets 0 n) (rw z at (inv .rest-is))
-
--- A part of a slice to its end is what lies past its start.
-pub part-rest : (i : ℕ) (t : List ℕ) → take (length t - i) (drop i t) ≡ drop i t
-part-rest i t = take-all (length t - i) (drop i t) (rw (length-drop i t) (omega arith))
 
 -- What the tests of an edge's atoms found, in the definition's terms: n is the atom count as it was read.
 module _ (h : Head) (t : List ℕ) (n : ℕ) (n-is : n ≡ getD t 4 0) where

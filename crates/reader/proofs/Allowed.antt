@@ -1,0 +1,185 @@
+-- What a record that is allowed has, by its kind; the rule so far after it; and that its numbers fit.
+use mathlib.Core.Path.{_≡_, refl, sym, _∙_, ap}
+use mathlib.Core.Bool.{true}
+use mathlib.Core.List.{List, [], _∷_, _++_}
+use Prim.Native.Nat.{ℕ, suc, _+_, _-_, _*_, _/_, _^_, _≤_, _<_}
+use native.Mathlib.Omega.{arith}
+use lib.Dec.{eqb}
+use lib.ListN.{length, take, drop}
+use lib.Pow.{pow-mono}
+use Rattle.model.specs.declared.Head.{Head}
+use Rattle.model.specs.Basics.{pick, zeros, filled, maskOf}
+use Rattle.model.specs.Rules.{Edge, Rule, mostAtoms, rising}
+use Rattle.model.specs.Files.{pastLast, numberAt, edgeFrom, noRule, withRecord}
+use Rattle.model.specs.Layout.{edgeNeed, edgeWidth, headOf, edgesNumbers, edgeTable}
+use Rattle.model.proofs.Valid.{sizes-of}
+use Rattle.model.proofs.ValidParts.{Parts, rising-last}
+use Rattle.model.proofs.MaskSets.{mask-last, mask-below}
+use Rattle.model.proofs.EdgesWritten.{edges-numbers-length}
+use Rattle.model.proofs.Readable.{table-length}
+use Rattle.model.proofs.FileRecords.{Sizes-allowed, Location-allowed, Ceiling-allowed, Edge-allowed, Allowed, sizes, initial, final, ceiling, edge}
+use Rattle.model.proofs.FileSoFar.{So-far, sizes-so-far, record-so-far, atoms-from-length}
+use Rattle.reader.specs.declared.Cursor.{Cursor}
+use Rattle.reader.specs.State.{Holds, tableWith, Body, EdgeRoom, Room, Takes, Stage, none, some, State}
+use Rattle.reader.proofs.Tables.{next-zero, table-more}
+
+-- which kind it is
+module _ {last : ℕ} {r : Rule} {kind n : ℕ} {body : List ℕ} where
+  kind-least : Allowed last r kind n body → 1 ≤ kind
+  kind-least (sizes e a) = omega arith
+  kind-least (initial e a) = omega arith
+  kind-least (final e a) = omega arith
+  kind-least (ceiling e a) = omega arith
+  kind-least (edge e a) = omega arith
+
+  kind-most : Allowed last r kind n body → kind ≤ 5
+  kind-most (sizes e a) = omega arith
+  kind-most (initial e a) = omega arith
+  kind-most (final e a) = omega arith
+  kind-most (ceiling e a) = omega arith
+  kind-most (edge e a) = omega arith
+
+  is-initial : Allowed last r kind n body → kind ≡ 2 → Location-allowed last 2 r (r .initial) n body
+  is-initial (sizes e a) k = absurd (omega arith)
+  is-initial (initial e a) k = a
+  is-initial (final e a) k = absurd (omega arith)
+  is-initial (ceiling e a) k = absurd (omega arith)
+  is-initial (edge e a) k = absurd (omega arith)
+
+  is-final : Allowed last r kind n body → kind ≡ 3 → Location-allowed last 3 r (r .final) n body
+  is-final (sizes e a) k = absurd (omega arith)
+  is-final (initial e a) k = absurd (omega arith)
+  is-final (final e a) k = a
+  is-final (ceiling e a) k = absurd (omega arith)
+  is-final (edge e a) k = absurd (omega arith)
+
+  is-ceiling : Allowed last r kind n body → kind ≡ 4 → Ceiling-allowed last r n body
+  is-ceiling (sizes e a) k = absurd (omega arith)
+  is-ceiling (initial e a) k = absurd (omega arith)
+  is-ceiling (final e a) k = absurd (omega arith)
+  is-ceiling (ceiling e a) k = a
+  is-ceiling (edge e a) k = absurd (omega arith)
+
+  is-edge : Allowed last r kind n body → kind ≡ 5 → Edge-allowed last r n body
+  is-edge (sizes e a) k = absurd (omega arith)
+  is-edge (initial e a) k = absurd (omega arith)
+  is-edge (final e a) k = absurd (omega arith)
+  is-edge (ceiling e a) k = absurd (omega arith)
+  is-edge (edge e a) k = a
+
+-- nothing is read yet where no sizes were seen
+unseen : (last : ℕ) (r : Rule) → Stage last r → r .locations ≡ 0 → r ≡ noRule
+unseen last r (none e) h = e
+unseen last r (some s) h =
+    absurd (omega (arith, sizes-of (r .locations) (r .symbols) (r .clocks) (s .parts .sizes) .locations-least))
+
+seen : (last : ℕ) (r : Rule) → Stage last r → 1 ≤ r .locations → So-far last r
+seen last r (none e) h = absurd (omega (arith, ap (λ (x : Rule). x .locations) e))
+seen last r (some s) h = s
+
+pub after-so-far :
+    (last : ℕ) (r : Rule) (kind n : ℕ) (body : List ℕ) → Stage last r → Allowed last r kind n body
+    → So-far kind (withRecord r kind n body)
+unfolding withRecord
+after-so-far last r kind n body s (sizes e a) = rw e (sizes-so-far r n body a)
+after-so-far last r kind n body s (initial e a) =
+    record-so-far last r (seen last r s (a .sizes-seen)) kind n body (initial e a)
+after-so-far last r kind n body s (final e a) =
+    record-so-far last r (seen last r s (a .sizes-seen)) kind n body (final e a)
+after-so-far last r kind n body s (ceiling e a) =
+    record-so-far last r (seen last r s (a .sizes-seen)) kind n body (ceiling e a)
+after-so-far last r kind n body s (edge e a) =
+    record-so-far last r (seen last r s (a .sizes-seen)) kind n body (edge e a)
+
+numbers-wide : (last : ℕ) (r : Rule) → Stage last r → length (edgesNumbers (r .edges)) ≡ 29 * length (r .edges)
+unfolding edgesNumbers
+numbers-wide last r (none e) = rw e
+numbers-wide last r (some s) = edges-numbers-length r (r .edges) (s .parts .edges-ok)
+
+-- a location's mask fits
+location-fits :
+    (l : ℕ) (xs : List ℕ) (x m : ℕ) → l ≤ 32 → rising 0 l xs ≡ true → pastLast xs ≤ x → x < l → m ≡ maskOf xs
+    → (x < 32) × (m + 2 ^ x < 2 ^ 32)
+location-fits l xs x m a b c d e =
+    (omega arith,
+    omega (arith, mask-below l (xs ++ (x ∷ [])) (rising-last l xs x b c d), mask-last xs x, pow-mono {i = l} {j = 32} a))
+
+module _ {r : Rule} {c : Cursor} {t : List ℕ} (state : State r c t) {kind n : ℕ} {body : List ℕ}
+    (allowed : Allowed (c .last) r kind n body) where
+  locations-most : 1 ≤ r .locations → r .locations ≤ 32
+  locations-most h =
+      sizes-of (r .locations) (r .symbols) (r .clocks) (seen (c .last) r (state .stage) h .parts .sizes) .locations-most
+
+  pub room-for : Body kind n body → c .at + (4 + n) < 2 ^ 64 → Room c kind n body t
+  room-for b next = record {
+    kind-least = kind-least allowed;
+    kind-most = kind-most allowed;
+    next = next;
+    number = omega (arith, b .least, b .whole);
+    sizes = λ k. omega (arith, b .sizes k, b .whole);
+    initial = λ k.
+      let a = is-initial allowed k in
+      location-fits (r .locations) (r .initial) (numberAt 0 body) (c .head .starts) (locations-most (a .sizes-seen))
+      (seen (c .last) r (state .stage) (a .sizes-seen) .parts .initial-rises) (a .rises) (a .in-range)
+      (ap (λ (h : Head). h .starts) (state .holds .head-is));
+    final = λ k.
+      let a = is-final allowed k in
+      location-fits (r .locations) (r .final) (numberAt 0 body) (c .head .ends) (locations-most (a .sizes-seen))
+      (seen (c .last) r (state .stage) (a .sizes-seen) .parts .final-rises) (a .rises) (a .in-range)
+      (ap (λ (h : Head). h .ends) (state .holds .head-is));
+    ceiling = λ k. is-ceiling allowed k .in-range;
+    edge = λ k.
+      let a = is-edge allowed k in
+      let count-is : c .head .count ≡ length (r .edges) = ap (λ (h : Head). h .count) (state .holds .head-is) in
+      let wide = numbers-wide (c .last) r (state .stage) ∙ ap (λ (m : ℕ). 29 * m) (sym count-is) in
+      record {
+        size-least = a .length-least;
+        size-most = a .length-most;
+        whole = b .whole;
+        few = omega (arith, a .room);
+        long = state .long;
+        zero = next-zero r t (c .head .count) wide (state .table-is) (omega (arith, a .room, state .long));
+      };
+  }
+
+-- the table after a record
+table-after :
+    (last : ℕ) (r : Rule) (count : ℕ) (t t′ : List ℕ) (kind n : ℕ) (body : List ℕ) → Stage last r
+    → count ≡ length (r .edges)
+    → t ≡ edgeTable (length t) r
+    → t′ ≡ pick (eqb kind 5) (tableWith count (edgeFrom n body) t) t
+    → Allowed last r kind n body
+    → t′ ≡ edgeTable (length t) (withRecord r kind n body)
+unfolding withRecord edgeTable
+table-after last r count t t′ kind n body s c is q (sizes e a) =
+    let none-yet : r .edges ≡ [] = ap (λ (x : Rule). x .edges) (unseen last r s (a .none-yet)) in
+    rw e ((rw e at q) ∙ (is ∙ ap (λ (es : List Edge). filled (length t) (edgesNumbers es)) none-yet))
+table-after last r count t t′ kind n body s c is q (initial e a) = rw e ((rw e at q) ∙ is)
+table-after last r count t t′ kind n body s c is q (final e a) = rw e ((rw e at q) ∙ is)
+table-after last r count t t′ kind n body s c is q (ceiling e a) = rw e ((rw e at q) ∙ is)
+table-after last r count t t′ kind n body s c is q (edge e a) =
+    let wide = numbers-wide last r s ∙ ap (λ (m : ℕ). 29 * m) (sym c) in
+    let few : length (edgeFrom n body .atoms) ≤ mostAtoms =
+    omega (arith, atoms-from-length ((n - 8) / 6) (drop 8 body), a .length-most) in
+    rw e ((rw e at q) ∙ table-more r t count wide is (edgeFrom n body) few)
+
+-- cursor and table after a record
+pub state-after :
+    {r : Rule} {c : Cursor} {t : List ℕ} → State r c t → {kind n : ℕ} {body : List ℕ}
+    → Allowed (c .last) r kind n body
+    → {t′ : List ℕ} {d : Cursor} → Takes c kind n body t t′ d
+    → State (withRecord r kind n body) d t′
+state-after {r} {c} {t} state {kind} {n} {body} allowed {t′} {d} takes =
+    let after = after-so-far (c .last) r kind n body (state .stage) allowed in
+    let count-is : c .head .count ≡ length (r .edges) = ap (λ (h : Head). h .count) (state .holds .head-is) in
+    let is : t′ ≡ edgeTable (length t) (withRecord r kind n body) =
+    table-after (c .last) r (c .head .count) t t′ kind n body (state .stage) count-is (state .table-is) (takes .table-is)
+    allowed in
+    let long : length t′ ≡ length t =
+    ap length is ∙ table-length (withRecord r kind n body) (after .parts) (length t) (state .long) in
+    record {
+      stage = rw (takes .last-is) (some after);
+      holds = takes .holds r (state .holds);
+      long = omega (arith, state .long);
+      table-is = is ∙ ap (λ (m : ℕ). edgeTable m (withRecord r kind n body)) (sym long);
+    }

@@ -1,0 +1,18 @@
+-- `reader::one_too_many` meets its contract.
+use borrow.Author.Tests.{lt-ltb, le-ltb, le-leb, lt-leb, eq-eqb, ne-eqb}
+use borrow.Author.Needs.{needs}
+use Rattle.reader.proofs.one_too_many.Statement.{statement}
+use Rattle.reader.proofs.one_too_many.Tie as tie
+use Rattle.reader.proofs.one_too_many.Reads as reads
+use Rattle.reader.proofs.one_too_many.Lts as lts
+
+-- src/lib.rt:109:9
+returns : tie.Need-returns
+returns c = λ r e. rw (ne-eqb (c .before .args .kind) 5 (c .if1 .taken))
+
+-- src/lib.rt:105:1
+returns-2 : tie.Need-returns-2
+returns-2 c = λ r e. rw (c .before .if1 .left, e)
+
+pub one-too-many-spec : {M : Type 1} → statement M
+one-too-many-spec = tie.close (tie.spec returns returns-2)

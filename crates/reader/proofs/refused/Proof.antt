@@ -1,0 +1,18 @@
+-- `reader::refused` meets its contract.
+use borrow.Author.Needs.{needs}
+use Rattle.reader.proofs.refused.Statement.{statement}
+use Rattle.reader.proofs.refused.Tie as tie
+use Rattle.reader.proofs.refused.Reads as reads
+use Rattle.reader.proofs.refused.Lts as lts
+use Rattle.reader.proofs.no_head.Reads as no-head-reads
+
+-- src/lib.rt:441:15
+no-head-requires : tie.Need-no-head-requires
+no-head-requires c κs = search needs
+
+-- src/lib.rt:435:1
+returns : tie.Need-returns
+returns c = record { answer-is = rw (c .no-head .ensures) }
+
+pub refused-spec : {M : Type 1} → statement M
+refused-spec = tie.close (tie.spec no-head-requires returns)

@@ -1,0 +1,141 @@
+-- A reading under way, and what each step of the code answers.
+use mathlib.Core.Path.{_≡_}
+use mathlib.Core.Bool.{not}
+use mathlib.Core.List.{List, _++_}
+use Prim.Native.Nat.{ℕ, _+_, _*_, _^_, _≤_, _<_}
+use lib.Dec.{eqb}
+use lib.ListN.{length, take, drop}
+use Rattle.model.specs.declared.Reading.{Reading}
+use Rattle.model.specs.Basics.{pick, zeros, Refusal, refusal, refuse, _⨾_}
+use Rattle.model.specs.Rules.{Edge, Rule}
+use Rattle.model.specs.Files.{numberAt, kindOf, edgeFrom, noRule, pastLast, outOfOrder, oneTooMany, badSizes, outOfRange, notPinned, recordRefusal, withEdge, withRecord, atEnd, readRule}
+use Rattle.model.specs.Layout.{edgeNeed, edgeWidth, headOf, noHead, edgeNumbers, edgeTable}
+use Rattle.model.specs.Promises.{readingOf}
+use Rattle.model.proofs.FileSteps.{recordLength, ruleAfter}
+use Rattle.model.proofs.FileSoFar.{So-far}
+use Rattle.reader.specs.declared.Cursor.{Cursor}
+use Rattle.reader.specs.declared.Step.{Step}
+use Rattle.reader.specs.declared.Step.the-variants.{Next, Refused}
+
+-- the cursor holds the rule read so far
+pub record Holds (r : Rule) (c : Cursor) : Type 0 where
+  pub head-is : c .head ≡ headOf r
+  pub start-is : c .start ≡ pastLast (r .initial)
+  pub end-is : c .end ≡ pastLast (r .final)
+
+-- a number of the code, 0 for no refusal, as the refusal at a place
+abbrev pub numbered : ℕ → ℕ → Refusal
+numbered n p = refuse (not (eqb n 0)) n p
+
+-- 3 to 7, of a record that is whole and whose body has a length of its kind
+unfoldable pub bodyRefusal : ℕ → ℕ → Rule → ℕ → ℕ → List ℕ → Refusal
+bodyRefusal p last r kind n body =
+    refuse (outOfOrder last r kind body) 3 p ⨾ refuse (oneTooMany r kind) 4 p ⨾ refuse (badSizes kind body) 5 p
+    ⨾ refuse (outOfRange r kind n body) 6 p
+    ⨾ refuse (notPinned kind n body) 7 p
+
+-- a body of a length that its kind has
+pub record Body (kind size : ℕ) (body : List ℕ) : Type 0 where
+  pub whole : size ≤ length body
+  pub least : 2 ≤ size
+  pub sizes : kind ≡ 1 → size ≡ 6
+  pub edge-least : kind ≡ 5 → 8 ≤ size
+  pub edge-most : kind ≡ 5 → size ≤ 56
+
+-- the same place in the file
+pub record Stays (c d : Cursor) : Type 0 where
+  pub at-is : d .at ≡ c .at
+  pub last-is : d .last ≡ c .last
+
+-- 29 places of zeros for an edge's body
+pub record Places (size : ℕ) (body edge : List ℕ) : Type 0 where
+  pub size-least : 8 ≤ size
+  pub size-most : size ≤ 56
+  pub whole : size ≤ length body
+  pub wide : length edge ≡ edgeWidth
+  pub zero : edge ≡ zeros edgeWidth
+
+-- the table with one edge more, where n edges stand
+abbrev pub tableWith : ℕ → Edge → List ℕ → List ℕ
+tableWith n e t = take (edgeWidth * n) t ++ (edgeNumbers e ++ drop edgeWidth (drop (edgeWidth * n) t))
+
+-- room for an edge, whose places are zero
+pub record EdgeRoom (n size : ℕ) (body t : List ℕ) : Type 0 where
+  pub size-least : 8 ≤ size
+  pub size-most : size ≤ 56
+  pub whole : size ≤ length body
+  pub few : n < 256
+  pub long : edgeNeed ≤ length t
+  pub zero : take edgeWidth (drop (edgeWidth * n) t) ≡ zeros edgeWidth
+
+pub record TakesEdge (c : Cursor) (size : ℕ) (body t t′ : List ℕ) (d : Cursor) : Type 0 where
+  pub stays : Stays c d
+  pub holds : (r : Rule) → Holds r c → Holds (withEdge r (edgeFrom size body)) d
+  pub table-is : t′ ≡ tableWith (c .head .count) (edgeFrom size body) t
+
+-- a record that can be taken: its numbers fit
+pub record Room (c : Cursor) (kind size : ℕ) (body t : List ℕ) : Type 0 where
+  pub kind-least : 1 ≤ kind
+  pub kind-most : kind ≤ 5
+  pub next : c .at + (4 + size) < 2 ^ 64
+  pub number : 2 ≤ length body
+  pub sizes : kind ≡ 1 → 6 ≤ length body
+  pub initial : kind ≡ 2 → (numberAt 0 body < 32) × (c .head .starts + 2 ^ numberAt 0 body < 2 ^ 32)
+  pub final : kind ≡ 3 → (numberAt 0 body < 32) × (c .head .ends + 2 ^ numberAt 0 body < 2 ^ 32)
+  pub ceiling : kind ≡ 4 → numberAt 0 body ≤ 30
+  pub edge : kind ≡ 5 → EdgeRoom (c .head .count) size body t
+
+pub record Takes (c : Cursor) (kind size : ℕ) (body t t′ : List ℕ) (d : Cursor) : Type 0 where
+  pub at-is : d .at ≡ c .at + (4 + size)
+  pub last-is : d .last ≡ kind
+  pub holds : (r : Rule) → Holds r c → Holds (withRecord r kind size body) d
+  pub table-is : t′ ≡ pick (eqb kind 5) (tableWith (c .head .count) (edgeFrom size body) t) t
+
+-- the rule so far: nothing, or valid in all its parts
+pub data Stage (last : ℕ) (r : Rule) : Type 0 where
+  none : r ≡ noRule → Stage last r
+  some : So-far last r → Stage last r
+
+-- cursor and table hold the rule so far
+pub record State (r : Rule) (c : Cursor) (t : List ℕ) : Type 0 where
+  pub stage : Stage (c .last) r
+  pub holds : Holds r c
+  pub long : edgeNeed ≤ length t
+  pub table-is : t ≡ edgeTable (length t) r
+
+pub record Under-way (c : Cursor) (t : List ℕ) : Type 0 where
+  pub rule : Rule
+  pub state : State rule c t
+
+-- what a step answers: the reading goes on past the record, or is refused at it
+pub record Goes-on (file : List ℕ) (r : Rule) (c : Cursor) (t : List ℕ) (d : Cursor) : Type 0 where
+  pub passes-all : recordRefusal (c .at) (c .last) r (drop (c .at) file) .number ≡ 0
+  pub at-is : d .at ≡ c .at + recordLength (drop (c .at) file)
+  pub inside : d .at ≤ length file
+  pub last-is : d .last ≡ kindOf (drop (c .at) file)
+  pub state : State (ruleAfter r (drop (c .at) file)) d t
+
+pub record Stops (file : List ℕ) (r : Rule) (c : Cursor) (n : ℕ) : Type 0 where
+  pub refused-is : recordRefusal (c .at) (c .last) r (drop (c .at) file) ≡ refusal n (c .at)
+  pub refuses : n ≡ 0 → ⊥
+
+abbrev pub StepIs : List ℕ → Rule → Cursor → List ℕ → Step → Type 0
+StepIs file r c t (Next d) = Goes-on file r c t d
+StepIs file r c t (Refused n) = Stops file r c n
+
+-- a refusal, with a head record of zeros
+pub record RefusedAt (number place : ℕ) (x : Reading) : Type 0 where
+  pub answer-is : x ≡ record { number = number; place = place; head = noHead }
+
+-- the answer at the end of the file
+pub record Finishes (r : Rule) (p : ℕ) (x : Reading) : Type 0 where
+  pub answer-is : x ≡ readingOf (atEnd p r .refused) (atEnd p r .rule-is)
+
+-- all records read into a table of zeros
+pub record Cleared (t : List ℕ) : Type 0 where
+  pub long : edgeNeed ≤ length t
+  pub zero : t ≡ zeros (length t)
+
+pub record ReadsRecords (file edges edges′ : List ℕ) (x : Reading) : Type 0 where
+  pub answer-is : x ≡ readingOf (readRule file .refused) (readRule file .rule-is)
+  pub table-is : x .number ≡ 0 → edges′ ≡ edgeTable (length edges) (readRule file .rule-is)
