@@ -4,7 +4,7 @@ ghost use mathlib.Core.List.{[]};
 ghost use Prim.Native.Nat.{_≤_, _<_};
 ghost use Rattle.model.specs.Tables.{tables};
 ghost use Rattle.model.specs.Walks.{startAt, step, strayed};
-ghost use Rattle.model.specs.Promises.{answerOf, event, StartsFollower, FollowsEvent};
+ghost use Rattle.model.specs.Promises.{answerOf, event, StartsFollower, FollowsEvent, FollowsInPlace};
 ghost use Rattle.follower.specs.Checks.{eventChecks, answered, keptBy};
 use edges::wide16;
 use edges::wide32;
@@ -171,5 +171,28 @@ pub fn follow_event(
         place: 0,
         yes,
         follower: next,
+    }
+}
+
+// The same on the head's own record, brought forward where it is kept.
+pub fn follow_in_place(
+    follower: &mut Follower,
+    built: Built,
+    cells: &[u32],
+    rows: &[u32],
+    pool: &[u32],
+    symbol: u16,
+    stamp: Stamp,
+) -> Moved
+    ensures { λ r. ⌜ FollowsInPlace (now (follower .entry)) (now (follower .exit)) built (now (cells .entry))
+        (now (rows .entry)) (now (pool .entry)) symbol stamp r ⌝ }
+{
+    let was = *follower;
+    let step = follow_event(was, built, cells, rows, pool, symbol, stamp);
+    *follower = step.follower;
+    Moved {
+        number: step.number,
+        place: step.place,
+        yes: step.yes,
     }
 }
