@@ -17,7 +17,7 @@ mod reference;
 mod reply;
 
 pub use call::{Call, Room, What, Word};
-pub use engine::Engine;
+pub use engine::{Engine, Event, Rule, Table, Tables};
 pub use lent::Lent;
 pub use library::Library;
 pub use machine::{Machine, State};

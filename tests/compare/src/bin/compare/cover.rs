@@ -25,7 +25,7 @@ const REFUSALS: [(&str, &[u8]); 13] = [
 const RUNNERS: [&str; 6] = ["exact", "branch", "table", "follow", "follow_in_place", "decide"];
 
 /// The limits and corners that must come up.
-const LIMITS: [&str; 26] = [
+const LIMITS: [&str; 28] = [
     "read: L = 32",
     "read: S = 16",
     "read: K = 4",
@@ -45,6 +45,8 @@ const LIMITS: [&str; 26] = [
     "build: cell table full",
     "build: just fits",
     "table: filled by hand",
+    "table: filled by hand, R = 4,096",
+    "table: filled by hand, cm = 30",
     "follow: timer reset",
     "follow: event 4,096",
     "exact: 4,096 events",
@@ -126,7 +128,10 @@ impl Cover {
                 self.count_build(building.number, state);
             }
             (Call::Table { word }, Reply::Table(answer)) if answer.number == 0 => {
-                self.mark("table: filled by hand", self.by_hand);
+                let (by_hand, built) = (self.by_hand, state.built);
+                self.mark("table: filled by hand", by_hand);
+                self.mark("table: filled by hand, R = 4,096", by_hand && built.rows == 4_096);
+                self.mark("table: filled by hand, cm = 30", by_hand && built.top == 30);
                 self.mark("table: 4,096 events", word.symbols.len() == 4_096);
                 self.mark("table: stamp over 2^31", word.stamps.last().is_some_and(|&stamp| stamp > 1 << 31));
             }

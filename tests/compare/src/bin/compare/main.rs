@@ -1,9 +1,9 @@
 //! `compare --seed N --calls N`: random calls of the library and of the reference side by side.
 //!
-//! Scene after scene is made from the seed until that many calls have been compared. At a difference it prints
-//! the seed, the scene and a script for `reference script` and `replay script` that shows it, and ends with 1.
-//! From 100,000 calls on it also ends with 1 where some refusal, verdict or limit did not come up.
-//! `--trace` prints every command before it is run.
+//! Scene after scene is made from the seed until that many calls have been compared. At a difference it
+//! prints the seed, the scene and a script that shows it (for `reference script` and `replay script`), and
+//! ends with 1. From 100,000 calls on it also ends with 1 where some refusal, verdict or limit did not come
+//! up. `--trace` prints every command before it is run.
 
 mod cover;
 mod damage;
@@ -43,7 +43,7 @@ fn main() -> ExitCode {
     while cover.calls < options.calls {
         let (kind, calls) = scenes::scene(options.seed, number);
         if let Err(difference) = side::run(&calls, &mut cover, options.trace) {
-            report(&options, number, kind, side::shortened(difference));
+            report(&options, number, kind, &side::shortened(difference));
             return ExitCode::FAILURE;
         }
         *kinds.entry(kind).or_default() += 1;
@@ -72,7 +72,7 @@ fn options() -> Option<Options> {
     Some(options)
 }
 
-fn report(options: &Options, number: u64, kind: &str, difference: Box<Difference>) {
+fn report(options: &Options, number: u64, kind: &str, difference: &Difference) {
     println!("DIFFERENCE with seed {}, scene {number} ({kind}).", options.seed);
     println!("# script");
     for call in &difference.script {

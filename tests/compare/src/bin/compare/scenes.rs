@@ -12,13 +12,14 @@ use protocol::{Call, Room, What, Word};
 type Kind = fn(&mut Scene);
 
 /// The common kinds with their weights.
-const COMMON: [(&str, usize, Kind); 9] = [
+const COMMON: [(&str, usize, Kind); 10] = [
     ("whole rules", 30, whole_rule),
     ("damaged files", 25, damaged),
     ("changed rules", 15, changed_rule),
     ("rules at limits", 15, limits::at_limit),
     ("tables filled by hand", 12, tables::by_hand),
     ("changed tables", 12, tables::changed),
+    ("tables at limits", 6, tables::at_limit),
     ("bad words", 15, bad_words),
     ("followers", 10, tables::followers),
     ("loose words", 8, loose_words),

@@ -153,6 +153,38 @@ fn wrap_around(scene: &mut Scene, plain: &Plain) {
     scene.add(Call::Resize { what: What::Cells, length: cells as usize, fill: 2 });
 }
 
+/// Tables of empty rows with their sizes at the limits, and at most one past them.
+pub fn at_limit(scene: &mut Scene) {
+    for _ in 0..6 {
+        let built = limit_sizes(scene.random);
+        for (index, &value) in built.iter().enumerate() {
+            scene.add(Call::Poke { what: What::Built, index, value });
+        }
+        let [_, symbols, _, top, _, row_count, _] = built.map(|number| number as usize);
+        let lengths = [(What::Cells, row_count * symbols * (2 * top + 2)), (What::Rows, 2 * row_count)];
+        for (what, length) in lengths.into_iter().chain([(What::Pool, 0)]) {
+            scene.add(Call::Resize { what, length: 0, fill: 0 });
+            scene.add(Call::Resize { what, length, fill: 0 });
+        }
+        run_table(scene, built[1].max(1));
+    }
+}
+
+/// Sizes at their limits; one of them may be past its own.
+fn limit_sizes(random: &mut Random) -> [u32; 7] {
+    let (clocks, top, most) =
+        random.pick(&[(1, 30, 32), (2, 30, 32), (3, 14, 16), (3, 30, 2), (4, 6, 16), (4, 14, 1)]);
+    let mut built = [random.pick(&[1, most]), random.pick(&[1, 16]), clocks, top, 0, random.pick(&[1, 3]), 0];
+    if random.chance(20) {
+        built = [random.pick(&[1, 32]), 1, random.pick(&[1, 4]), 0, 0, 4_096, 0];
+    }
+    if random.chance(60) {
+        let index = random.pick(&[0, 1, 2, 3, 5]);
+        built[index] = random.pick(&[0, built[index] + 1]);
+    }
+    built
+}
+
 /// A built table with numbers put in by hand.
 pub fn changed(scene: &mut Scene) {
     let (rule, room) = built_rule(scene);
