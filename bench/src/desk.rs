@@ -1,0 +1,162 @@
+//! A rule with its table, its room and a word, over which every call can be run.
+
+use alderskein::raw::{Answer, Building, Built, Follower, Head, Moved};
+use protocol::{Engine, Event, Reference, Rule, Table, Tables, Word};
+
+/// The event that is followed.
+const FIRST: Event = Event { symbol: 0, stamp: 2 };
+
+/// A call to be measured.
+#[derive(Clone, Copy, Debug, PartialEq)]
+pub enum Call {
+    Read,
+    Write,
+    CheckRule,
+    CheckTable,
+    CheckWord,
+    Build,
+    Exact,
+    Branch,
+    Table,
+    Follow,
+    FollowInPlace,
+    Decide,
+}
+
+/// What the calls are lent.
+pub struct Desk {
+    file: Vec<u8>,
+    out: Vec<u8>,
+    head: Head,
+    edges: Vec<u16>,
+    scratch: Vec<u32>,
+    /// For the exact runner.
+    configurations: Vec<u32>,
+    cells: Vec<u32>,
+    rows: Vec<u32>,
+    pool: Vec<u32>,
+    built: Built,
+    follower: Follower,
+    word: Word,
+}
+
+impl Desk {
+    /// The rule of a file, read and built by the reference, in room that just fits; an empty word.
+    pub fn new(file: Vec<u8>) -> Self {
+        let mut edges = vec![0; 7_424];
+        let head = Reference::read_rule(&file, &mut edges).head;
+        let mut desk = Desk {
+            out: vec![0; file.len()],
+            file,
+            head,
+            edges,
+            scratch: vec![0; 65_536],
+            configurations: vec![0; 1_024],
+            cells: vec![0; 1 << 20],
+            rows: vec![0; 8_192],
+            pool: vec![0; 1 << 18],
+            built: Built::default(),
+            follower: Follower { grain: 2, ..Follower::default() },
+            word: Word { grain: 2, symbols: vec![], stamps: vec![] },
+        };
+        let building = desk.build::<Reference>();
+        assert_eq!(building.number, 0, "the rule's table does not fit");
+        desk.built = building.built;
+        desk.cut();
+        desk
+    }
+
+    /// Cuts the room to what the table needs.
+    fn cut(&mut self) {
+        self.scratch.truncate(self.codes());
+        self.cells.truncate(self.row_count() * self.row_cells());
+        self.rows.truncate(2 * self.row_count());
+        self.pool.truncate(self.built.total as usize);
+    }
+
+    /// The same with a word: so many events, each as long after the one before, over all symbols in turn.
+    pub fn with_word(mut self, events: usize, delay: u32) -> Self {
+        let symbols = self.head.symbols as usize;
+        self.word.symbols = (0..events).map(|event| (event % symbols) as u16).collect();
+        self.word.stamps = (1..=events as u32).map(|event| event * delay).collect();
+        self
+    }
+
+    /// R.
+    pub fn row_count(&self) -> usize {
+        self.built.rows as usize
+    }
+
+    /// N.
+    pub fn codes(&self) -> usize {
+        (self.built.locations * (self.built.top + 2).pow(self.built.clocks)) as usize
+    }
+
+    /// S · W.
+    fn row_cells(&self) -> usize {
+        (self.built.symbols * (2 * self.built.top + 2)) as usize
+    }
+
+    /// R · S · W.
+    pub fn cell_count(&self) -> usize {
+        self.row_count() * self.row_cells()
+    }
+
+    fn table(&self) -> Table<'_> {
+        Table { built: self.built, cells: &self.cells, rows: &self.rows, pool: &self.pool }
+    }
+
+    fn build<E: Engine>(&mut self) -> Building {
+        let Desk { head, edges, scratch, cells, rows, pool, .. } = self;
+        E::build_table(Rule { head: *head, edges }, Tables { scratch, cells, rows, pool })
+    }
+
+    fn decide<E: Engine>(&mut self) -> Answer {
+        let Desk { file, edges, scratch, cells, rows, pool, word, .. } = self;
+        E::decide(file, edges, Tables { scratch, cells, rows, pool }, word)
+    }
+
+    fn follow_in_place<E: Engine>(&self) -> Moved {
+        E::follow_in_place(&mut { self.follower }, self.table(), FIRST)
+    }
+
+    /// Runs a call and returns its refusal's number and place, and a value. The tables that it is lent hold
+    /// what the call before left in them.
+    pub fn run<E: Engine>(&mut self, call: Call) -> [usize; 3] {
+        let Desk { head, edges, word, .. } = self;
+        let rule = Rule { head: *head, edges };
+        match call {
+            Call::Read => {
+                let reading = E::read_rule(&self.file, edges);
+                [reading.number.into(), reading.place, reading.head.count as usize]
+            }
+            Call::Write => numbers(E::write_rule(rule, &mut self.out)),
+            Call::CheckRule => numbers(E::check_rule(rule)),
+            Call::CheckTable => numbers(E::check_table(self.table())),
+            Call::CheckWord => numbers(E::check_word(head.symbols, 4_096, word)),
+            Call::Build => {
+                let building = self.build::<E>();
+                [building.number.into(), building.place, building.built.rows as usize]
+            }
+            Call::Exact => numbers(E::run_exact(rule, word, &mut self.configurations)),
+            Call::Branch => {
+                let branch = E::run_branches(rule, word, &mut [0; 12]);
+                [branch.number.into(), branch.place, branch.found.into()]
+            }
+            Call::Table => numbers(E::run_table(self.table(), &self.word)),
+            Call::Follow => {
+                let followed = E::follow_event(self.follower, self.table(), FIRST);
+                [followed.number.into(), followed.place, followed.yes.into()]
+            }
+            Call::FollowInPlace => {
+                let moved = self.follow_in_place::<E>();
+                [moved.number.into(), moved.place, moved.yes.into()]
+            }
+            Call::Decide => numbers(self.decide::<E>()),
+        }
+    }
+}
+
+fn numbers(answer: Answer) -> [usize; 3] {
+    [answer.number.into(), answer.place, answer.value]
+}

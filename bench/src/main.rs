@@ -1,0 +1,156 @@
+//! Measures the verified library beside the reference: same machine, same run, same input, same room.
+//!
+//! Every line is the median of some samples with the lowest and the highest; the two take turns, sample by
+//! sample. Lent tables are not cleared before a call: they hold what the call before left in them.
+
+mod desk;
+mod rules;
+
+use desk::{Call, Desk};
+use protocol::{Engine, Library, Reference};
+use std::hint::black_box;
+use std::process::ExitCode;
+use std::time::{Duration, Instant};
+
+/// Samples of each.
+const SAMPLES: usize = 11;
+/// How long a sample should take at least.
+const SAMPLE: Duration = Duration::from_millis(2);
+
+fn main() -> ExitCode {
+    if std::env::args_os().len() > 1 {
+        eprintln!("usage: bench");
+        return ExitCode::from(2);
+    }
+    let done = calls().and_then(|()| growth());
+    match done {
+        Ok(()) => ExitCode::SUCCESS,
+        Err(fault) => {
+            eprintln!("bench: {fault}");
+            ExitCode::FAILURE
+        }
+    }
+}
+
+/// Or why it ends early.
+type Done = Result<(), String>;
+
+/// Every call, on small and large rules.
+fn calls() -> Done {
+    heading("calls");
+    let (worked, longest) = (|| Desk::new(rules::worked()), || Desk::new(rules::longest()));
+    let (middle, largest) = (|| Desk::new(rules::ring(4, 3, 6)), || Desk::new(rules::ring(16, 3, 14)));
+    let live = || Desk::new(rules::back_in_the_word(10));
+    line("read, 58 bytes", &mut worked(), Call::Read)?;
+    line("read, 15,760 bytes", &mut longest(), Call::Read)?;
+    line("write, 58 bytes", &mut worked(), Call::Write)?;
+    line("write, 15,760 bytes", &mut longest(), Call::Write)?;
+    line("check rule, 2 edges", &mut worked(), Call::CheckRule)?;
+    line("check rule, 256 edges", &mut longest(), Call::CheckRule)?;
+    line("check table, small", &mut worked(), Call::CheckTable)?;
+    line("check table, largest", &mut largest(), Call::CheckTable)?;
+    line("check word, 4,096 events", &mut middle().with_word(4_096, 3), Call::CheckWord)?;
+    line("build, small", &mut worked(), Call::Build)?;
+    line("build, middle", &mut middle(), Call::Build)?;
+    line("build, largest", &mut largest(), Call::Build)?;
+    line("exact, 4,096 events", &mut live().with_word(4_096, 1), Call::Exact)?;
+    let forking = || Desk::new(rules::forking()).with_word(12, 2);
+    line("branch, 8,190 steps", &mut forking(), Call::Branch)?;
+    line("table, 4,096 events", &mut live().with_word(4_096, 1), Call::Table)?;
+    line("follow, small", &mut worked(), Call::Follow)?;
+    line("follow, middle", &mut middle(), Call::Follow)?;
+    line("follow in place, small", &mut worked(), Call::FollowInPlace)?;
+    line("follow in place, middle", &mut middle(), Call::FollowInPlace)?;
+    line("decide, 8 events", &mut worked().with_word(8, 2), Call::Decide)
+}
+
+/// How the time of a build grows.
+fn growth() -> Done {
+    heading("build, by rows (1 clock, cm 0)");
+    for back in [4, 6, 8, 10, 12] {
+        let mut desk = Desk::new(rules::back_in_the_word(back));
+        line(&format!("R = {}", desk.row_count()), &mut desk, Call::Build)?;
+    }
+    heading("build, by clocks (4 locations, cm 6)");
+    for clocks in 1..=4 {
+        line(&format!("K = {clocks}"), &mut Desk::new(rules::ring(4, clocks, 6)), Call::Build)?;
+    }
+    heading("build, by cm (4 locations, 2 clocks)");
+    for top in [2, 6, 14, 30] {
+        line(&format!("cm = {top}"), &mut Desk::new(rules::ring(4, 2, top)), Call::Build)?;
+    }
+    Ok(())
+}
+
+fn heading(text: &str) {
+    println!("\n{text}");
+    let sizes = format!("{:>30}{:>7}{:>9}", "rows", "N", "cells");
+    println!("{sizes}  {:<30}{:<30}ratio", "library", "reference");
+}
+
+/// Measures a call and prints its line.
+fn line(name: &str, desk: &mut Desk, call: Call) -> Done {
+    let (ours, theirs) = (desk.run::<Library>(call), desk.run::<Reference>(call));
+    if ours != theirs || ours[0] != 0 {
+        return Err(format!("{name}: the library answers {ours:?}, the reference {theirs:?}"));
+    }
+    let rounds = rounds(desk, call);
+    let (mut library, mut reference) = (Vec::new(), Vec::new());
+    for _ in 0..SAMPLES {
+        library.push(sample::<Library>(desk, call, rounds));
+        reference.push(sample::<Reference>(desk, call, rounds));
+    }
+    let (library, reference) = (Spread::of(library), Spread::of(reference));
+    let sizes = format!("{:>5}{:>7}{:>9}", desk.row_count(), desk.codes(), desk.cell_count());
+    let mut ratio = format!("{:.2}", library.median / reference.median);
+    if call == Call::Build {
+        ratio += &format!("  {:.0} ns a cell", library.median * 1e9 / desk.cell_count() as f64);
+    }
+    println!("{name:<25}{sizes}  {:<30}{:<30}{ratio}", library.text(), reference.text());
+    Ok(())
+}
+
+/// How many calls make a sample long enough.
+fn rounds(desk: &mut Desk, call: Call) -> u32 {
+    let mut rounds = 1;
+    while rounds < 1 << 20
+        && sample::<Reference>(desk, call, rounds) * f64::from(rounds) < SAMPLE.as_secs_f64()
+    {
+        rounds *= 2;
+    }
+    rounds
+}
+
+/// Seconds a call takes, over so many.
+fn sample<E: Engine>(desk: &mut Desk, call: Call, rounds: u32) -> f64 {
+    let begun = Instant::now();
+    for _ in 0..rounds {
+        black_box(desk.run::<E>(black_box(call)));
+    }
+    begun.elapsed().as_secs_f64() / f64::from(rounds)
+}
+
+/// Samples in order.
+struct Spread {
+    low: f64,
+    median: f64,
+    high: f64,
+}
+
+impl Spread {
+    fn of(mut samples: Vec<f64>) -> Self {
+        samples.sort_by(f64::total_cmp);
+        Spread { low: samples[0], median: samples[samples.len() / 2], high: samples[samples.len() - 1] }
+    }
+
+    /// The median, and in brackets the lowest and the highest.
+    fn text(&self) -> String {
+        let (unit, name) = match self.median {
+            median if median < 1e-6 => (1e-9, "ns"),
+            median if median < 1e-3 => (1e-6, "us"),
+            _ => (1e-3, "ms"),
+        };
+        let [low, median, high] = [self.low, self.median, self.high].map(|seconds| seconds / unit);
+        format!("{median:.2} {name} ({low:.2}..{high:.2})")
+    }
+}

@@ -1,0 +1,54 @@
+//! The rules that are measured.
+
+/// A record of a rule file.
+fn record(kind: u16, numbers: &[u16]) -> Vec<u8> {
+    let front = [2 * numbers.len() as u16, kind];
+    front.iter().chain(numbers).flat_map(|number| number.to_le_bytes()).collect()
+}
+
+/// The worked case: 3 rows.
+pub fn worked() -> Vec<u8> {
+    let front = [record(1, &[2, 2, 1]), record(2, &[0]), record(3, &[0])].concat();
+    [front, record(5, &[0, 1, 0, 1, 0, 2, 1]), record(5, &[1, 0, 1, 0, 0, 3, 1])].concat()
+}
+
+/// Locations in a ring: symbol k goes on at age 2 of clock k and resets it, one symbol more skips a location.
+pub fn ring(locations: u16, clocks: u16, ceiling: u16) -> Vec<u8> {
+    let mut records = vec![record(1, &[locations, clocks + 1, clocks])];
+    records.extend([record(2, &[0]), record(3, &[locations - 1]), record(4, &[ceiling])]);
+    for location in 0..locations {
+        for clock in 0..clocks {
+            records.push(record(5, &[location, (location + 1) % locations, clock, 1 << clock, clock, 2, 2]));
+        }
+        records.push(record(5, &[location, (location + 2) % locations, clocks, 0, 0, 3, 1]));
+    }
+    records.concat()
+}
+
+/// Accepts the words whose symbol so far back from the end is 1: two to that power rows.
+pub fn back_in_the_word(back: u16) -> Vec<u8> {
+    let mut records = vec![record(1, &[back + 1, 2, 1]), record(2, &[0]), record(3, &[back])];
+    records.extend([[0, 0, 0], [0, 0, 1], [0, 1, 1]].map(|[from, to, on]| record(5, &[from, to, on, 0])));
+    for location in 1..back {
+        records.extend([0, 1].map(|symbol| record(5, &[location, location + 1, symbol, 0])));
+    }
+    records.concat()
+}
+
+/// As long as a legal file can be: 15,760 bytes.
+pub fn longest() -> Vec<u8> {
+    let mut records = vec![record(1, &[32, 16, 2])];
+    for kind in [2, 3] {
+        records.extend((0..32).map(|location| record(kind, &[location])));
+    }
+    records.push(record(4, &[30]));
+    let edge = [vec![31, 31, 15, 0], [1, 4, 30].repeat(8)].concat();
+    records.extend((0..256).map(|_| record(5, &edge)));
+    records.concat()
+}
+
+/// Two edges everywhere and no final location: a search by branch follows them all.
+pub fn forking() -> Vec<u8> {
+    let edges = [record(5, &[0, 0, 0, 0]), record(5, &[0, 0, 0, 0, 0, 3, 0])].concat();
+    [record(1, &[1, 1, 1]), record(2, &[0]), edges].concat()
+}

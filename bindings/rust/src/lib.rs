@@ -1,0 +1,47 @@
+//! Rule files and one-timer tables for open path heads.
+//!
+//! A rule is a timed automaton whose clocks restart only on whole seconds. The office turns it into a table
+//! for one timer, and the head follows events over that table: yes shows the figure 0, no shows a blank
+//! field. All of it is done by the verified library `libhead_library.a`; this crate hands it Rust's slices
+//! and turns its answers into [`Result`]s with a [`Refusal`].
+//!
+//! ```
+//! use alderskein::{Room, Rule, Stamp, Word};
+//!
+//! // The worked case: 0 to 1 on symbol 0 at age 1 with reset, 1 to 0 on symbol 1 at age at least 1.
+//! let file = [
+//!     6, 0, 1, 0, 2, 0, 2, 0, 1, 0, 2, 0, 2, 0, 0, 0, 2, 0, 3, 0, 0, 0, 14, 0, 5, 0, 0, 0, 1, 0, 0, 0, 1,
+//!     0, 0, 0, 2, 0, 1, 0, 14, 0, 5, 0, 1, 0, 0, 0, 1, 0, 0, 0, 0, 0, 3, 0, 1, 0,
+//! ];
+//! let rule = Rule::read(&file)?;
+//! let table = rule.build(Room::default())?;
+//! assert_eq!(table.row_count(), 3);
+//!
+//! let word = Word::new(2).with(0, Stamp(2)).with(1, Stamp(4));
+//! assert!(table.run(&word)?);
+//!
+//! let mut follower = table.follower(2)?;
+//! assert!(!follower.event(0, Stamp(2))?);
+//! assert!(follower.event(1, Stamp(4))?);
+//! # Ok::<(), alderskein::Refusal>(())
+//! ```
+//!
+//! The calls without allocation, with every part of their answers, are in [`raw`].
+//!
+//! The archive is looked for in the folder that the environment variable `ALDERSKEIN_LIB_DIR` names at build
+//! time, else in the repository's `target/staticlib`.
+
+mod follower;
+mod listing;
+pub mod raw;
+mod refusal;
+mod rule;
+mod table;
+mod word;
+
+pub use follower::Follower;
+pub use raw::Stamp;
+pub use refusal::{Cause, Refusal};
+pub use rule::{Rule, Run, EDGE_TABLE, LONGEST_FILE};
+pub use table::{decide, Cell, Room, Table};
+pub use word::Word;

@@ -1,0 +1,86 @@
+//! Rules: read, written, built and run.
+
+use crate::raw::{self, Head, BRANCH_EVENTS};
+use crate::{Refusal, Room, Table, Word};
+
+/// The least length of an edge table: 256 edges of 29 numbers.
+pub const EDGE_TABLE: usize = 7_424;
+/// The longest legal file, in bytes.
+pub const LONGEST_FILE: usize = 15_760;
+
+/// A rule that was read or checked: its head record and its edge table.
+#[derive(Clone, Debug, PartialEq, Eq)]
+pub struct Rule {
+    head: Head,
+    edges: Vec<u16>,
+}
+
+/// A run: where it starts, and the number of its edge for each event, from 0 in file order.
+#[derive(Clone, Debug, PartialEq, Eq)]
+pub struct Run {
+    /// The start location.
+    pub start: u16,
+    /// One edge for each event.
+    pub edges: Vec<u16>,
+}
+
+impl Rule {
+    /// Reads a rule file: 1 to 8.
+    pub fn read(file: &[u8]) -> Result<Rule, Refusal> {
+        let mut edges = vec![0; EDGE_TABLE];
+        let reading = raw::read_rule(file, &mut edges);
+        Refusal::unless_none(reading.number, reading.place, Rule { head: reading.head, edges })
+    }
+
+    /// A rule from its records: 20, 21.
+    pub fn from_parts(head: Head, edges: Vec<u16>) -> Result<Rule, Refusal> {
+        let answer = raw::check_rule(head, &edges);
+        Refusal::unless_none(answer.number, answer.place, Rule { head, edges })
+    }
+
+    /// The head record.
+    pub fn head(&self) -> Head {
+        self.head
+    }
+
+    /// The edge table, 29 numbers per edge.
+    pub fn edges(&self) -> &[u16] {
+        &self.edges
+    }
+
+    /// The rule's file, the same bytes that it was read from.
+    pub fn write(&self) -> Result<Vec<u8>, Refusal> {
+        let mut file = vec![0; LONGEST_FILE];
+        let length = self.write_into(&mut file)?;
+        file.truncate(length);
+        Ok(file)
+    }
+
+    /// Writes the rule's file to the front of the bytes and returns its length: 27.
+    pub fn write_into(&self, out: &mut [u8]) -> Result<usize, Refusal> {
+        let answer = raw::write_rule(self.head, &self.edges, out);
+        Refusal::unless_none(answer.number, answer.place, answer.value)
+    }
+
+    /// Builds the rule's table in room of these lengths: 22, 23, 24.
+    pub fn build(&self, room: Room) -> Result<Table, Refusal> {
+        Table::build(self.head, &self.edges, room)
+    }
+
+    /// Whether the rule accepts the word, with room for so many configurations at a time: 30 to 33, 26.
+    pub fn accepts(&self, word: &Word, configurations: usize) -> Result<bool, Refusal> {
+        let mut scratch = vec![0; configurations * 2 * (self.head.clocks as usize + 1)];
+        let (grain, symbols, stamps) = (word.grain(), word.symbols(), word.stamps());
+        let answer = raw::run_exact(self.head, &self.edges, grain, symbols, stamps, &mut scratch);
+        Refusal::unless_none(answer.number, answer.place, answer.value == 1)
+    }
+
+    /// The accepting run that is least by start, then edge by edge, for at most 12 events: 30 to 33.
+    pub fn least_run(&self, word: &Word) -> Result<Option<Run>, Refusal> {
+        let mut taken = [0; BRANCH_EVENTS];
+        let (grain, symbols, stamps) = (word.grain(), word.symbols(), word.stamps());
+        let answer = raw::run_branches(self.head, &self.edges, grain, symbols, stamps, &mut taken);
+        Refusal::unless_none(answer.number, answer.place, ())?;
+        Ok(answer.found.then(|| Run { start: answer.start, edges: taken[..word.len()].to_vec() }))
+    }
+}

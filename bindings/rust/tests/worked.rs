@@ -1,0 +1,125 @@
+//! The worked case: its records, its listing, and P1 to P8 by every runner.
+
+mod common;
+
+use alderskein::{decide, Cell, Room, Rule, Run, Stamp};
+use common::{record, word, worked, worked_rule, worked_table, Events};
+
+/// D, events and verdict of P1 to P8.
+const WORDS: [(u32, Events, bool); 8] = [
+    (2, &[], true),
+    (2, &[(0, 2)], false),
+    (2, &[(0, 2), (1, 4)], true),
+    (2, &[(0, 2), (1, 3)], false),
+    (2, &[(0, 1)], false),
+    (2, &[(0, 2), (1, 4), (0, 4)], false),
+    (2, &[(0, 2), (1, 4), (0, 4), (1, 6)], true),
+    (3, &[(0, 3), (1, 7)], true),
+];
+
+#[test]
+fn p1_to_p8_by_the_exact_runner() {
+    for (grain, events, verdict) in WORDS {
+        assert_eq!(worked_rule().accepts(&word(grain, events), 2), Ok(verdict), "{events:?}");
+    }
+}
+
+#[test]
+fn p1_to_p8_by_branch() {
+    for (grain, events, verdict) in WORDS {
+        let run = worked_rule().least_run(&word(grain, events)).unwrap();
+        assert_eq!(run.is_some(), verdict, "{events:?}");
+        if let Some(run) = run {
+            let edges: Vec<u16> = events.iter().map(|event| event.0).collect();
+            assert_eq!(run, Run { start: 0, edges }, "edge 0 has symbol 0, edge 1 has symbol 1");
+        }
+    }
+}
+
+#[test]
+fn p1_to_p8_by_the_table() {
+    for (grain, events, verdict) in WORDS {
+        assert_eq!(worked_table().run(&word(grain, events)), Ok(verdict), "{events:?}");
+    }
+}
+
+#[test]
+fn p1_to_p8_by_the_follower() {
+    let table = worked_table();
+    for (grain, events, verdict) in WORDS {
+        let mut follower = table.follower(grain).unwrap();
+        let mut last = table.verdict(0).unwrap();
+        for &(symbol, stamp) in events {
+            last = follower.event(symbol, Stamp(stamp)).unwrap();
+        }
+        assert_eq!(last, verdict, "{events:?}");
+        assert_eq!(follower.record().count as usize, events.len());
+    }
+}
+
+#[test]
+fn p1_to_p8_from_the_file_to_the_answer() {
+    for (grain, events, verdict) in WORDS {
+        assert_eq!(decide(&worked(), Room::LISTING, &word(grain, events)), Ok(verdict), "{events:?}");
+    }
+}
+
+#[test]
+fn the_file_is_read_and_written_back() {
+    let rule = worked_rule();
+    let head = rule.head();
+    assert_eq!((head.locations, head.symbols, head.clocks, head.count), (2, 2, 1, 2));
+    assert_eq!((head.starts, head.ends, head.ceiling), (1, 1, 0));
+    assert_eq!(rule.edges()[..9], [0, 1, 0, 1, 1, 0, 2, 1, 0]);
+    assert_eq!(rule.write().unwrap(), worked());
+    let mut out = [9; 60];
+    assert_eq!(rule.write_into(&mut out), Ok(58));
+    assert_eq!(out[58..], [9, 9], "the bytes past the file are not touched");
+}
+
+#[test]
+fn the_listing() {
+    let listing = "3 2 2 4\n0 1 1 0\n2 2 5 2\n2 2 2 2\n1 0 0\n2 2 2 2\n2 2 2 2\n2 0 1 3\n2 2 2 2\n2 2 0 0\n";
+    assert_eq!(worked_table().to_string(), listing);
+}
+
+#[test]
+fn the_table_by_its_places() {
+    let table = worked_table();
+    assert_eq!(table.row_count(), 3);
+    assert_eq!(table.interval_count(), 4);
+    assert_eq!(table.codes(2), Some([3].as_slice()));
+    assert_eq!(table.codes(3), None);
+    assert_eq!(table.verdict(0), Some(true));
+    assert_eq!(table.cell(0, 0, 2), Some(Cell { next: 2, resets: true }));
+    assert_eq!(table.cell(0, 0, 4), None);
+    assert_eq!(table.cell(0, 2, 0), None);
+    assert_eq!(table.cell(3, 0, 0), None);
+}
+
+#[test]
+fn p9_moves_the_bases_of_branches_without_a_reset_too() {
+    let edges = [record(5, &[0, 0, 0, 0, 0, 2, 1]), record(5, &[0, 1, 0, 1, 0, 2, 1])].concat();
+    let file = [record(1, &[2, 1, 1]), record(2, &[0]), edges].concat();
+    let table = Rule::read(&file).unwrap().build(Room::LISTING).unwrap();
+    let cell = table.cell(0, 0, 2).unwrap();
+    assert!(cell.resets);
+    assert_eq!(table.codes(cell.next as usize), Some([1, 3].as_slice()));
+}
+
+#[test]
+fn the_largest_rule_is_built() {
+    let file = [record(1, &[16, 1, 3]), record(2, &[0]), record(4, &[14])].concat();
+    let table = Rule::read(&file).unwrap().build(Room::default()).unwrap();
+    assert_eq!((table.row_count(), table.built().top), (2, 14));
+    assert_eq!(table.parts().map(<[u32]>::len), [60, 4, 1], "unused places are cut off");
+}
+
+#[test]
+fn a_follower_is_kept_and_resumed() {
+    let table = worked_table();
+    let mut first = table.follower(2).unwrap();
+    assert_eq!(first.event(0, Stamp(2)), Ok(false));
+    let mut second = table.resume(first.record());
+    assert_eq!(second.event(1, Stamp(4)), Ok(true));
+}

@@ -1,0 +1,278 @@
+/*
+ * alderskein.h: rule files and one-timer tables for open path heads.
+ *
+ * Link with libhead_library.a. Every call ends, either with a result or with a numbered refusal and its
+ * place. A lent table is a pointer and a count of numbers; it may have any length, 0 included, and may hold
+ * anything. All that is asked of the caller is what C cannot test: a pointer is valid for its length and not
+ * NULL, and a table that is lent to be written overlaps no other lent table. The library keeps nothing
+ * between calls, allocates nothing and reads no clock.
+ *
+ * In every answer `number` is 0 for none, else the number of the refusal, and `place` its place (0 where
+ * `number` is 0). For each call the refusals stand in the order in which they are checked.
+ *
+ *   THE RULE'S AUTHOR; place: first byte of the record. Per record in this order, then 8 at the end.
+ *    1  fewer than 4 bytes left, or the body passes the end
+ *    2  unknown kind, or a body length its kind does not have
+ *    3  sizes missing or repeated, a kind that falls, second ceiling, locations not rising;
+ *       an empty file is 3 at place 0
+ *    4  edge 257
+ *    5  L, S or K outside its range
+ *    6  location, symbol, clock, mask bit, relation, constant or ceiling outside its range
+ *    7  resets with no relation 2
+ *    8  N over 65,536; place: the file's length
+ *
+ *   THE CALLER; place 0, save for 26.
+ *   20  edge table shorter than 7,424 numbers
+ *   21  head record and edge table are not what reading some accepted file leaves
+ *   22  build scratch shorter than N numbers
+ *   23  a row's number is not below the least of 4,096, half the row table and the cell table over S * W
+ *   24  else the pool is too short for it (23, 24: for the first row, by number, that does not fit)
+ *   25  built record or its tables out of shape: a size out of range, N over 65,536, R outside 1 to 4,096,
+ *       tables shorter than R and P need, a row that does not start where the one before it ends (row 0
+ *       at 0), lengths that do not add up to P, a code not below N, a cell's row not below R, a timer reset
+ *       at an odd interval number
+ *   26  more configurations than room after event i; place: i, 0 before the first event
+ *   27  output shorter than the file to be written
+ *   34  follower with row not below R, reset stamp above last stamp or no multiple of D, or count over 4,096
+ *
+ *   THE SENDER OF THE WORD; place: event from 1, 0 for 30 and 31. The earliest bad event is named.
+ *   30  D outside 1 to 1,000
+ *   31  symbol and stamp counts differ, or too many events
+ *   32  symbol not below S
+ *   33  stamp below the one before (an event has 32 tested before 33)
+ *
+ * Here L, S, K are the counts of locations, symbols and clocks; cm is the largest constant in any atom, or
+ * the ceiling if that is larger; N = L * (cm + 2)^K; W = 2 * cm + 2; R and P count the rows and their codes.
+ */
+#ifndef ALDERSKEIN_H
+#define ALDERSKEIN_H
+
+#include <stdbool.h>
+#include <stddef.h>
+#include <stdint.h>
+
+#ifdef __cplusplus
+extern "C" {
+#endif
+
+/* The least length of an edge table: 256 edges of 29 numbers. */
+#define ALDERSKEIN_EDGE_TABLE 7424
+/* The longest legal file, in bytes. */
+#define ALDERSKEIN_LONGEST_FILE 15760
+/* The most events of a word, and of a word run by branch. */
+#define ALDERSKEIN_EVENTS 4096
+#define ALDERSKEIN_BRANCH_EVENTS 12
+/* The most rows of a table, and the largest N. */
+#define ALDERSKEIN_ROWS 4096
+#define ALDERSKEIN_CODES 65536
+
+/* A time since the start of the word, in D-ths of a second. */
+typedef struct {
+    uint32_t at;
+} alderskein_stamp;
+
+/* The head record of a rule. Sets have a bit for each location, bit 0 for location 0. */
+typedef struct {
+    uint32_t locations; /* L, 1 to 32 */
+    uint32_t symbols;   /* S, 1 to 16 */
+    uint32_t clocks;    /* K, 1 to 4 */
+    uint32_t starts;    /* initial locations */
+    uint32_t ends;      /* final locations */
+    uint32_t ceiling;   /* 0 for none, or its number plus 1 */
+    uint32_t count;     /* edges, at most 256 */
+} alderskein_head;
+
+/* The built record of a table. */
+typedef struct {
+    uint32_t locations; /* L */
+    uint32_t symbols;   /* S */
+    uint32_t clocks;    /* K */
+    uint32_t top;       /* cm */
+    uint32_t ends;      /* final locations */
+    uint32_t rows;      /* R */
+    uint32_t total;     /* P */
+} alderskein_built;
+
+/* The follower: one timer over a table. */
+typedef struct {
+    uint32_t grain;         /* D */
+    uint32_t row;           /* the present row */
+    alderskein_stamp reset; /* stamp of the last timer reset */
+    alderskein_stamp last;  /* last stamp */
+    uint32_t count;         /* events so far */
+} alderskein_follower;
+
+/* The value is the count of bytes written, or 1 for yes and 0 for no; 0 on a refusal and from the checks. */
+typedef struct {
+    uint8_t number;
+    size_t place;
+    size_t value;
+} alderskein_answer;
+
+typedef struct {
+    uint8_t number;
+    size_t place;
+    alderskein_head head; /* all zero on a refusal */
+} alderskein_reading;
+
+typedef struct {
+    uint8_t number;
+    size_t place;
+    alderskein_built built; /* all zero on a refusal */
+} alderskein_building;
+
+/* With `taken`: an accepting run. All zero where there is none, and on a refusal. */
+typedef struct {
+    uint8_t number;
+    size_t place;
+    bool found;
+    uint16_t start; /* start location */
+} alderskein_branch;
+
+typedef struct {
+    uint8_t number;
+    size_t place;
+    alderskein_follower follower;
+} alderskein_started;
+
+typedef struct {
+    uint8_t number;
+    size_t place;
+    bool yes; /* the verdict of the row after the event; false on a refusal */
+    alderskein_follower follower;
+} alderskein_followed;
+
+typedef struct {
+    uint8_t number;
+    size_t place;
+    bool yes;
+} alderskein_moved;
+
+/*
+ * Checks that a head record and an edge table are what reading some accepted file leaves.
+ * Refuses: 20, 21. Changes nothing.
+ */
+alderskein_answer alderskein_check_rule(alderskein_head head, const uint16_t *edges, size_t edges_length);
+
+/*
+ * Reads a rule file. The edge table has 29 numbers per edge: source, target, symbol, mask of clocks to reset,
+ * atom count, eight atoms of clock, relation, constant; unused places, also those past 7,424, are zero.
+ * Refuses: 20, then 1 to 8. After 20 the edge table is untouched, after 1 to 8 it is all zero.
+ */
+alderskein_reading alderskein_read_rule(const uint8_t *file, size_t file_length,
+                                        uint16_t *edges, size_t edges_length);
+
+/*
+ * Writes the rule as a file, the same bytes that it was read from; the value is the file's length.
+ * Refuses: 20, 21, 27, and then `out` is untouched. The bytes past the file are not touched.
+ */
+alderskein_answer alderskein_write_rule(alderskein_head head, const uint16_t *edges, size_t edges_length,
+                                        uint8_t *out, size_t out_length);
+
+/*
+ * Checks a word of at most `most` events over `symbol_count` symbols with `grain` as D.
+ * Refuses: 30, 31, 32, 33. Changes nothing.
+ */
+alderskein_answer alderskein_check_word(uint32_t symbol_count, uint32_t grain, uint32_t most,
+                                        const uint16_t *symbols, size_t symbols_length,
+                                        const uint32_t *stamps, size_t stamps_length);
+
+/*
+ * Builds the table of a rule. Cells: next row * 2, plus 1 if the timer is reset, at
+ * (row * S + symbol) * W + interval, where interval 2c is [c], 2c + 1 is (c, c + 1) and 2 * cm + 1 is
+ * everything above cm. Rows: start and length in the pool, two numbers each. Pool: the rows' codes, each row
+ * ascending, the rows one after another by number from place 0 without gaps.
+ * Refuses: 20, 21, 22, which leave all four lent tables untouched; then 23 and 24, which leave them all zero.
+ * On success unused places of the three tables are zero, and so is the whole scratch.
+ */
+alderskein_building alderskein_build_table(alderskein_head head, const uint16_t *edges, size_t edges_length,
+                                           uint32_t *scratch, size_t scratch_length,
+                                           uint32_t *cells, size_t cells_length,
+                                           uint32_t *rows, size_t rows_length,
+                                           uint32_t *pool, size_t pool_length);
+
+/* Checks the shape of a built record and its tables, from any source. Refuses: 25. Changes nothing. */
+alderskein_answer alderskein_check_table(alderskein_built built, const uint32_t *cells, size_t cells_length,
+                                         const uint32_t *rows, size_t rows_length,
+                                         const uint32_t *pool, size_t pool_length);
+
+/*
+ * Runs a word of at most 4,096 events over a table; the value is 1 for yes, 0 for no.
+ * Refuses: 25, 30, 31, 32, 33. Changes nothing.
+ */
+alderskein_answer alderskein_run_table(alderskein_built built, const uint32_t *cells, size_t cells_length,
+                                       const uint32_t *rows, size_t rows_length,
+                                       const uint32_t *pool, size_t pool_length, uint32_t grain,
+                                       const uint16_t *symbols, size_t symbols_length,
+                                       const uint32_t *stamps, size_t stamps_length);
+
+/*
+ * Runs a word of at most 4,096 events over the rule itself, all distinct configurations kept in the scratch,
+ * which has room for scratch_length / (2 * (K + 1)) of them, rounded down; the value is 1 for yes, 0 for no.
+ * Refuses: 20, 21, 30, 31, 32, 33, which leave the scratch untouched; then 26. After 26 and on success the
+ * whole scratch is zero.
+ */
+alderskein_answer alderskein_run_exact(alderskein_head head, const uint16_t *edges, size_t edges_length,
+                                       uint32_t grain, const uint16_t *symbols, size_t symbols_length,
+                                       const uint32_t *stamps, size_t stamps_length,
+                                       uint32_t *scratch, size_t scratch_length);
+
+/*
+ * Looks for the accepting run of a word of at most 12 events that is least by start, then edge by edge. Edges
+ * are numbered from 0 in file order; places of `taken` past the word's events are zero.
+ * Refuses: 20, 21, 30, 31, 32, 33. Where it refuses, and where no run accepts, all of `taken` is zero.
+ */
+alderskein_branch alderskein_run_branches(alderskein_head head, const uint16_t *edges, size_t edges_length,
+                                          uint32_t grain, const uint16_t *symbols, size_t symbols_length,
+                                          const uint32_t *stamps, size_t stamps_length,
+                                          uint16_t taken[ALDERSKEIN_BRANCH_EVENTS]);
+
+/* A follower with this D and all else zero. Refuses: 30, and then D is zero too. */
+alderskein_started alderskein_start_follower(uint32_t grain);
+
+/*
+ * Takes one event, number count + 1, and returns the follower after it and its row's verdict.
+ * Refuses: 25, 30, 34, 31 (count is 4,096), 32, 33. A refused event leaves the follower unchanged.
+ */
+alderskein_followed alderskein_follow_event(alderskein_follower follower, alderskein_built built,
+                                            const uint32_t *cells, size_t cells_length,
+                                            const uint32_t *rows, size_t rows_length,
+                                            const uint32_t *pool, size_t pool_length,
+                                            uint16_t symbol, alderskein_stamp stamp);
+
+/*
+ * The same, the follower brought forward where it is kept.
+ * Refuses: 25, 30, 34, 31, 32, 33. A refused event leaves the follower unchanged.
+ */
+alderskein_moved alderskein_follow_in_place(alderskein_follower *follower, alderskein_built built,
+                                            const uint32_t *cells, size_t cells_length,
+                                            const uint32_t *rows, size_t rows_length,
+                                            const uint32_t *pool, size_t pool_length,
+                                            uint16_t symbol, alderskein_stamp stamp);
+
+/*
+ * The reader, the builder and the table runner in a row: the value is 1 exactly if the rule in the file
+ * accepts the word, and 0 if it does not. The first refusal met ends it: 20, 1 to 8, 22, 23, 24, 30 to 33.
+ *
+ *   refused by       edges           scratch     cells, rows, pool
+ *   reader, 20       untouched       untouched   untouched
+ *   reader, 1 to 8   zero            untouched   untouched
+ *   builder, 22      hold the rule   untouched   untouched
+ *   builder, 23, 24  hold the rule   zero        zero
+ *   runner, 30 to 33 hold the rule   zero        as built
+ *   none             hold the rule   zero        as built
+ */
+alderskein_answer alderskein_decide(const uint8_t *file, size_t file_length,
+                                    uint16_t *edges, size_t edges_length,
+                                    uint32_t *scratch, size_t scratch_length,
+                                    uint32_t *cells, size_t cells_length,
+                                    uint32_t *rows, size_t rows_length,
+                                    uint32_t *pool, size_t pool_length, uint32_t grain,
+                                    const uint16_t *symbols, size_t symbols_length,
+                                    const uint32_t *stamps, size_t stamps_length);
+
+#ifdef __cplusplus
+}
+#endif
+
+#endif

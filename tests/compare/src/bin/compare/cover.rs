@@ -1,0 +1,232 @@
+//! What came up: refusals call by call, verdicts runner by runner, limits.
+
+use protocol::{Call, Reply, State, What};
+use std::collections::BTreeMap;
+use std::fmt;
+
+/// The refusals that each call can give.
+const REFUSALS: [(&str, &[u8]); 13] = [
+    ("check_rule", &[20, 21]),
+    ("read", &[20, 1, 2, 3, 4, 5, 6, 7, 8]),
+    ("write", &[20, 21, 27]),
+    ("check_word", &[30, 31, 32, 33]),
+    ("build", &[20, 21, 22, 23, 24]),
+    ("check_table", &[25]),
+    ("table", &[25, 30, 31, 32, 33]),
+    ("exact", &[20, 21, 30, 31, 32, 33, 26]),
+    ("branch", &[20, 21, 30, 31, 32, 33]),
+    ("start", &[30]),
+    ("follow", &[25, 30, 34, 31, 32, 33]),
+    ("follow_in_place", &[25, 30, 34, 31, 32, 33]),
+    ("decide", &[20, 1, 2, 3, 4, 5, 6, 7, 8, 22, 23, 24, 30, 31, 32, 33]),
+];
+
+/// The calls that answer yes or no.
+const RUNNERS: [&str; 6] = ["exact", "branch", "table", "follow", "follow_in_place", "decide"];
+
+/// The limits and corners that must come up.
+const LIMITS: [&str; 28] = [
+    "read: L = 32",
+    "read: S = 16",
+    "read: K = 4",
+    "read: no initial location",
+    "read: no final location",
+    "read: no edge",
+    "read: 256 edges",
+    "read: 8 atoms",
+    "read: longest file",
+    "read: longer edge table",
+    "write: just fits",
+    "build: cm = 30",
+    "build: N = 65,536",
+    "build: R = 4,096",
+    "build: more than 4,096 rows",
+    "build: row table full",
+    "build: cell table full",
+    "build: just fits",
+    "table: filled by hand",
+    "table: filled by hand, R = 4,096",
+    "table: filled by hand, cm = 30",
+    "follow: timer reset",
+    "follow: event 4,096",
+    "exact: 4,096 events",
+    "exact: no room at the start",
+    "branch: 12 events",
+    "table: 4,096 events",
+    "table: stamp over 2^31",
+];
+
+/// The counts.
+pub struct Cover {
+    /// Calls of the library.
+    pub calls: u64,
+    answers: BTreeMap<(&'static str, u8), u64>,
+    verdicts: BTreeMap<(&'static str, bool), u64>,
+    limits: BTreeMap<&'static str, u64>,
+    /// Whether the state's table was changed by hand since it was built.
+    by_hand: bool,
+}
+
+impl Cover {
+    pub fn new() -> Self {
+        Cover {
+            calls: 0,
+            answers: REFUSALS
+                .iter()
+                .flat_map(|(name, numbers)| numbers.iter().map(|&number| ((*name, number), 0)))
+                .collect(),
+            verdicts: RUNNERS.iter().flat_map(|&name| [((name, false), 0), ((name, true), 0)]).collect(),
+            limits: LIMITS.iter().map(|&name| (name, 0)).collect(),
+            by_hand: false,
+        }
+    }
+
+    /// Counts a command with its reply and the state after it.
+    pub fn count(&mut self, call: &Call, reply: &Reply, state: &State) {
+        match (call, reply) {
+            (Call::Poke { what, .. }, _) => self.by_hand |= !matches!(what, What::Follower | What::Head),
+            (_, Reply::Built(..)) => self.by_hand = false,
+            (_, Reply::Walked(steps)) => {
+                for step in steps {
+                    self.count_answer("follow", step.number, Some(step.yes));
+                    self.mark("follow: timer reset", step.follower.reset.0 > 0);
+                    self.mark("follow: event 4,096", step.number == 0 && step.follower.count == 4_096);
+                }
+                return;
+            }
+            _ => {}
+        }
+        if let Some((number, _)) = reply.refusal() {
+            self.count_answer(call.name(), number, reply.verdict());
+            self.count_limits(call, reply, state);
+        }
+    }
+
+    fn count_answer(&mut self, name: &'static str, number: u8, verdict: Option<bool>) {
+        self.calls += 1;
+        if number != 0 {
+            *self.answers.entry((name, number)).or_default() += 1;
+        } else if let Some(yes) = verdict {
+            *self.verdicts.entry((name, yes)).or_default() += 1;
+        }
+    }
+
+    /// Counts a limit that was reached.
+    fn mark(&mut self, name: &'static str, reached: bool) {
+        *self.limits.entry(name).or_default() += u64::from(reached);
+    }
+
+    fn count_limits(&mut self, call: &Call, reply: &Reply, state: &State) {
+        match (call, reply) {
+            (Call::Read { file, .. }, Reply::Read(reading)) if reading.number == 0 => {
+                self.count_read(file, state);
+            }
+            (Call::Write { out, .. }, Reply::Written(answer, _)) => {
+                self.mark("write: just fits", answer.number == 0 && answer.value == *out);
+            }
+            (_, Reply::Built(building, _)) if matches!(building.number, 0 | 23) => {
+                self.count_build(building.number, state);
+            }
+            (Call::Table { word }, Reply::Table(answer)) if answer.number == 0 => {
+                let (by_hand, built) = (self.by_hand, state.built);
+                self.mark("table: filled by hand", by_hand);
+                self.mark("table: filled by hand, R = 4,096", by_hand && built.rows == 4_096);
+                self.mark("table: filled by hand, cm = 30", by_hand && built.top == 30);
+                self.mark("table: 4,096 events", word.symbols.len() == 4_096);
+                self.mark("table: stamp over 2^31", word.stamps.last().is_some_and(|&stamp| stamp > 1 << 31));
+            }
+            (Call::Exact { word, .. }, Reply::Exact(answer, _)) => {
+                self.mark("exact: 4,096 events", answer.number == 0 && word.symbols.len() == 4_096);
+                self.mark("exact: no room at the start", answer.number == 26 && answer.place == 0);
+            }
+            (Call::Branch { word }, Reply::Branch(answer, _)) => {
+                self.mark("branch: 12 events", answer.number == 0 && word.symbols.len() == 12);
+            }
+            (_, Reply::Followed(_) | Reply::Moved(_)) => {
+                let whole = reply.refusal() == Some((0, 0));
+                self.mark("follow: event 4,096", whole && state.follower.count == 4_096);
+            }
+            _ => {}
+        }
+    }
+
+    fn count_read(&mut self, file: &[u8], state: &State) {
+        let head = state.head;
+        self.mark("read: L = 32", head.locations == 32);
+        self.mark("read: S = 16", head.symbols == 16);
+        self.mark("read: K = 4", head.clocks == 4);
+        self.mark("read: no initial location", head.starts == 0);
+        self.mark("read: no final location", head.ends == 0);
+        self.mark("read: no edge", head.count == 0);
+        self.mark("read: 256 edges", head.count == 256);
+        self.mark("read: 8 atoms", state.edges.chunks(29).any(|edge| edge.get(4) == Some(&8)));
+        self.mark("read: longest file", file.len() == 15_760);
+        self.mark("read: longer edge table", state.edges.len() > 7_424);
+    }
+
+    fn count_build(&mut self, number: u8, state: &State) {
+        let built = state.built;
+        let rows = state.rows.len() / 2;
+        let rows_of_cells = state.cells.len() / row_cells(state);
+        if number == 23 {
+            self.mark("build: more than 4,096 rows", rows > 4_096 && rows_of_cells > 4_096);
+            self.mark("build: row table full", rows < rows_of_cells);
+            self.mark("build: cell table full", rows_of_cells < rows);
+        } else if number == 0 {
+            let total = state.pool.len() == built.total as usize;
+            let rows_fit = rows == built.rows as usize && rows_of_cells == rows;
+            self.mark("build: cm = 30", built.top == 30);
+            self.mark("build: N = 65,536", built.locations * (built.top + 2).pow(built.clocks) == 65_536);
+            self.mark("build: R = 4,096", built.rows == 4_096);
+            self.mark("build: just fits", rows_fit && total);
+        }
+    }
+
+    /// What has not come up.
+    pub fn missing(&self) -> Vec<String> {
+        let answers = self.answers.iter().filter(|(_, &count)| count == 0);
+        let verdicts = self.verdicts.iter().filter(|(_, &count)| count == 0);
+        let limits = self.limits.iter().filter(|(_, &count)| count == 0);
+        let mut missing: Vec<String> =
+            answers.map(|((name, number), _)| format!("{name} {number}")).collect();
+        missing.extend(verdicts.map(|((name, yes), _)| format!("{name} {}", yes_or_no(*yes))));
+        missing.extend(limits.map(|(name, _)| name.to_string()));
+        missing
+    }
+}
+
+/// S · W of the rule in the state.
+fn row_cells(state: &State) -> usize {
+    let edges = state.edges.chunks_exact(29).take(state.head.count as usize);
+    let constants = edges.flat_map(|edge| edge[5..].iter().skip(2).step_by(3));
+    let top = constants.map(|&constant| u32::from(constant)).max().unwrap_or(0);
+    let top = top.max(state.head.ceiling.saturating_sub(1));
+    (state.head.symbols * (2 * top + 2)).max(1) as usize
+}
+
+fn yes_or_no(yes: bool) -> &'static str {
+    if yes {
+        "yes"
+    } else {
+        "no"
+    }
+}
+
+impl fmt::Display for Cover {
+    fn fmt(&self, f: &mut fmt::Formatter) -> fmt::Result {
+        for (name, _) in REFUSALS {
+            write!(f, "{name:>16}")?;
+            for ((_, yes), count) in self.verdicts.range((name, false)..=(name, true)) {
+                write!(f, "  {} {count}", yes_or_no(*yes))?;
+            }
+            for ((_, number), count) in self.answers.range((name, 0)..=(name, u8::MAX)) {
+                write!(f, "  {number}:{count}")?;
+            }
+            writeln!(f)?;
+        }
+        for (name, count) in &self.limits {
+            writeln!(f, "{count:>16}  {name}")?;
+        }
+        Ok(())
+    }
+}

@@ -1,0 +1,167 @@
+//! Rules at their limits, and one past them.
+
+use crate::random::Random;
+use crate::rules::{any_edge, largest_top, record, Edge, Rule};
+use crate::scene::Scene;
+use protocol::{Call, Room, Word};
+
+/// Room for some rows of any rule, so that a build ends soon.
+const FEW_ROWS: Room = Room { scratch: 65_536, cells: 3_000, rows: 24, pool: 300 };
+
+/// Files at a limit, read, written and decided over.
+pub fn at_limit(scene: &mut Scene) {
+    for _ in 0..4 {
+        let file = limit_file(scene.random);
+        scene.read(file.clone());
+        scene.add(Call::CheckRule);
+        scene.write(file.len());
+        if scene.random.chance(5) {
+            scene.add(Call::List { file: file.clone() });
+        }
+        let word = Word { grain: 2, symbols: vec![0, 0], stamps: vec![2, 4] };
+        scene.exact(&empty_rule(1, 1, 1), word.clone());
+        scene.decide(file, FEW_ROWS, word);
+    }
+}
+
+fn limit_file(random: &mut Random) -> Vec<u8> {
+    match random.below(8) {
+        0 => sizes(random),
+        1 | 2 => codes(random),
+        3 => edge_count(random),
+        4 => longest(random),
+        5 => location_sets(random),
+        _ => one_edge(random),
+    }
+}
+
+fn empty_rule(locations: u16, symbols: u16, clocks: u16) -> Rule {
+    Rule { locations, symbols, clocks, initial: vec![0], finals: vec![0], ceiling: None, edges: vec![] }
+}
+
+/// L, S and K about their limits.
+fn sizes(random: &mut Random) -> Vec<u8> {
+    let about = |random: &mut Random, limit| random.pick(&[0, 1, limit - 1, limit, limit, limit, limit + 1]);
+    let (locations, symbols, clocks) = (about(random, 32), about(random, 16), about(random, 4));
+    let front = record(1, &[locations, symbols, clocks]);
+    [front, record(2, &[0]), record(3, &[locations.saturating_sub(1)])].concat()
+}
+
+/// N at 65,536, below and above, by the ceiling or by an atom.
+fn codes(random: &mut Random) -> Vec<u8> {
+    let clocks = random.between(1, 4) as u16;
+    let locations = random.pick(&[1, 2, 3, 15, 16, 17, 31, 32]);
+    let top = (largest_top(locations, clocks) + random.below(2) as u16).min(31);
+    let mut rule = empty_rule(locations, 1, clocks);
+    if random.chance(50) {
+        rule.ceiling = Some(top);
+    } else {
+        rule.edges =
+            vec![Edge { source: 0, target: 0, symbol: 0, mask: 0, atoms: vec![[clocks - 1, 2, top]] }];
+    }
+    rule.file()
+}
+
+/// 255 to 257 edges, the last one sometimes with a fault of its own.
+fn edge_count(random: &mut Random) -> Vec<u8> {
+    let mut rule = empty_rule(3, 2, 2);
+    let count = random.pick(&[255, 256, 256, 257, 257]);
+    rule.edges = (0..count).map(|_| any_edge(random, &rule, 2)).collect();
+    let mut records = rule.records();
+    if random.chance(40) {
+        let last = records.len() - 1;
+        records[last] = record(random.pick(&[4, 5, 6]), &[9; 4][..random.pick(&[1, 3, 4, 4])]);
+    }
+    records.concat()
+}
+
+/// As long as a legal file can be, or a little longer.
+fn longest(random: &mut Random) -> Vec<u8> {
+    let all: Vec<u16> = (0..32).collect();
+    let atoms = vec![[1, 4, 30]; random.pick(&[8, 8, 8, 9])];
+    let edge = Edge { source: 31, target: 31, symbol: 15, mask: 0, atoms };
+    let mut rule = empty_rule(32, 16, 2);
+    (rule.initial, rule.finals, rule.ceiling) = (all.clone(), all, Some(30));
+    rule.edges = vec![edge; 256];
+    let mut file = rule.file();
+    file.extend(vec![0; random.pick(&[0, 0, 0, 700])]);
+    file
+}
+
+/// Sets of locations that rise, stay or fall, up to the last location or past it.
+fn location_sets(random: &mut Random) -> Vec<u8> {
+    let locations = random.pick(&[1, 2, 31, 32]);
+    let mut rule = empty_rule(locations, 1, 1);
+    for set in [&mut rule.initial, &mut rule.finals] {
+        *set = (0..random.below(4)).map(|_| random.pick(&[0, 1, locations - 1, locations])).collect();
+        if random.chance(60) {
+            set.sort_unstable();
+            set.dedup();
+        }
+    }
+    rule.file()
+}
+
+/// One edge with every number at its limit, and at most two of them past it.
+fn one_edge(random: &mut Random) -> Vec<u8> {
+    let (locations, symbols, clocks) = (random.between(1, 4) as u16, 3, random.between(1, 3) as u16);
+    let atoms = random.pick(&[1, 2, 7, 8, 9]);
+    let mut numbers = vec![locations - 1, locations - 1, symbols - 1, (1 << clocks) - 1];
+    for _ in 0..atoms {
+        numbers.extend([clocks - 1, random.pick(&[0, 1, 2, 3, 4]), random.pick(&[0, 14, 30])]);
+    }
+    for _ in 0..random.below(3) {
+        let place = random.below(numbers.len());
+        numbers[place] += 1;
+    }
+    let ceiling = random.pick(&[0, 14, 30, 31]);
+    let front = [record(1, &[locations, symbols, clocks]), record(4, &[ceiling])].concat();
+    [front, record(5, &numbers)].concat()
+}
+
+/// Rules with N = 65,536, built.
+pub fn largest(scene: &mut Scene) {
+    let (locations, clocks) = scene.random.pick(&[(16, 3), (16, 3), (2, 3), (1, 4), (16, 4)]);
+    let mut rule = empty_rule(locations, 2, clocks);
+    rule.ceiling = Some(largest_top(locations, clocks));
+    rule.finals = vec![locations - 1];
+    let constant = scene.random.between(1, 5) as u16;
+    let count = scene.random.between(3, 10 + usize::from(locations));
+    rule.edges = (0..count).map(|_| any_edge(scene.random, &rule, constant)).collect();
+    scene.read_surely(&rule);
+    let scratch = 65_536 - scene.random.pick(&[0, 0, 0, 0, 0, 1]);
+    let cells = 150 * 2 * rule.intervals() + scene.random.below(40);
+    let rows = scene.random.pick(&[300, 160]);
+    scene.build(Room { scratch, cells, rows, pool: 6_000 });
+    scene.add(Call::CheckTable);
+    for _ in 0..2 {
+        let word = scene.word(&rule, 10);
+        scene.run_everywhere(&rule, &word);
+    }
+}
+
+/// Rules with a row for each set of the last symbols: 4,096 of them, and twice as many.
+pub fn many_rows(scene: &mut Scene) {
+    let rule = back_in_the_word(12);
+    scene.read_surely(&rule);
+    let exact = Room { scratch: 26, cells: 16_384, rows: 8_192, pool: 28_672 };
+    scene.build(exact);
+    scene.add(Call::CheckTable);
+    let word = scene.word(&rule, 30);
+    scene.run_everywhere(&rule, &word);
+    let rule = back_in_the_word(13);
+    scene.read_surely(&rule);
+    scene.build(Room { scratch: 28, cells: 40_000, rows: 20_000, pool: 200_000 });
+}
+
+/// Accepts the words whose symbol so far back from the end is 1.
+fn back_in_the_word(back: u16) -> Rule {
+    let mut rule = empty_rule(back + 1, 2, 1);
+    rule.finals = vec![back];
+    let edge = |source, target, symbol| Edge { source, target, symbol, mask: 0, atoms: vec![] };
+    rule.edges = vec![edge(0, 0, 0), edge(0, 0, 1), edge(0, 1, 1)];
+    for location in 1..back {
+        rule.edges.extend([0, 1].map(|symbol| edge(location, location + 1, symbol)));
+    }
+    rule
+}

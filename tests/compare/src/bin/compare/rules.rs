@@ -1,0 +1,162 @@
+//! Random rules and their files.
+
+use crate::random::Random;
+
+/// An edge; an atom is clock, relation, constant.
+#[derive(Clone, Debug)]
+pub struct Edge {
+    pub source: u16,
+    pub target: u16,
+    pub symbol: u16,
+    pub mask: u16,
+    pub atoms: Vec<[u16; 3]>,
+}
+
+/// A rule as its file spells it.
+#[derive(Clone, Debug)]
+pub struct Rule {
+    pub locations: u16,
+    pub symbols: u16,
+    pub clocks: u16,
+    pub initial: Vec<u16>,
+    pub finals: Vec<u16>,
+    pub ceiling: Option<u16>,
+    pub edges: Vec<Edge>,
+}
+
+/// How large a random rule may be.
+pub struct Bounds {
+    pub locations: usize,
+    pub symbols: usize,
+    pub clocks: usize,
+    pub edges: usize,
+    pub constant: usize,
+}
+
+pub const SMALL: Bounds = Bounds { locations: 4, symbols: 3, clocks: 2, edges: 10, constant: 2 };
+pub const MIDDLE: Bounds = Bounds { locations: 8, symbols: 4, clocks: 4, edges: 24, constant: 4 };
+pub const WIDE: Bounds = Bounds { locations: 32, symbols: 16, clocks: 4, edges: 90, constant: 30 };
+
+/// A record of a rule file.
+pub fn record(kind: u16, numbers: &[u16]) -> Vec<u8> {
+    let front = [2 * numbers.len() as u16, kind];
+    front.iter().chain(numbers).flat_map(|number| number.to_le_bytes()).collect()
+}
+
+impl Edge {
+    pub fn record(&self) -> Vec<u8> {
+        let front = [self.source, self.target, self.symbol, self.mask];
+        record(5, &[&front, self.atoms.as_flattened()].concat())
+    }
+
+    /// Whether all atoms hold at these ages, in D-ths of a second.
+    pub fn allows(&self, ages: &[u32], grain: u32) -> bool {
+        self.atoms.iter().all(|&[clock, relation, constant]| {
+            let (age, bound) = (ages[usize::from(clock)], u32::from(constant) * grain);
+            match relation {
+                0 => age < bound,
+                1 => age <= bound,
+                2 => age == bound,
+                3 => age >= bound,
+                _ => age > bound,
+            }
+        })
+    }
+}
+
+impl Rule {
+    /// The file's records.
+    pub fn records(&self) -> Vec<Vec<u8>> {
+        let mut records = vec![record(1, &[self.locations, self.symbols, self.clocks])];
+        records.extend(self.initial.iter().map(|&location| record(2, &[location])));
+        records.extend(self.finals.iter().map(|&location| record(3, &[location])));
+        records.extend(self.ceiling.iter().map(|&ceiling| record(4, &[ceiling])));
+        records.extend(self.edges.iter().map(Edge::record));
+        records
+    }
+
+    pub fn file(&self) -> Vec<u8> {
+        self.records().concat()
+    }
+
+    /// cm.
+    pub fn top(&self) -> u16 {
+        let constants = self.edges.iter().flat_map(|edge| edge.atoms.iter().map(|atom| atom[2]));
+        constants.chain(self.ceiling).max().unwrap_or(0)
+    }
+
+    /// N.
+    pub fn code_count(&self) -> usize {
+        code_count(self.locations, self.clocks, self.top())
+    }
+
+    /// W.
+    pub fn intervals(&self) -> usize {
+        2 * usize::from(self.top()) + 2
+    }
+}
+
+fn code_count(locations: u16, clocks: u16, top: u16) -> usize {
+    usize::from(locations) * (usize::from(top) + 2).pow(u32::from(clocks))
+}
+
+/// The largest cm for so many locations and clocks.
+pub fn largest_top(locations: u16, clocks: u16) -> u16 {
+    (0..=30).rev().find(|&top| code_count(locations, clocks, top) <= 65_536).unwrap_or(0)
+}
+
+/// A rule that the reader accepts.
+pub fn any_rule(random: &mut Random, bounds: &Bounds) -> Rule {
+    let locations = random.between(1, bounds.locations) as u16;
+    let symbols = random.between(1, bounds.symbols) as u16;
+    let clocks = random.between(1, bounds.clocks) as u16;
+    let most = usize::from(largest_top(locations, clocks)).min(bounds.constant);
+    let constant = random.between(0, most) as u16;
+    let edge_count = if random.chance(3) { 0 } else { random.between(bounds.edges / 3, bounds.edges) };
+    let mut rule =
+        Rule { locations, symbols, clocks, initial: vec![], finals: vec![], ceiling: None, edges: vec![] };
+    rule.initial = some_locations(random, locations);
+    rule.finals = some_locations(random, locations);
+    rule.ceiling = random.chance(20).then(|| random.between(0, most) as u16);
+    rule.edges = (0..edge_count).map(|_| any_edge(random, &rule, constant)).collect();
+    rule
+}
+
+/// A set of locations, now and then empty or all.
+fn some_locations(random: &mut Random, locations: u16) -> Vec<u16> {
+    let percent = random.pick(&[0, 30, 30, 50, 50, 50, 100]);
+    (0..locations).filter(|_| random.chance(percent)).collect()
+}
+
+/// An edge that the reader accepts.
+pub fn any_edge(random: &mut Random, rule: &Rule, constant: u16) -> Edge {
+    let resets = random.chance(45);
+    let mask = if resets { random.below(1 << rule.clocks) as u16 } else { 0 };
+    let atom_count = if random.chance(2) { 8 } else { random.pick(&[0, 0, 1, 1, 1, 2, 3]) };
+    let mut atoms: Vec<[u16; 3]> = (0..atom_count).map(|_| any_atom(random, rule, constant)).collect();
+    if mask != 0 && atoms.iter().all(|atom| atom[1] != 2) {
+        let [clock, _, constant] = any_atom(random, rule, constant);
+        let place = random.below(atoms.len() + 1);
+        atoms.insert(place, [clock, 2, constant]);
+        atoms.truncate(8);
+    }
+    if atoms.iter().all(|atom| atom[1] != 2) {
+        return Edge { mask: 0, ..some_ends(random, rule, atoms) };
+    }
+    Edge { mask, ..some_ends(random, rule, atoms) }
+}
+
+fn some_ends(random: &mut Random, rule: &Rule, atoms: Vec<[u16; 3]>) -> Edge {
+    Edge {
+        source: random.below(rule.locations.into()) as u16,
+        target: random.below(rule.locations.into()) as u16,
+        symbol: random.below(rule.symbols.into()) as u16,
+        mask: 0,
+        atoms,
+    }
+}
+
+fn any_atom(random: &mut Random, rule: &Rule, constant: u16) -> [u16; 3] {
+    let relation = random.pick(&[0, 1, 2, 2, 3, 3, 4]);
+    [random.below(rule.clocks.into()) as u16, relation, random.between(0, constant.into()) as u16]
+}

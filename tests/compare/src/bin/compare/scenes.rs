@@ -1,0 +1,233 @@
+//! The kinds of scenes.
+
+use crate::damage::{damaged_file, rubbish};
+use crate::limits;
+use crate::random::Random;
+use crate::rules::{any_rule, Rule, MIDDLE, SMALL, WIDE};
+use crate::scene::{needs, Scene, EDGE_TABLE, LISTING};
+use crate::tables;
+use crate::words::spoil;
+use protocol::{Call, Room, What, Word};
+
+type Kind = fn(&mut Scene);
+
+/// The common kinds with their weights.
+const COMMON: [(&str, usize, Kind); 10] = [
+    ("whole rules", 30, whole_rule),
+    ("damaged files", 25, damaged),
+    ("changed rules", 15, changed_rule),
+    ("rules at limits", 15, limits::at_limit),
+    ("tables filled by hand", 12, tables::by_hand),
+    ("changed tables", 12, tables::changed),
+    ("tables at limits", 6, tables::at_limit),
+    ("bad words", 15, bad_words),
+    ("followers", 10, tables::followers),
+    ("loose words", 8, loose_words),
+];
+
+/// The costly kinds: one scene in so many, the first one early.
+const SELDOM: [(&str, u64, Kind); 4] = [
+    ("wide rules", 23, wide_rule),
+    ("long words", 151, long_words),
+    ("largest rules", 67, limits::largest),
+    ("many rows", 997, limits::many_rows),
+];
+
+/// The scene with this number: its kind and its commands.
+pub fn scene(seed: u64, number: u64) -> (&'static str, Vec<Call>) {
+    let mut random = Random::new(seed, number);
+    let seldom = SELDOM.iter().find(|(_, every, _)| number % every == every / 2);
+    let (name, make) = match seldom {
+        Some(&(name, _, make)) => (name, make),
+        None => common(&mut random),
+    };
+    let mut scene = Scene { random: &mut random, calls: Vec::new() };
+    make(&mut scene);
+    (name, scene.calls)
+}
+
+fn common(random: &mut Random) -> (&'static str, Kind) {
+    let total: usize = COMMON.iter().map(|(_, weight, _)| weight).sum();
+    let mut left = random.below(total);
+    for (name, weight, make) in COMMON {
+        if left < weight {
+            return (name, make);
+        }
+        left -= weight;
+    }
+    unreachable!("the weights add up")
+}
+
+/// A small or middle rule.
+pub fn some_rule(random: &mut Random) -> Rule {
+    let bounds = if random.chance(75) { &SMALL } else { &MIDDLE };
+    any_rule(random, bounds)
+}
+
+/// Reads, checks, writes and builds a rule and runs words over it.
+fn whole_rule(scene: &mut Scene) {
+    let rule = some_rule(scene.random);
+    scene.read_surely(&rule);
+    scene.add(Call::CheckRule);
+    scene.write(rule.file().len());
+    let exact = needs(&rule).unwrap_or(LISTING);
+    let tight = scene.less(exact);
+    scene.build(tight);
+    let room = scene.more(exact);
+    scene.build(room);
+    scene.add(Call::CheckTable);
+    for _ in 0..5 {
+        let word = scene.word(&rule, 12);
+        scene.run_everywhere(&rule, &word);
+    }
+    decide_somehow(scene, &rule, exact);
+}
+
+/// All three calls in a row, in room that is enough or not.
+fn decide_somehow(scene: &mut Scene, rule: &Rule, exact: Room) {
+    for _ in 0..2 {
+        let word = scene.any_word(rule, 8);
+        let room = if scene.random.chance(30) { scene.less(exact) } else { exact };
+        scene.decide(rule.file(), room, word);
+    }
+}
+
+/// A rule with many locations, symbols and clocks, in the listing program's room.
+fn wide_rule(scene: &mut Scene) {
+    let rule = any_rule(scene.random, &WIDE);
+    scene.read(rule.file());
+    scene.add(Call::CheckRule);
+    scene.write(rule.file().len());
+    scene.build(Room { scratch: rule.code_count(), cells: 30_000, rows: 300, pool: 20_000 });
+    for _ in 0..3 {
+        let word = scene.word(&rule, 8);
+        scene.run_everywhere(&rule, &word);
+    }
+    scene.add(Call::List { file: rule.file() });
+}
+
+/// Files with faults.
+fn damaged(scene: &mut Scene) {
+    for _ in 0..8 {
+        let rule = some_rule(scene.random);
+        let file =
+            if scene.random.chance(85) { damaged_file(scene.random, &rule) } else { rubbish(scene.random) };
+        scene.read(file.clone());
+        scene.add(Call::CheckRule);
+        scene.write(file.len());
+        if scene.random.chance(25) {
+            let word = scene.any_word(&rule, 4);
+            scene.decide(file.clone(), LISTING, word);
+            scene.add(Call::List { file });
+        }
+    }
+}
+
+/// A head record and an edge table with numbers put in by hand.
+fn changed_rule(scene: &mut Scene) {
+    let rule = some_rule(scene.random);
+    scene.read_surely(&rule);
+    scene.add(Call::Save);
+    for _ in 0..6 {
+        scene.add(Call::Restore);
+        for _ in 0..scene.random.pick(&[1, 1, 1, 2, 3]) {
+            change_rule(scene, &rule);
+        }
+        scene.add(Call::CheckRule);
+        scene.write(rule.file().len());
+        scene.build(Room { scratch: 65_536, cells: 2_000, rows: 100, pool: 500 });
+        let word = scene.any_word(&rule, 3);
+        scene.exact(&rule, word.clone());
+        scene.branch(&rule, &word);
+    }
+}
+
+fn change_rule(scene: &mut Scene, rule: &Rule) {
+    let random = &mut *scene.random;
+    let used = 29 * rule.edges.len();
+    let limits = [32, 16, 4, 1 << rule.locations, 1 << rule.locations, 32, rule.edges.len() as u32];
+    let call = match random.below(10) {
+        0 => {
+            let length = random.pick(&[EDGE_TABLE - 1, EDGE_TABLE + 1, EDGE_TABLE + 29, 0, 29]);
+            Call::Resize { what: What::Edges, length, fill: random.below(2) as u32 }
+        }
+        1..=4 => {
+            let index = random.below(7);
+            Call::Poke { what: What::Head, index, value: random.number_about(limits[index]) }
+        }
+        5..=8 if used > 0 => {
+            let limit = random.pick(&[rule.locations, rule.symbols, rule.clocks, 1 << rule.clocks, 5, 31, 9]);
+            let value = random.short_about(limit).into();
+            Call::Poke { what: What::Edges, index: random.below(used), value }
+        }
+        _ => {
+            let index = random.between(used.min(EDGE_TABLE - 1), EDGE_TABLE - 1);
+            Call::Poke { what: What::Edges, index, value: random.below(3) as u32 }
+        }
+    };
+    scene.add(call);
+}
+
+/// Words that break the word rules, or nearly.
+fn bad_words(scene: &mut Scene) {
+    let rule = some_rule(scene.random);
+    let exact = needs(&rule).unwrap_or(LISTING);
+    scene.read_surely(&rule);
+    scene.build(exact);
+    for _ in 0..8 {
+        let mut word = scene.word(&rule, 9);
+        let most = if scene.random.chance(90) { 12 } else { 4_096 };
+        spoil(scene.random, &mut word, rule.symbols, most);
+        scene.run_everywhere(&rule, &word);
+        scene.add(Call::CheckWord {
+            symbol_count: rule.symbols.into(),
+            most: most as u32,
+            word: word.clone(),
+        });
+        if scene.random.chance(30) {
+            scene.decide(rule.file(), exact, word);
+        }
+    }
+}
+
+/// Words alone, over any count of symbols.
+fn loose_words(scene: &mut Scene) {
+    for _ in 0..20 {
+        let random = &mut *scene.random;
+        let symbol_count = random.number_about(16);
+        let most = random.pick(&[0, 1, 3, 12, 4_096, u32::MAX]);
+        let length = random.below(6);
+        let grain = if random.chance(80) { 1_000 } else { random.number_about(1_000) };
+        let symbols = (0..length).map(|_| random.short_about(16) % 20).collect();
+        let mut stamps: Vec<u32> = (0..length).map(|_| random.number_about(100)).collect();
+        if random.chance(70) {
+            stamps.sort_unstable();
+        }
+        if random.chance(5) {
+            stamps.pop();
+        }
+        scene.add(Call::CheckWord { symbol_count, most, word: Word { grain, symbols, stamps } });
+    }
+}
+
+/// Words of as many events as are allowed, and one more.
+fn long_words(scene: &mut Scene) {
+    let rule = any_rule(scene.random, &SMALL);
+    let exact = needs(&rule).unwrap_or(LISTING);
+    scene.read_surely(&rule);
+    scene.build(exact);
+    let mut word = scene.word(&rule, 500);
+    let last = word.stamps.last().copied().unwrap_or(0);
+    word.symbols.resize(4_096, 0);
+    word.stamps.resize(4_096, last);
+    for _ in 0..2 {
+        scene.exact(&rule, word.clone());
+        scene.add(Call::Table { word: word.clone() });
+        scene.decide(rule.file(), exact, word.clone());
+        word.symbols.push(0);
+        word.stamps.push(last);
+    }
+    let most = scene.random.pick(&[200, 200, 200, 200, 200, 200, 200, 4_097]);
+    scene.add(Call::Start { grain: word.grain });
+    scene.walk(&word, most);
+}

@@ -1,0 +1,61 @@
+//! The calls of the library, behind which either implementation stands.
+
+use crate::Word;
+use alderskein::raw::{
+    Answer, BranchAnswer, Building, Built, Followed, Follower, Head, Moved, Reading, Started,
+};
+
+/// A head record and an edge table.
+#[allow(missing_docs)]
+#[derive(Clone, Copy)]
+pub struct Rule<'a> {
+    pub head: Head,
+    pub edges: &'a [u16],
+}
+
+/// A built record and its tables.
+#[allow(missing_docs)]
+#[derive(Clone, Copy)]
+pub struct Table<'a> {
+    pub built: Built,
+    pub cells: &'a [u32],
+    pub rows: &'a [u32],
+    pub pool: &'a [u32],
+}
+
+/// What a builder is lent.
+#[allow(missing_docs)]
+pub struct Tables<'a> {
+    pub scratch: &'a mut [u32],
+    pub cells: &'a mut [u32],
+    pub rows: &'a mut [u32],
+    pub pool: &'a mut [u32],
+}
+
+/// An event.
+#[allow(missing_docs)]
+#[derive(Clone, Copy)]
+pub struct Event {
+    pub symbol: u16,
+    pub stamp: u32,
+}
+
+/// The calls, with every part of their answers.
+#[allow(missing_docs)]
+pub trait Engine {
+    fn check_rule(rule: Rule) -> Answer;
+    fn read_rule(file: &[u8], edges: &mut [u16]) -> Reading;
+    fn write_rule(rule: Rule, out: &mut [u8]) -> Answer;
+    fn check_word(symbol_count: u32, most: u32, word: &Word) -> Answer;
+    fn build_table(rule: Rule, lent: Tables) -> Building;
+    fn check_table(table: Table) -> Answer;
+    fn run_table(table: Table, word: &Word) -> Answer;
+    fn run_exact(rule: Rule, word: &Word, scratch: &mut [u32]) -> Answer;
+    fn run_branches(rule: Rule, word: &Word, taken: &mut [u16; 12]) -> BranchAnswer;
+    fn start_follower(grain: u32) -> Started;
+    fn follow_event(follower: Follower, table: Table, event: Event) -> Followed;
+    fn follow_in_place(follower: &mut Follower, table: Table, event: Event) -> Moved;
+    fn decide(file: &[u8], edges: &mut [u16], lent: Tables, word: &Word) -> Answer;
+    /// What the listing program prints for a file.
+    fn list(file: &[u8]) -> Vec<u8>;
+}
