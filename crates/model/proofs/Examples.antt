@@ -14,7 +14,7 @@ use Rattle.model.specs.Tables.{Tables, tables, tablesBy, tablesOf}
 use Rattle.model.specs.Walks.{verdict}
 
 -- the 58 bytes, a list for each record
-pub worked-file : List ℕ
+unfoldable pub worked-file : List ℕ
 worked-file =
     (6 ∷ 0 ∷ 1 ∷ 0 ∷ 2 ∷ 0 ∷ 2 ∷ 0 ∷ 1 ∷ 0 ∷ [])
     ++ ((2 ∷ 0 ∷ 2 ∷ 0 ∷ 0 ∷ 0 ∷ [])
@@ -22,7 +22,7 @@ worked-file =
     ++ ((14 ∷ 0 ∷ 5 ∷ 0 ∷ 0 ∷ 0 ∷ 1 ∷ 0 ∷ 0 ∷ 0 ∷ 1 ∷ 0 ∷ 0 ∷ 0 ∷ 2 ∷ 0 ∷ 1 ∷ 0 ∷ [])
     ++ (14 ∷ 0 ∷ 5 ∷ 0 ∷ 1 ∷ 0 ∷ 0 ∷ 0 ∷ 1 ∷ 0 ∷ 0 ∷ 0 ∷ 0 ∷ 0 ∷ 3 ∷ 0 ∷ 1 ∷ 0 ∷ []))))
 
-pub worked : Rule
+unfoldable pub worked : Rule
 worked = readRule worked-file .rule-is
 
 -- P9's rule: edges 0 to 0 and 0 to 1, both on symbol 0 at age 1, the second alone resetting
@@ -68,7 +68,7 @@ unfolding maskOf cm pairCount acceptsFrom acceptsFromSome accepts recordRefusal 
 nine-hold = (refl, (refl, (refl, (refl, (refl, (refl, (refl, (refl, ((refl, refl), tt)))))))))
 
 -- The whole table of the worked case, in room that it fills: 3 rows, 2 codes.
-pub worked-tables : Tables
+unfoldable pub worked-tables : Tables
 worked-tables =
     tables (record { locations = 2; symbols = 2; clocks = 1; top = 1; ends = 1; rows = 3; total = 2 })
     ((2 ∷ 2 ∷ 5 ∷ 2 ∷ [])
@@ -88,7 +88,7 @@ worked-table-is = refl
 
 -- The second rule: two clocks, a ceiling, resets of either clock, several atoms, strict and weak relations, so that
 -- a swapped field, relation, digit, mask bit or order of discovery changes its table.
-pub second-file : List ℕ
+unfoldable pub second-file : List ℕ
 second-file =
     (6 ∷ 0 ∷ 1 ∷ 0 ∷ 3 ∷ 0 ∷ 2 ∷ 0 ∷ 2 ∷ 0 ∷ [])
     ++ ((2 ∷ 0 ∷ 2 ∷ 0 ∷ 0 ∷ 0 ∷ [])
@@ -100,10 +100,10 @@ second-file =
     ++ ((14 ∷ 0 ∷ 5 ∷ 0 ∷ 1 ∷ 0 ∷ 0 ∷ 0 ∷ 0 ∷ 0 ∷ 1 ∷ 0 ∷ 0 ∷ 0 ∷ 2 ∷ 0 ∷ 1 ∷ 0 ∷ [])
     ++ (20 ∷ 0 ∷ 5 ∷ 0 ∷ 2 ∷ 0 ∷ 2 ∷ 0 ∷ 1 ∷ 0 ∷ 0 ∷ 0 ∷ 1 ∷ 0 ∷ 4 ∷ 0 ∷ 1 ∷ 0 ∷ 0 ∷ 0 ∷ 4 ∷ 0 ∷ 0 ∷ 0 ∷ []))))))))
 
-pub second : Rule
+unfoldable pub second : Rule
 second = readRule second-file .rule-is
 
-pub second-tables : Tables
+unfoldable pub second-tables : Tables
 second-tables =
     tables (record { locations = 3; symbols = 2; clocks = 2; top = 2; ends = 4; rows = 6; total = 7 })
     ((2 ∷ 2 ∷ 5 ∷ 2 ∷ 2 ∷ 2 ∷ [])

@@ -1,9 +1,65 @@
--- Plain laws
+-- What is proved of the definitions, in the order in which it is built.
+-- Plain laws: tests, membership, refusals in order, masks
 pub mod Logic
 pub mod Refusals
 pub mod Masks
--- A valid rule as plain facts; the edge table by place
+pub mod MaskLists
+pub mod MaskSets
+-- A valid rule and a word that keeps the rules, as plain facts; the edge table by place, and read back
 pub mod Valid
+pub mod ValidParts
+pub mod Words
 pub mod EdgeTable
--- P1 to P9 and two whole tables, by computation from the definitions
+pub mod EdgesWritten
+-- P1 to P9, two whole tables, every refusal at its edges: by computation from the definitions
 pub mod Examples
+pub mod Refused
+-- One outcome for one call, for every promise; which numbers each check can give
+pub mod Outcomes
+pub mod Numbers
+-- Runs: a word is accepted exactly if some run is accepting; the least run
+pub mod Runs
+pub mod LeastRun
+-- Rows: bases track ages, codes give their pairs back, the successor row is the paper's set
+pub mod Regions
+pub mod Clocks
+pub mod Codes
+pub mod RowSets
+pub mod Successors
+-- The walk of the one timer over the rows accepts what the runs accept
+pub mod Agreement
+-- Rows: ascending, numbered by discovery, closed under successors
+pub mod RowsKeep
+pub mod RowNumbers
+pub mod Discovery
+-- The tables: room, places, walk, shape, follower
+pub mod CodeBounds
+pub mod EvenResets
+pub mod TableNeeds
+pub mod TableRoom
+pub mod TablePlaces
+pub mod TableWalk
+pub mod Shape
+pub mod FollowerWalk
+-- Rule files: numbers as bytes; one record read; the writing of a valid rule is accepted and spells it; an accepted
+-- file spells a valid rule and has the bytes of its writing
+pub mod Bytes
+pub mod FileSteps
+pub mod FileOutcomes
+pub mod FileRecords
+pub mod FileChecks
+pub mod FileRead
+pub mod FileWrites
+pub mod FileSoFar
+pub mod FileSpelt
+pub mod FileBytes
+pub mod FileLengths
+-- What reading leaves passes 20 and 21, and only that; read then write
+pub mod Readable
+pub mod ReadWrite
+-- Demand 3: the three calls in a row, over their promises; and they meet the promise of `decide`
+pub mod Calls
+pub mod ThreeCalls
+pub mod Decision
+-- The runners agree; the follower against the runs
+pub mod Runners

@@ -151,6 +151,37 @@ in-at d [] n h = absurd (omega arith)
 in-at d (x ∷ xs) zero h = here refl
 in-at d (x ∷ xs) (suc n) h = there (in-at d xs n (omega arith))
 
+-- a member has a number
+pub record Numbered {A : Type 0} (d : A) (xs : List A) (x : A) : Type 0 where
+  pub number : ℕ
+  pub number-below : number < length xs
+  pub at-number : getD xs number d ≡ x
+
+pub in-number : {A : Type 0} (d x : A) (xs : List A) → In x xs → Numbered d xs x
+in-number d x (y ∷ ys) (here h) = record { number = 0; number-below = omega arith; at-number = sym h }
+in-number d x (y ∷ ys) (there i) =
+    let n = in-number d x ys i in
+    record { number = suc (n .number); number-below = omega arith; at-number = n .at-number }
+
+-- some member of a list is such that P
+pub record Some {A : Type 0} (P : A → Type 0) (xs : List A) : Type 0 where
+  pub member : A
+  pub is-in : In member xs
+  pub such : P member
+
+pub first-some : {A : Type 0} {P : A → Type 0} {x : A} {xs : List A} → P x → Some P (x ∷ xs)
+first-some {x = x} p = record { member = x; is-in = here refl; such = p }
+
+pub later-some : {A : Type 0} {P : A → Type 0} {x : A} {xs : List A} → Some P xs → Some P (x ∷ xs)
+later-some m = record { member = m .member; is-in = there (m .is-in); such = m .such }
+
+-- as a test of a list finds one: at its head, or further on
+pub some-either :
+    {A : Type 0} {P : A → Type 0} {x : A} {xs : List A} (a b : Bool) → (a || b) ≡ true → (a ≡ true → P x)
+    → (b ≡ true → Some P xs)
+    → Some P (x ∷ xs)
+some-either a b h f g = elim (or-cases a b h) [ inl p ↦ first-some (f p) | inr q ↦ later-some (g q) ]
+
 -- two lists that are the same number by number are equal
 pub same-equal : (xs ys : List ℕ) → same xs ys ≡ true → xs ≡ ys
 same-equal [] [] h = refl

@@ -17,7 +17,7 @@ abbrev pub Asc : ℕ → List ℕ → Type 0
 Asc n [] = Unit {0}
 Asc n (x ∷ xs) = (n ≤ x) × Asc (suc x) xs
 
-not-below : (n : ℕ) (xs : List ℕ) (l : ℕ) → Asc n xs → l < n → isIn l xs ≡ false
+pub not-below : (n : ℕ) (xs : List ℕ) (l : ℕ) → Asc n xs → l < n → isIn l xs ≡ false
 not-below n [] l a h = refl
 not-below n (x ∷ xs) l a h = rw (ne-eqb l x (omega arith)) (not-below (suc x) xs l (a .1) (omega (arith, a .0)))
 

@@ -34,8 +34,11 @@ pub then-passes : (f g : Refusal) → (f ⨾ g) .number ≡ 0 → g .number ≡ 
 then-passes f g h = sym (ap (λ (x : Refusal). x .number) (on-pass f g (first-passes f g h))) ∙ h
 
 -- the same of whole refusals
+pub fine-number : {f : Refusal} → f ≡ fine → f .number ≡ 0
+fine-number h = ap (λ (x : Refusal). x .number) h
+
 pub first-fine : (f g : Refusal) → (f ⨾ g) ≡ fine → f .number ≡ 0
-first-fine f g h = first-passes f g (ap (λ (x : Refusal). x .number) h)
+first-fine f g h = first-passes f g (fine-number h)
 
 pub then-fine : (f g : Refusal) → (f ⨾ g) ≡ fine → g ≡ fine
 then-fine f g h = sym (on-pass f g (first-fine f g h)) ∙ h

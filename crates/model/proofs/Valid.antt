@@ -132,6 +132,19 @@ valid-of r h =
       pairs-most = leb-true (pairCount r) mostPairs (and-right (a && b && c && d && e && f) g h);
     }
 
+-- locations that rise: the first is the least
+pub rises-on :
+    (least most x : ℕ) (xs : List ℕ) → rising least most (x ∷ xs) ≡ true → rising (suc x) most xs ≡ true
+rises-on least most x xs h = and-right (leb least x && ltb x most) (rising (suc x) most xs) h
+
+pub rises-least : (least most : ℕ) (xs : List ℕ) (k : ℕ) → rising least most xs ≡ true → In k xs → least ≤ k
+rises-least least most (x ∷ xs) k h i =
+    let a = and-left (leb least x) (ltb x most) (and-left (leb least x && ltb x most) (rising (suc x) most xs) h) in
+    elim i [
+      | here e ↦ omega (arith, leb-true least x a)
+      | there j ↦ omega (arith, leb-true least x a, rises-least (suc x) most xs k (rises-on least most x xs h) j)
+    ]
+
 -- a constant is at most the largest, and the largest at most a bound of all
 pub constant-largest : (a : Atom) (xs : List Atom) → In a xs → a .constant ≤ largestConstant xs
 constant-largest a (x ∷ xs) (here h) = rw h (larger-left (x .constant) (largestConstant xs))

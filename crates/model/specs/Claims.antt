@@ -6,14 +6,18 @@ use mathlib.Core.List.{List, [], _∷_}
 use Prim.Native.Nat.{ℕ, suc, _<_}
 use lib.Dec.{eqb, ltb, leb}
 use lib.ListN.{length, getD, take}
-use Rattle.model.specs.declared.Follower.{Follower}
-use Rattle.model.specs.Basics.{isIn, Refusal, fine, passes}
+use Rattle.model.specs.declared.Head.{Head}
+use Rattle.model.specs.declared.Answer.{Answer}
+use Rattle.model.specs.declared.Building.{Building}
+use Rattle.model.specs.declared.Branch.{Branch}
+use Rattle.model.specs.Basics.{oneIf, isIn, fine}
 use Rattle.model.specs.Rules.{Edge, Rule, rising, validRule}
 use Rattle.model.specs.Words.{Event, eventsOf, mostEvents, wordRefusal}
 use Rattle.model.specs.Runs.{noEdge, isAcceptingRun, accepts, leastRun}
 use Rattle.model.specs.Construction.{width, allows, targetOf, rowResets, nextRow, rowsOf, rowAt, numberOf, cellOf, holdsFinal}
 use Rattle.model.specs.Tables.{Tables, tablesOf, tableRefusal}
 use Rattle.model.specs.Walks.{rowCodes, verdict, cellAt, startAt, step, stepAll, tableAccepts, followRefusal}
+use Rattle.model.specs.Promises.{BuildsTable, RunsTable, RunsExact, RunsBranches}
 
 -- Runs. The word is accepted exactly if some run is accepting; the least run is one, and none comes before it.
 abbrev pub notAfter : List ℕ → List ℕ → Bool
@@ -112,3 +116,18 @@ Follower-agrees =
     → wordRefusal (r .symbols) d mostEvents symbols stamps ≡ fine
     → ltb n (length symbols) ≡ true
     → Follows r (tablesOf r cells rows pool) d (eventsOf symbols stamps) n (getD (eventsOf symbols stamps) n noEvent)
+
+-- The runners agree: where none refuses, the exact runner, the branch runner and the table runner give one verdict.
+abbrev pub Runners-agree : Type 0
+Runners-agree =
+    (head : Head) (edges scratch scratch′ cells cells′ rows rows′ pool pool′ room room′ : List ℕ) (d : ℕ)
+    (symbols stamps : List ℕ) (building : Building) (exact table : Answer) (branch : Branch)
+    → BuildsTable head edges scratch scratch′ cells cells′ rows rows′ pool pool′ building
+    → RunsTable (building .built) cells′ rows′ pool′ d symbols stamps table
+    → RunsExact head edges d symbols stamps room room′ exact
+    → RunsBranches head edges d symbols stamps branch
+    → building .number ≡ 0
+    → table .number ≡ 0
+    → exact .number ≡ 0
+    → branch .number ≡ 0
+    → (exact .value ≡ table .value) × (oneIf (branch .found) ≡ table .value)

@@ -1,12 +1,25 @@
+-- What a reader must believe, in the order of document 01. What is proved of it stands in proofs/.
+-- Choices, lists of numbers, masks; refusals and the order among them
 pub mod Basics
+-- "The rule": locations, clocks, edges, cm and N; which rules a file may spell
 pub mod Rules
+-- "The rule": words, and what a word may not be (30 to 33)
 pub mod Words
+-- "The rule": ages, guards, runs, acceptance; "Runners": the least accepting run, configurations and 26
 pub mod Runs
+-- "The file": records, reading with refusals 1 to 8, writing
 pub mod Files
+-- "The file": the head record and the edge table that a rule becomes (20, 21)
 pub mod Layout
+-- "The construction": intervals, regions, pairs, rows by discovery, cells; the walk over rows
 pub mod Construction
+-- "The construction": the three lent tables; the room that they need (22 to 24)
 pub mod Tables
+-- "Runners": tables in shape (25), the step of the one timer, the follower (34)
 pub mod Walks
+-- What every public entry promises: its answer and every lent buffer at exit
 pub mod Promises
+-- Demands 2 and 3 as claims about the definitions and the promises
 pub mod Demands
+-- Further claims that pin the definitions: runs, successor sets, every place of the tables, the follower
 pub mod Claims

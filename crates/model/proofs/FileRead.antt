@@ -1,0 +1,202 @@
+-- The file of a valid rule is accepted and spells that rule: its records are read one after another, each a step.
+use mathlib.Core.Path.{_≡_, refl, _∙_, ap}
+use mathlib.Core.Bool.{true}
+use mathlib.Core.List.{List, [], _∷_, _++_, append-nil}
+use Prim.Native.Nat.{ℕ, zero, suc, _+_, _-_, _*_, _/_, _≤_, _<_}
+use native.Mathlib.Omega.{arith}
+use lib.ListN.{length, length-append}
+use lib.Seq.{append-snoc, drop-at}
+use Rattle.model.specs.Rules.{Atom, Edge, Rule, rule, pairCount, mostPairs, mostEdges, sizesOk, edgeOk, integerReset, rising, edgesOk}
+use Rattle.model.specs.Files.{numberAt, recordHead, atomsFrom, edgeFrom, pastLast, noRule, withInitial, withFinal, withCeiling, withEdge, withRecord, Spelt, readRule, numbers, locationRecords, ceilingRecord, atomNumbers, edgeRecord, edgeRecords, ruleBytes}
+use Rattle.model.specs.Demands.{Valid-is-spelt}
+use Rattle.model.proofs.MaskLists.{rising-least, rising-below, rising-rest}
+use Rattle.model.proofs.Valid.{sizes-of}
+use Rattle.model.proofs.ValidParts.{Parts, valid-parts, valid-pairs, Edge-ok, first-edge, other-edges, same-sizes, past-last}
+use Rattle.model.proofs.Bytes.{two-back, numbers-length, atom-numbers-length}
+use Rattle.model.proofs.FileSteps.{readOn, read-all, read-ends}
+use Rattle.model.proofs.FileOutcomes.{spelt, end-fine}
+use Rattle.model.proofs.FileRecords.{sizes, initial, final, ceiling, edge}
+use Rattle.model.proofs.FileChecks.{read-record}
+
+-- from the rule so far, after a record of at most this kind, the bytes left spell the whole rule
+abbrev pub Reads : ℕ → Rule → List ℕ → Rule → Type 0
+Reads most r s whole = (p last : ℕ) → last ≤ most → readOn p last r s ≡ spelt whole
+
+-- no bytes left
+end-reads : (r : Rule) → 1 ≤ r .locations → pairCount r ≤ mostPairs → Reads 5 r [] r
+end-reads r h q p last b = read-ends p last r [] refl ∙ end-fine p r h q
+
+-- an edge's body, read
+atoms-read : (xs : List Atom) (rest : List ℕ) → atomsFrom (length xs) (numbers (atomNumbers xs) ++ rest) ≡ xs
+atoms-read [] rest = refl
+atoms-read (a ∷ xs) rest =
+    rw (two-back (a .clock), two-back (a .relation), two-back (a .constant), atoms-read xs rest)
+
+abbrev edgeBytes : Edge → List ℕ → List ℕ
+edgeBytes e rest =
+    numbers (e .source ∷ e .target ∷ e .symbol ∷ e .resets ∷ atomNumbers (e .atoms)) ++ rest
+
+edge-read : (e : Edge) (rest : List ℕ) → edgeFrom (8 + 6 * length (e .atoms)) (edgeBytes e rest) ≡ e
+edge-read e rest =
+    let m : (8 + 6 * length (e .atoms) - 8) / 6 ≡ length (e .atoms) = omega arith in
+    let xs = atoms-read (e .atoms) rest in
+    rw (m, two-back (e .source), two-back (e .target), two-back (e .symbol), two-back (e .resets), xs)
+
+pub edge-record-length : (e : Edge) → length (edgeRecord e) ≡ recordHead + (8 + 6 * length (e .atoms))
+edge-record-length e =
+    let n : ℕ = 8 + 6 * length (e .atoms) in
+    let vs : List ℕ = e .source ∷ e .target ∷ e .symbol ∷ e .resets ∷ atomNumbers (e .atoms) in
+    omega (arith, numbers-length (n ∷ 5 ∷ vs), atom-numbers-length (e .atoms))
+
+-- One record read of each kind.
+pub edge-step :
+    (p last : ℕ) (r : Rule) (e : Edge) (rest : List ℕ) → 1 ≤ r .locations → last ≤ 5 → length (r .edges) < mostEdges
+    → Edge-ok r e
+    → readOn p last r (edgeRecord e ++ rest)
+    ≡ readOn (p + (recordHead + (8 + 6 * length (e .atoms)))) 5 (withEdge r e) rest
+unfolding withRecord
+edge-step p last r e rest h b room ok =
+    let n : ℕ = 8 + 6 * length (e .atoms) in
+    let back : edgeFrom n (edgeBytes e rest) ≡ e = edge-read e rest in
+    let long : recordHead + n ≤ length (edgeRecord e ++ rest) =
+    omega (arith, length-append (edgeRecord e) rest, edge-record-length e) in
+    read-record p last r (edgeRecord e ++ rest) 5 n (edgeBytes e rest) rest refl (two-back n) refl
+    (drop-at (edgeRecord e) rest (recordHead + n) (edge-record-length e)) long
+    (edge refl (record {
+      length-least = omega arith;
+      length-most = omega (arith, ok .atoms-most);
+      whole-atoms = omega arith;
+      sizes-seen = h;
+      no-fall = b;
+      room = room;
+      in-range = ap (edgeOk r) back ∙ ok .in-range;
+      pinned = ap integerReset back ∙ ok .pinned;
+    }))
+    ∙ ap (λ (f : Edge). readOn (p + (recordHead + n)) 5 (withEdge r f) rest) back
+
+pub ceiling-step :
+    (p last : ℕ) (r : Rule) (c : ℕ) (rest : List ℕ) → 1 ≤ r .locations → last ≤ 4 → r .ceiling ≡ 0 → c ≤ 30
+    → readOn p last r (numbers (2 ∷ 4 ∷ c ∷ []) ++ rest) ≡ readOn (p + 6) 4 (withCeiling r c) rest
+unfolding withRecord
+ceiling-step p last r c rest h b none top =
+    let x : numberAt 0 (numbers (c ∷ []) ++ rest) ≡ c = two-back c in
+    read-record p last r (numbers (2 ∷ 4 ∷ c ∷ []) ++ rest) 4 2 (numbers (c ∷ []) ++ rest) rest refl refl refl refl
+    (omega arith)
+    (ceiling refl (record { length-is = refl; sizes-seen = h; no-fall = b; none-yet = none; in-range = rw x top }))
+    ∙ ap (λ (y : ℕ). readOn (p + 6) 4 (withCeiling r y) rest) x
+
+pub final-step :
+    (p last : ℕ) (r : Rule) (x : ℕ) (rest : List ℕ) → 1 ≤ r .locations → last ≤ 3 → pastLast (r .final) ≤ x
+    → x < r .locations
+    → readOn p last r (numbers (2 ∷ 3 ∷ x ∷ []) ++ rest) ≡ readOn (p + 6) 3 (withFinal r x) rest
+unfolding withRecord
+final-step p last r x rest h b past below =
+    let back : numberAt 0 (numbers (x ∷ []) ++ rest) ≡ x = two-back x in
+    read-record p last r (numbers (2 ∷ 3 ∷ x ∷ []) ++ rest) 3 2 (numbers (x ∷ []) ++ rest) rest refl refl refl refl
+    (omega arith)
+    (final refl
+    (record { length-is = refl; sizes-seen = h; no-fall = b; rises = rw back past; in-range = rw back below }))
+    ∙ ap (λ (y : ℕ). readOn (p + 6) 3 (withFinal r y) rest) back
+
+pub initial-step :
+    (p last : ℕ) (r : Rule) (x : ℕ) (rest : List ℕ) → 1 ≤ r .locations → last ≤ 2 → pastLast (r .initial) ≤ x
+    → x < r .locations
+    → readOn p last r (numbers (2 ∷ 2 ∷ x ∷ []) ++ rest) ≡ readOn (p + 6) 2 (withInitial r x) rest
+unfolding withRecord
+initial-step p last r x rest h b past below =
+    let back : numberAt 0 (numbers (x ∷ []) ++ rest) ≡ x = two-back x in
+    read-record p last r (numbers (2 ∷ 2 ∷ x ∷ []) ++ rest) 2 2 (numbers (x ∷ []) ++ rest) rest refl refl refl refl
+    (omega arith)
+    (initial refl
+    (record { length-is = refl; sizes-seen = h; no-fall = b; rises = rw back past; in-range = rw back below }))
+    ∙ ap (λ (y : ℕ). readOn (p + 6) 2 (withInitial r y) rest) back
+
+pub sizes-step :
+    (p last : ℕ) (r : Rule) (l s k : ℕ) (rest : List ℕ) → r .locations ≡ 0 → sizesOk l s k ≡ true
+    → readOn p last r (numbers (6 ∷ 1 ∷ l ∷ s ∷ k ∷ []) ++ rest) ≡ readOn (p + 10) 1 (rule l s k [] [] 0 []) rest
+unfolding withRecord
+sizes-step p last r l s k rest none ok =
+    read-record p last r (numbers (6 ∷ 1 ∷ l ∷ s ∷ k ∷ []) ++ rest) 1 6 (numbers (l ∷ s ∷ k ∷ []) ++ rest) rest
+    refl refl refl refl
+    (omega arith)
+    (sizes refl
+    (record { length-is = refl; none-yet = none; in-range = rw (two-back l, two-back s, two-back k) ok }))
+    ∙ rw (two-back l, two-back s, two-back k)
+
+-- All records of a kind.
+edges-read :
+    (l s k : ℕ) (i f : List ℕ) (c : ℕ) (done todo : List Edge) (whole : Rule) → 1 ≤ l
+    → length done + length todo ≤ mostEdges
+    → edgesOk (rule l s k i f c done) todo ≡ true
+    → Reads 5 (rule l s k i f c (done ++ todo)) [] whole
+    → Reads 5 (rule l s k i f c done) (edgeRecords todo) whole
+unfolding edgeRecords
+edges-read l s k i f c done [] whole h most ok rest p last b = rw (append-nil done) at (rest p last b)
+edges-read l s k i f c done (e ∷ todo) whole h most ok rest p last b =
+    edge-step p last (rule l s k i f c done) e (edgeRecords todo) h b (omega arith)
+    (first-edge (rule l s k i f c done) e todo ok)
+    ∙ edges-read l s k i f c (done ++ (e ∷ [])) todo whole h
+    (omega (arith, length-append done (e ∷ [])))
+    (same-sizes (rule l s k i f c (done ++ (e ∷ []))) (rule l s k i f c done) todo refl refl refl
+    ∙ other-edges (rule l s k i f c done) e todo ok)
+    (rw append-snoc rest)
+    (p + (recordHead + (8 + 6 * length (e .atoms)))) 5 (omega arith)
+
+finals-read :
+    (l s k : ℕ) (i done todo rest : List ℕ) (whole : Rule) → 1 ≤ l → rising (pastLast done) l todo ≡ true
+    → Reads 3 (rule l s k i (done ++ todo) 0 []) rest whole
+    → Reads 3 (rule l s k i done 0 []) (locationRecords 3 todo ++ rest) whole
+finals-read l s k i done [] rest whole h q after p last b = rw (append-nil done) at (after p last b)
+finals-read l s k i done (x ∷ todo) rest whole h q after p last b =
+    final-step p last (rule l s k i done 0 []) x (locationRecords 3 todo ++ rest) h b
+    (rising-least (pastLast done) l x todo q) (rising-below (pastLast done) l x todo q)
+    ∙ finals-read l s k i (done ++ (x ∷ [])) todo rest whole h
+    (rw (past-last done x) (rising-rest (pastLast done) l x todo q))
+    (rw append-snoc after)
+    (p + 6) 3 (omega arith)
+
+initials-read :
+    (l s k : ℕ) (done todo rest : List ℕ) (whole : Rule) → 1 ≤ l → rising (pastLast done) l todo ≡ true
+    → Reads 2 (rule l s k (done ++ todo) [] 0 []) rest whole
+    → Reads 2 (rule l s k done [] 0 []) (locationRecords 2 todo ++ rest) whole
+initials-read l s k done [] rest whole h q after p last b = rw (append-nil done) at (after p last b)
+initials-read l s k done (x ∷ todo) rest whole h q after p last b =
+    initial-step p last (rule l s k done [] 0 []) x (locationRecords 2 todo ++ rest) h b
+    (rising-least (pastLast done) l x todo q) (rising-below (pastLast done) l x todo q)
+    ∙ initials-read l s k (done ++ (x ∷ [])) todo rest whole h
+    (rw (past-last done x) (rising-rest (pastLast done) l x todo q))
+    (rw append-snoc after)
+    (p + 6) 2 (omega arith)
+
+ceiling-read :
+    (l s k : ℕ) (i f : List ℕ) (c : ℕ) (rest : List ℕ) (whole : Rule) → 1 ≤ l → c ≤ 31
+    → Reads 5 (rule l s k i f c []) rest whole
+    → Reads 3 (rule l s k i f 0 []) (ceilingRecord c ++ rest) whole
+ceiling-read l s k i f zero rest whole h top after p last b = after p last (omega arith)
+ceiling-read l s k i f (suc c) rest whole h top after p last b =
+    ceiling-step p last (rule l s k i f 0 []) c rest h (omega arith) refl (omega arith)
+    ∙ after (p + 6) 4 (omega arith)
+
+-- The whole file.
+file-reads : (r : Rule) → Parts r → pairCount r ≤ mostPairs → readOn 0 0 noRule (ruleBytes r) ≡ spelt r
+unfolding ruleBytes
+file-reads r v few =
+    let l : ℕ = r .locations in
+    let s : ℕ = r .symbols in
+    let k : ℕ = r .clocks in
+    let h : 1 ≤ l = sizes-of l s k (v .sizes) .locations-least in
+    sizes-step 0 0 noRule l s k _ refl (v .sizes)
+    ∙ initials-read l s k [] (r .initial) _ r h (v .initial-rises)
+    (λ p last b. finals-read l s k (r .initial) [] (r .final) _ r h (v .final-rises)
+    (ceiling-read l s k (r .initial) (r .final) (r .ceiling) (edgeRecords (r .edges)) r h (v .ceiling-most)
+    (edges-read l s k (r .initial) (r .final) (r .ceiling) [] (r .edges) r h (omega (arith, v .edges-most))
+    (same-sizes (rule l s k (r .initial) (r .final) (r .ceiling) []) r (r .edges) refl refl refl ∙ v .edges-ok)
+    (end-reads r h few)))
+    p last (omega arith))
+    10 1 (omega arith)
+
+pub valid-is-spelt : Valid-is-spelt
+valid-is-spelt r h =
+    let e : readRule (ruleBytes r) ≡ spelt r =
+    read-all (ruleBytes r) ∙ file-reads r (valid-parts r h) (valid-pairs r h) in
+    record { accepted = ap (λ (x : Spelt). x .refused) e; spells = ap (λ (x : Spelt). x .rule-is) e }

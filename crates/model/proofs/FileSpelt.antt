@@ -1,0 +1,202 @@
+-- An accepted file spells a valid rule, and that rule's file has the same bytes.
+use mathlib.Core.Path.{_≡_, refl, sym, _∙_, ap}
+use mathlib.Core.Bool.{true, false, not}
+use mathlib.Core.List.{List, [], _∷_, _++_, append-nil, append-assoc}
+use Prim.Native.Nat.{ℕ, _+_, _-_, _*_, _/_, _≤_}
+use native.Mathlib.Omega.{arith}
+use lib.Dec.{ltb}
+use lib.ListN.{length, drop}
+use borrow.Author.Tests.{ltb-false, leb-true, not-false}
+use Rattle.model.specs.Basics.{allBelow, fine, refuse, Refusal}
+use Rattle.model.specs.Rules.{Edge, Rule, pairCount, mostPairs, validRule}
+use Rattle.model.specs.Files.{numberAt, bodyLength, kindOf, bodyOf, edgeFrom, noRule, seenSizes, withSizes, withInitial, withFinal, withCeiling, withEdge, withRecord, atEnd, readRule, numbers, atomNumbers, edgeRecord, edgeRecords, ruleBytes}
+use Rattle.model.specs.Demands.{Spells-valid, Same-bytes}
+use Rattle.model.proofs.Refusals.{refused-false, first-passes, then-passes}
+use Rattle.model.proofs.ValidParts.{parts-valid}
+use Rattle.model.proofs.Bytes.{numbersOf, all-below-drop}
+use Rattle.model.proofs.FileSteps.{recordLength, ruleAfter, bytesAfter, readOn, of-every-reading, read-all}
+use Rattle.model.proofs.FileRecords.{Sizes-allowed, Edge-allowed, Allowed, sizes, initial, final, ceiling, edge}
+use Rattle.model.proofs.FileChecks.{Record-allowed, record-allowed}
+use Rattle.model.proofs.FileWrites.{writes-initial, writes-final, writes-ceiling, writes-edge, three-numbers, four-numbers, atoms-numbers, record-again}
+use Rattle.model.proofs.FileSoFar.{So-far, sizes-so-far, atoms-from-length, sizes-once, record-so-far}
+
+-- The file so far and the bytes left are, before and after a record, the same bytes.
+joined :
+    (new old part rest s : List ℕ) → new ≡ old ++ part → part ++ rest ≡ s → new ++ rest ≡ old ++ s
+joined new old part rest s p q = rw p (append-assoc old part rest ∙ ap (λ (l : List ℕ). old ++ l) q)
+
+-- a record of one number
+one-number :
+    (s : List ℕ) (kind : ℕ) → allBelow 256 s ≡ true → recordLength s ≤ length s → bodyLength s ≡ 2
+    → kindOf s ≡ kind
+    → numbers (2 ∷ kind ∷ numberAt 0 (bodyOf s) ∷ []) ++ bytesAfter s ≡ s
+one-number s kind b whole long k =
+    ap (λ (n : ℕ). numbers (n ∷ kind ∷ numberAt 0 (bodyOf s) ∷ []) ++ bytesAfter s) (sym long)
+    ∙ record-again s 1 kind (numberAt 0 (bodyOf s) ∷ []) b whole long k refl
+
+-- a record of an edge
+edge-again :
+    (last : ℕ) (r : Rule) (s : List ℕ) → allBelow 256 s ≡ true → recordLength s ≤ length s → kindOf s ≡ 5
+    → Edge-allowed last r (bodyLength s) (bodyOf s)
+    → edgeRecord (edgeFrom (bodyLength s) (bodyOf s)) ++ bytesAfter s ≡ s
+edge-again last r s b whole k a =
+    let n : ℕ = bodyLength s in
+    let m : ℕ = (n - 8) / 6 in
+    let e : Edge = edgeFrom n (bodyOf s) in
+    let count : length (e .atoms) ≡ m = atoms-from-length m (drop 8 (bodyOf s)) in
+    let long : n ≡ 2 * (4 + 3 * m) = omega (arith, a .length-least, a .whole-atoms) in
+    let size : 8 + 6 * length (e .atoms) ≡ n = omega (arith, a .length-least, a .whole-atoms) in
+    let vs : List ℕ = e .source ∷ e .target ∷ e .symbol ∷ e .resets ∷ atomNumbers (e .atoms) in
+    let body = four-numbers (3 * m) (bodyOf s) in
+    let with-atoms : numbersOf (4 + 3 * m) (bodyOf s) ≡ vs = body ∙ rw (atoms-numbers m (drop 8 (bodyOf s))) in
+    ap (λ (j : ℕ). numbers (j ∷ 5 ∷ vs) ++ bytesAfter s) size
+    ∙ record-again s (4 + 3 * m) 5 vs b whole long k with-atoms
+
+-- the rule after a record, by its kind
+after-kind : (r : Rule) (s : List ℕ) (k : ℕ) → kindOf s ≡ k → ruleAfter r s ≡ withRecord r k (bodyLength s) (bodyOf s)
+after-kind r s k e = ap (λ (j : ℕ). withRecord r j (bodyLength s) (bodyOf s)) e
+
+-- before and after a record past the sizes
+module _ (last : ℕ) (r : Rule) (was : So-far last r) (s : List ℕ) (b : allBelow 256 s ≡ true) where
+  adds : (q : Rule) (part : List ℕ) → ruleAfter r s ≡ q → ruleBytes q ≡ ruleBytes r ++ part → part ++ bytesAfter s ≡ s
+      → ruleBytes (ruleAfter r s) ++ bytesAfter s ≡ ruleBytes r ++ s
+  adds q part e p same =
+      joined (ruleBytes (ruleAfter r s)) (ruleBytes r) part (bytesAfter s) s (ap ruleBytes e ∙ p) same
+
+  record-same-bytes :
+      recordLength s ≤ length s → Allowed last r (kindOf s) (bodyLength s) (bodyOf s)
+      → ruleBytes (ruleAfter r s) ++ bytesAfter s ≡ ruleBytes r ++ s
+  unfolding withRecord
+  record-same-bytes whole (sizes e a) = absurd (sizes-once last r was (bodyLength s) (bodyOf s) a)
+  record-same-bytes whole (initial e a) =
+      let x : ℕ = numberAt 0 (bodyOf s) in
+      adds (withInitial r x) (numbers (2 ∷ 2 ∷ x ∷ [])) (after-kind r s 2 e)
+      (writes-initial r x (was .no-final (a .no-fall)) (was .no-ceiling (omega (arith, a .no-fall)))
+      (was .no-edges (omega (arith, a .no-fall))))
+      (one-number s 2 b whole (a .length-is) e)
+  record-same-bytes whole (final e a) =
+      let x : ℕ = numberAt 0 (bodyOf s) in
+      adds (withFinal r x) (numbers (2 ∷ 3 ∷ x ∷ [])) (after-kind r s 3 e)
+      (writes-final r x (was .no-ceiling (a .no-fall)) (was .no-edges (omega (arith, a .no-fall))))
+      (one-number s 3 b whole (a .length-is) e)
+  record-same-bytes whole (ceiling e a) =
+      let x : ℕ = numberAt 0 (bodyOf s) in
+      adds (withCeiling r x) (numbers (2 ∷ 4 ∷ x ∷ [])) (after-kind r s 4 e)
+      (writes-ceiling r x (a .none-yet) (was .no-edges (a .no-fall)))
+      (one-number s 4 b whole (a .length-is) e)
+  record-same-bytes whole (edge e a) =
+      let f : Edge = edgeFrom (bodyLength s) (bodyOf s) in
+      adds (withEdge r f) (edgeRecord f) (after-kind r s 5 e) (writes-edge r f) (edge-again last r s b whole e a)
+
+-- the sizes
+sizes-written :
+    (body : List ℕ)
+    → ruleBytes (withSizes body) ≡ numbers (6 ∷ 1 ∷ numberAt 0 body ∷ numberAt 1 body ∷ numberAt 2 body ∷ [])
+unfolding ruleBytes edgeRecords
+sizes-written body = refl
+
+sizes-same-bytes :
+    (r : Rule) (s : List ℕ) → allBelow 256 s ≡ true → recordLength s ≤ length s → kindOf s ≡ 1
+    → Sizes-allowed r (bodyLength s) (bodyOf s)
+    → ruleBytes (ruleAfter r s) ++ bytesAfter s ≡ s
+unfolding withRecord
+sizes-same-bytes r s b whole e a =
+    let vs : List ℕ = numberAt 0 (bodyOf s) ∷ numberAt 1 (bodyOf s) ∷ numberAt 2 (bodyOf s) ∷ [] in
+    ap (λ (l : List ℕ). l ++ bytesAfter s) (ap ruleBytes (after-kind r s 1 e) ∙ sizes-written (bodyOf s))
+    ∙ (ap (λ (n : ℕ). numbers (n ∷ 1 ∷ vs) ++ bytesAfter s) (sym (a .length-is))
+    ∙ record-again s 3 1 vs b whole (a .length-is) e (three-numbers 0 (bodyOf s)))
+
+-- An accepted reading, record by record.
+pub data Accepted (whole : Rule) : ℕ → Rule → List ℕ → Type 0 where
+  ended :
+      {last : ℕ} {r : Rule} {s : List ℕ} → length s ≡ 0 → 1 ≤ r .locations → pairCount r ≤ mostPairs → whole ≡ r
+      → Accepted whole last r s
+  went-on :
+      {last : ℕ} {r : Rule} {s : List ℕ} → Record-allowed last r s
+      → Accepted whole (kindOf s) (ruleAfter r s) (bytesAfter s)
+      → Accepted whole last r s
+
+end-accepted :
+    (p last : ℕ) (r : Rule) (s : List ℕ) → length s ≡ 0 → atEnd p r .refused .number ≡ 0
+    → Accepted (atEnd p r .rule-is) last r s
+unfolding atEnd
+end-accepted p last r s e h =
+    let seen : not (seenSizes r) ≡ false =
+    refused-false (not (seenSizes r)) 2 p (first-passes (refuse (not (seenSizes r)) 3 p) _ h) in
+    let few : ltb mostPairs (pairCount r) ≡ false =
+    refused-false (ltb mostPairs (pairCount r)) 7 p (then-passes (refuse (not (seenSizes r)) 3 p) _ h) in
+    ended e (leb-true 1 (r .locations) (not-false (seenSizes r) seen)) (ltb-false mostPairs (pairCount r) few)
+    (rw (seen, few))
+
+pub accepted :
+    (p last : ℕ) (r : Rule) (s : List ℕ) → readOn p last r s .refused .number ≡ 0
+    → Accepted (readOn p last r s .rule-is) last r s
+accepted =
+    of-every-reading (λ p last r s x. x .refused .number ≡ 0 → Accepted (x .rule-is) last r s) end-accepted
+    (λ p last r s x h e k z. went-on (record-allowed p last r s e) (k z))
+    (λ p last r s h e z. absurd (e z))
+
+no-bytes : (xs s : List ℕ) → length s ≡ 0 → xs ≡ xs ++ s
+no-bytes xs [] e = sym (append-nil xs)
+no-bytes xs (x ∷ s) e = absurd (omega arith)
+
+-- from a rule so far on
+valid-from :
+    {whole : Rule} {last : ℕ} {r : Rule} {s : List ℕ} → Accepted whole last r s → So-far last r
+    → validRule whole ≡ true
+valid-from (ended {r = r} e h few same) was = rw same (parts-valid r (was .parts) few)
+valid-from (went-on {last = last} {r = r} {s = s} a rest) was =
+    valid-from rest (record-so-far last r was (kindOf s) (bodyLength s) (bodyOf s) (a .allowed))
+
+bytes-from :
+    {whole : Rule} {last : ℕ} {r : Rule} {s : List ℕ} → Accepted whole last r s → So-far last r → allBelow 256 s ≡ true
+    → ruleBytes whole ≡ ruleBytes r ++ s
+bytes-from (ended {r = r} {s = s} e h few same) was b = ap ruleBytes same ∙ no-bytes (ruleBytes r) s e
+bytes-from (went-on {last = last} {r = r} {s = s} a rest) was b =
+    bytes-from rest (record-so-far last r was (kindOf s) (bodyLength s) (bodyOf s) (a .allowed))
+    (all-below-drop 256 (recordLength s) s b)
+    ∙ record-same-bytes last r was s b (a .whole) (a .allowed)
+
+-- from the start on: the first record has the sizes
+first-is-sizes :
+    (last : ℕ) (r : Rule) (kind n : ℕ) (body : List ℕ) → r .locations ≡ 0 → Allowed last r kind n body
+    → (kind ≡ 1) × Sizes-allowed r n body
+first-is-sizes last r kind n body none (sizes e a) = (e, a)
+first-is-sizes last r kind n body none (initial e a) = absurd (omega (arith, a .sizes-seen))
+first-is-sizes last r kind n body none (final e a) = absurd (omega (arith, a .sizes-seen))
+first-is-sizes last r kind n body none (ceiling e a) = absurd (omega (arith, a .sizes-seen))
+first-is-sizes last r kind n body none (edge e a) = absurd (omega (arith, a .sizes-seen))
+
+first-so-far :
+    (r : Rule) (kind n : ℕ) (body : List ℕ) → kind ≡ 1 → Sizes-allowed r n body → So-far kind (withRecord r kind n body)
+unfolding withRecord
+first-so-far r kind n body e a = rw e (sizes-so-far r n body a)
+
+valid-whole :
+    {whole : Rule} {last : ℕ} {r : Rule} {s : List ℕ} → Accepted whole last r s → r .locations ≡ 0
+    → validRule whole ≡ true
+valid-whole (ended e h few same) none = absurd (omega arith)
+valid-whole (went-on {last = last} {r = r} {s = s} a rest) none =
+    let first = first-is-sizes last r (kindOf s) (bodyLength s) (bodyOf s) none (a .allowed) in
+    valid-from rest (first-so-far r (kindOf s) (bodyLength s) (bodyOf s) (first .0) (first .1))
+
+bytes-whole :
+    {whole : Rule} {last : ℕ} {r : Rule} {s : List ℕ} → Accepted whole last r s → r .locations ≡ 0
+    → allBelow 256 s ≡ true
+    → ruleBytes whole ≡ s
+bytes-whole (ended e h few same) none b = absurd (omega arith)
+bytes-whole (went-on {last = last} {r = r} {s = s} a rest) none b =
+    let first = first-is-sizes last r (kindOf s) (bodyLength s) (bodyOf s) none (a .allowed) in
+    bytes-from rest (first-so-far r (kindOf s) (bodyLength s) (bodyOf s) (first .0) (first .1))
+    (all-below-drop 256 (recordLength s) s b)
+    ∙ sizes-same-bytes r s b (a .whole) (first .0) (first .1)
+
+file-accepted : (file : List ℕ) → readRule file .refused ≡ fine → Accepted (readRule file .rule-is) 0 noRule file
+file-accepted file h =
+    rw (read-all file) (accepted 0 0 noRule file (ap (λ (x : Refusal). x .number) (rw (read-all file) at h)))
+
+pub spells-valid : Spells-valid
+spells-valid file h = valid-whole (file-accepted file h) refl
+
+pub same-bytes : Same-bytes
+same-bytes file b h = bytes-whole (file-accepted file h) refl b

@@ -1,0 +1,130 @@
+-- A valid rule in parts and back: the tests of its lists and edges one by one, and with one location or edge more.
+use mathlib.Core.Path.{_≡_, refl, ap₂}
+use mathlib.Core.Bool.{Bool, true, _&&_}
+use mathlib.Core.List.{List, [], _∷_, _++_}
+use Prim.Native.Nat.{ℕ, suc, _≤_, _<_}
+use native.Mathlib.Omega.{arith}
+use lib.Dec.{ltb, leb}
+use lib.ListN.{length}
+use borrow.Author.Tests.{leb-true, lt-ltb, le-leb}
+use Rattle.model.specs.Rules.{Edge, Rule, pairCount, mostPairs, mostEdges, mostAtoms, sizesOk, edgeOk, integerReset, rising, edgesOk, validRule}
+use Rattle.model.specs.Files.{pastLast}
+use Rattle.model.proofs.Logic.{and-left, and-right, and-both}
+use Rattle.model.proofs.Valid.{valid-of}
+use Rattle.model.proofs.MaskLists.{rising-least, rising-below, rising-rest}
+
+-- all but the bound on N
+pub record Parts (r : Rule) : Type 0 where
+  pub sizes : sizesOk (r .locations) (r .symbols) (r .clocks) ≡ true
+  pub initial-rises : rising 0 (r .locations) (r .initial) ≡ true
+  pub final-rises : rising 0 (r .locations) (r .final) ≡ true
+  pub ceiling-most : r .ceiling ≤ 31
+  pub edges-most : length (r .edges) ≤ mostEdges
+  pub edges-ok : edgesOk r (r .edges) ≡ true
+
+module _ (r : Rule) where
+  pub parts-valid : Parts r → pairCount r ≤ mostPairs → validRule r ≡ true
+  unfolding validRule
+  parts-valid q h =
+      rw (
+        q .sizes,
+        q .initial-rises,
+        q .final-rises,
+        le-leb (r .ceiling) 31 (q .ceiling-most),
+        le-leb (length (r .edges)) mostEdges (q .edges-most),
+        q .edges-ok,
+        le-leb (pairCount r) mostPairs h,
+      )
+
+  pub valid-parts : validRule r ≡ true → Parts r
+  unfolding validRule
+  valid-parts h =
+      let a : Bool = sizesOk (r .locations) (r .symbols) (r .clocks) in
+      let b : Bool = rising 0 (r .locations) (r .initial) in
+      let c : Bool = rising 0 (r .locations) (r .final) in
+      let d : Bool = leb (r .ceiling) 31 in
+      let e : Bool = leb (length (r .edges)) mostEdges in
+      let f : Bool = edgesOk r (r .edges) in
+      let g : Bool = leb (pairCount r) mostPairs in
+      let h6 : (a && b && c && d && e && f) ≡ true = and-left (a && b && c && d && e && f) g h in
+      let h5 : (a && b && c && d && e) ≡ true = and-left (a && b && c && d && e) f h6 in
+      let h4 : (a && b && c && d) ≡ true = and-left (a && b && c && d) e h5 in
+      let h3 : (a && b && c) ≡ true = and-left (a && b && c) d h4 in
+      let h2 : (a && b) ≡ true = and-left (a && b) c h3 in
+      record {
+        sizes = and-left a b h2;
+        initial-rises = and-right a b h2;
+        final-rises = and-right (a && b) c h3;
+        ceiling-most = leb-true (r .ceiling) 31 (and-right (a && b && c) d h4);
+        edges-most = leb-true (length (r .edges)) mostEdges (and-right (a && b && c && d) e h5);
+        edges-ok = and-right (a && b && c && d && e) f h6;
+      }
+
+  pub valid-pairs : validRule r ≡ true → pairCount r ≤ mostPairs
+  valid-pairs h = valid-of r h .pairs-most
+
+-- one edge
+pub record Edge-ok (r : Rule) (e : Edge) : Type 0 where
+  pub in-range : edgeOk r e ≡ true
+  pub pinned : integerReset e ≡ true
+  pub atoms-most : length (e .atoms) ≤ mostAtoms
+
+module _ (r : Rule) (e : Edge) (es : List Edge) where
+  pub first-edge : edgesOk r (e ∷ es) ≡ true → Edge-ok r e
+  first-edge h =
+      let a : Bool = edgeOk r e in
+      let b : Bool = integerReset e in
+      let c : Bool = leb (length (e .atoms)) mostAtoms in
+      let h3 : (a && b && c) ≡ true = and-left (a && b && c) (edgesOk r es) h in
+      let h2 : (a && b) ≡ true = and-left (a && b) c h3 in
+      record {
+        in-range = and-left a b h2;
+        pinned = and-right a b h2;
+        atoms-most = leb-true (length (e .atoms)) mostAtoms (and-right (a && b) c h3);
+      }
+
+  pub other-edges : edgesOk r (e ∷ es) ≡ true → edgesOk r es ≡ true
+  other-edges h = and-right (edgeOk r e && integerReset e && leb (length (e .atoms)) mostAtoms) (edgesOk r es) h
+
+  pub edge-more : Edge-ok r e → edgesOk r es ≡ true → edgesOk r (e ∷ es) ≡ true
+  edge-more q h = rw (q .in-range, q .pinned, le-leb (length (e .atoms)) mostAtoms (q .atoms-most), h)
+
+-- an edge is judged by the sizes alone
+pub same-sizes :
+    (q r : Rule) (es : List Edge) → q .locations ≡ r .locations → q .symbols ≡ r .symbols → q .clocks ≡ r .clocks
+    → edgesOk q es ≡ edgesOk r es
+same-sizes q r [] a b c = refl
+same-sizes q r (e ∷ es) a b c =
+    let one : edgeOk q e ≡ edgeOk r e = rw (a, b, c) in
+    ap₂ (λ (x y : Bool). x && integerReset e && leb (length (e .atoms)) mostAtoms && y) one (same-sizes q r es a b c)
+
+-- one edge more at the end
+pub edge-last :
+    (r : Rule) (es : List Edge) (e : Edge) → edgesOk r es ≡ true → Edge-ok r e → edgesOk r (es ++ (e ∷ [])) ≡ true
+edge-last r [] e h q = edge-more r e [] q refl
+edge-last r (f ∷ es) e h q =
+    edge-more r f (es ++ (e ∷ [])) (first-edge r f es h) (edge-last r es e (other-edges r f es h) q)
+
+-- one location more at the end
+pub past-last : (xs : List ℕ) (x : ℕ) → pastLast (xs ++ (x ∷ [])) ≡ suc x
+past-last [] x = refl
+past-last (y ∷ []) x = refl
+past-last (y ∷ z ∷ ys) x = past-last (z ∷ ys) x
+
+after-last :
+    (least l y : ℕ) (ys : List ℕ) (x : ℕ) → rising least l (y ∷ ys) ≡ true → pastLast (y ∷ ys) ≤ x → x < l
+    → rising least l ((y ∷ ys) ++ (x ∷ [])) ≡ true
+after-last least l y [] x h b c =
+    let p = le-leb least y (rising-least least l y [] h) in
+    let q = lt-ltb y l (rising-below least l y [] h) in
+    rw (p, q, le-leb (suc y) x b, lt-ltb x l c)
+after-last least l y (z ∷ ys) x h b c =
+    and-both (leb least y && ltb y l) (rising (suc y) l ((z ∷ ys) ++ (x ∷ [])))
+    (and-left (leb least y && ltb y l) (rising (suc y) l (z ∷ ys)) h)
+    (after-last (suc y) l z ys x (rising-rest least l y (z ∷ ys) h) b c)
+
+pub rising-last :
+    (l : ℕ) (xs : List ℕ) (x : ℕ) → rising 0 l xs ≡ true → pastLast xs ≤ x → x < l
+    → rising 0 l (xs ++ (x ∷ [])) ≡ true
+rising-last l [] x h b c = rw (le-leb 0 x (omega arith), lt-ltb x l c)
+rising-last l (y ∷ ys) x h b c = after-last 0 l y ys x h b c

@@ -1,0 +1,99 @@
+//! The runner by branch: the least accepting run of a short word.
+
+use crate::rule::{check_rule, initial_locations, Edge, Head, Rule, MOST_CLOCKS};
+use crate::time::{Age, Stamp};
+use crate::word::check_word;
+use crate::Refusal;
+
+/// The most events of a word run by branch.
+pub const MOST_BRANCH_EVENTS: usize = 12;
+
+/// The accepting run that is least by start, then edge by edge; all zero if there is none.
+#[derive(Clone, Copy, Debug, Default, PartialEq, Eq)]
+pub struct Branch {
+    /// Whether there is an accepting run.
+    pub found: bool,
+    /// Its start location.
+    pub start: u32,
+    /// Its edges' numbers from 0; places past the word's events are zero.
+    pub edges: [u32; MOST_BRANCH_EVENTS],
+}
+
+/// Follows the branches of a word of at most 12 events: 20, 21, 30 to 33.
+pub fn run_branches(
+    head: &Head,
+    edges: &[u16],
+    grain: u32,
+    symbols: &[u16],
+    stamps: &[u32],
+) -> Result<Branch, Refusal> {
+    check_rule(head, edges)?;
+    check_word(head.symbols, grain, MOST_BRANCH_EVENTS as u32, symbols, stamps)?;
+    let mut branch = Branch::default();
+    for start in initial_locations(head) {
+        let from = Configuration { location: start, ages: [Age::ZERO; MOST_CLOCKS as usize] };
+        let rest = Rest { symbols, stamps, last: Stamp::START };
+        if follow(Rule { head, edges, grain }, rest, from, &mut branch.edges) {
+            branch.found = true;
+            branch.start = start;
+            break;
+        }
+    }
+    Ok(branch)
+}
+
+/// A location and an age per clock.
+#[derive(Clone, Copy)]
+struct Configuration {
+    location: u32,
+    ages: [Age; MOST_CLOCKS as usize],
+}
+
+/// The events left, and the stamp before them.
+#[derive(Clone, Copy)]
+struct Rest<'a> {
+    symbols: &'a [u16],
+    stamps: &'a [u32],
+    last: Stamp,
+}
+
+/// Whether some run over the events left is accepting; writes the edges of the least one.
+fn follow(rule: Rule, rest: Rest, from: Configuration, run: &mut [u32]) -> bool {
+    let (Some((&symbol, symbols)), Some((&stamp, stamps))) =
+        (rest.symbols.split_first(), rest.stamps.split_first())
+    else {
+        return rule.is_final(from.location);
+    };
+    let stamp = Stamp(stamp);
+    let aged = from.after(stamp.since(rest.last));
+    let rest = Rest { symbols, stamps, last: stamp };
+    for (number, edge) in rule.edges().enumerate() {
+        let taken = edge.symbol() == symbol && aged.allows(edge, rule.grain);
+        if taken && follow(rule, rest, aged.moved(edge), &mut run[1..]) {
+            run[0] = number as u32;
+            return true;
+        }
+    }
+    false
+}
+
+impl Configuration {
+    fn after(self, delay: Age) -> Self {
+        Configuration { ages: self.ages.map(|age| age.after(delay)), ..self }
+    }
+
+    fn allows(&self, edge: Edge, grain: u32) -> bool {
+        edge.source() == self.location
+            && edge.allows(|clock| self.ages[clock], |constant| Age::of_constant(constant, grain))
+    }
+
+    fn moved(&self, edge: Edge) -> Self {
+        let mut ages = self.ages;
+        for (clock, age) in ages.iter_mut().enumerate() {
+            if edge.resets_clock(clock) {
+                *age = Age::ZERO;
+            }
+        }
+        Configuration { location: edge.target(), ages }
+    }
+}

@@ -1,0 +1,273 @@
+//! The construction of the one-timer table.
+
+use crate::rule::{check_rule, code_count, edges_in_use, initial_locations, largest_constant, Edge, Head};
+use crate::table::{Built, MOST_ROWS};
+use crate::time::Interval;
+use crate::Refusal;
+
+/// Builds the table of a rule into the lent tables: 20, 21, 22, then 23 and 24.
+///
+/// After 20 to 22 all lent memory is untouched; after 23 and 24 the tables and the scratch are zero. On
+/// success the scratch is zero, and so are the tables' places not in use. The built record that goes with a
+/// refusal is all zero (`Built::default()`).
+pub fn build_table(
+    head: &Head,
+    edges: &[u16],
+    scratch: &mut [u32],
+    cells: &mut [u32],
+    rows: &mut [u32],
+    pool: &mut [u32],
+) -> Result<Built, Refusal> {
+    check_rule(head, edges)?;
+    let largest = largest_constant(head, edges);
+    let codes = code_count(head.locations, head.clocks, largest);
+    Refusal::unless(scratch.len() >= codes as usize, 22)?;
+    clear([scratch, cells, rows, pool]);
+    let mut builder = Builder {
+        head,
+        edges,
+        codes: Codes::new(head.clocks, largest),
+        marks: Marks::over(scratch),
+        cells,
+        rows,
+        pool,
+        row_count: 0,
+        code_total: 0,
+    };
+    let outcome = builder.number_rows();
+    if outcome.is_err() {
+        clear([scratch, cells, rows, pool]);
+    }
+    outcome
+}
+
+fn clear(tables: [&mut [u32]; 4]) {
+    for table in tables {
+        table.fill(0);
+    }
+}
+
+/// How a location and the clocks' bases make a code.
+struct Codes {
+    clocks: usize,
+    largest: u32,
+    /// (cm + 2)^k for k from 0 to 4.
+    powers: [u32; 5],
+}
+
+impl Codes {
+    fn new(clocks: u32, largest: u32) -> Self {
+        let powers = [0, 1, 2, 3, 4].map(|exponent| (largest + 2).pow(exponent));
+        Codes { clocks: clocks as usize, largest, powers }
+    }
+
+    /// The codes per location.
+    fn per_location(&self) -> u32 {
+        self.powers[self.clocks]
+    }
+
+    fn base(&self, code: u32, clock: usize) -> u32 {
+        code / self.powers[clock] % (self.largest + 2)
+    }
+
+    /// Whether the edge's guard holds for a pair when the timer is in this interval.
+    fn allow(&self, code: u32, edge: Edge, interval: Interval) -> bool {
+        let region = |clock| interval.plus_base(self.base(code, clock), self.largest);
+        edge.allows(region, Interval::of_constant)
+    }
+
+    /// The edge's target with all bases as they are.
+    fn kept(&self, code: u32, edge: Edge) -> u32 {
+        edge.target() * self.per_location() + code % self.per_location()
+    }
+
+    /// The edge's target with the bases moved on by a whole number and the edge's clocks zeroed.
+    fn moved(&self, code: u32, edge: Edge, by: u32) -> u32 {
+        let mut target = edge.target() * self.per_location();
+        for clock in (0..self.clocks).filter(|&clock| !edge.resets_clock(clock)) {
+            target += (self.base(code, clock) + by).min(self.largest + 1) * self.powers[clock];
+        }
+        target
+    }
+}
+
+/// A set of codes: a number per code, not zero where the code is in the set.
+struct Marks<'a> {
+    marks: &'a mut [u32],
+    /// The lowest mark, and the place after the highest.
+    low: usize,
+    end: usize,
+}
+
+impl<'a> Marks<'a> {
+    fn over(marks: &'a mut [u32]) -> Self {
+        Marks { marks, low: usize::MAX, end: 0 }
+    }
+
+    fn set(&mut self, code: u32) {
+        let code = code as usize;
+        self.marks[code] = 1;
+        self.low = self.low.min(code);
+        self.end = self.end.max(code + 1);
+    }
+
+    /// Turns the marks into the ascending list of their codes, at the front, and returns its length.
+    ///
+    /// The list never overtakes the marks still to be read.
+    fn gather(&mut self) -> usize {
+        let mut length = 0;
+        for code in self.low..self.end {
+            if self.marks[code] != 0 {
+                self.marks[code] = 0;
+                self.marks[length] = code as u32;
+                length += 1;
+            }
+        }
+        self.low = usize::MAX;
+        self.end = 0;
+        length
+    }
+
+    fn clear(&mut self, length: usize) {
+        self.marks[..length].fill(0);
+    }
+}
+
+/// The work under way.
+struct Builder<'a> {
+    head: &'a Head,
+    edges: &'a [u16],
+    codes: Codes,
+    marks: Marks<'a>,
+    cells: &'a mut [u32],
+    rows: &'a mut [u32],
+    pool: &'a mut [u32],
+    row_count: usize,
+    code_total: usize,
+}
+
+impl Builder<'_> {
+    /// Numbers all rows by discovery and fills their cells.
+    fn number_rows(&mut self) -> Result<Built, Refusal> {
+        self.mark_start();
+        self.number_marked()?;
+        let mut cell = 0;
+        let mut row = 0;
+        while row < self.row_count {
+            for symbol in 0..self.head.symbols as u16 {
+                for interval in 0..Interval::count(self.codes.largest) {
+                    self.cells[cell] = self.cell(row, symbol, Interval(interval))?;
+                    cell += 1;
+                }
+            }
+            row += 1;
+        }
+        Ok(self.built())
+    }
+
+    fn built(&self) -> Built {
+        Built {
+            locations: self.head.locations,
+            symbols: self.head.symbols,
+            clocks: self.head.clocks,
+            largest: self.codes.largest,
+            finals: self.head.finals,
+            rows: self.row_count as u32,
+            pool: self.code_total as u32,
+        }
+    }
+
+    /// Marks every initial location with bases 0.
+    fn mark_start(&mut self) {
+        for location in initial_locations(self.head) {
+            self.marks.set(location * self.codes.per_location());
+        }
+    }
+
+    /// The cell of a row, symbol and interval: next row, and whether the timer is reset.
+    fn cell(&mut self, row: usize, symbol: u16, interval: Interval) -> Result<u32, Refusal> {
+        let reset_at = interval.constant().filter(|_| self.some_edge_resets(row, symbol, interval));
+        self.mark_targets(row, symbol, interval, reset_at);
+        let next = self.number_marked()?;
+        Ok(2 * next as u32 + u32::from(reset_at.is_some()))
+    }
+
+    /// Whether some edge that a pair of the row allows resets a clock.
+    fn some_edge_resets(&self, row: usize, symbol: u16, interval: Interval) -> bool {
+        let pairs = row_codes(self.rows, self.pool, row);
+        edges_on(self.head, self.edges, symbol).filter(|edge| edge.resets() != 0).any(|edge| {
+            let mut sources = codes_at(pairs, edge.source(), self.codes.per_location()).iter();
+            sources.any(|&code| self.codes.allow(code, edge, interval))
+        })
+    }
+
+    /// Marks the target of every edge that a pair of the row allows; a timer reset at [c] moves the bases.
+    fn mark_targets(&mut self, row: usize, symbol: u16, interval: Interval, reset_at: Option<u32>) {
+        let Builder { head, edges, codes, marks, rows, pool, .. } = self;
+        let pairs = row_codes(rows, pool, row);
+        for edge in edges_on(head, edges, symbol) {
+            for &code in codes_at(pairs, edge.source(), codes.per_location()) {
+                if codes.allow(code, edge, interval) {
+                    marks.set(match reset_at {
+                        Some(constant) => codes.moved(code, edge, constant),
+                        None => codes.kept(code, edge),
+                    });
+                }
+            }
+        }
+    }
+
+    /// The number of the marked set, which is a new row's if no row has it yet. Clears the marks.
+    fn number_marked(&mut self) -> Result<usize, Refusal> {
+        let length = self.marks.gather();
+        let row = match self.find(length) {
+            Some(row) => row,
+            None => self.append(length)?,
+        };
+        self.marks.clear(length);
+        Ok(row)
+    }
+
+    /// Looks the gathered set up among the rows, lengths first.
+    fn find(&self, length: usize) -> Option<usize> {
+        let set = &self.marks.marks[..length];
+        let mut rows = self.rows[..2 * self.row_count].chunks_exact(2);
+        rows.position(|row| row[1] as usize == length && self.pool[row[0] as usize..][..length] == *set)
+    }
+
+    /// Appends the gathered set as the next row: 23, 24.
+    fn append(&mut self, length: usize) -> Result<usize, Refusal> {
+        let row = self.row_count;
+        Refusal::unless(row < self.row_limit(), 23)?;
+        Refusal::unless(length <= self.pool.len() - self.code_total, 24)?;
+        self.rows[2 * row] = self.code_total as u32;
+        self.rows[2 * row + 1] = length as u32;
+        self.pool[self.code_total..][..length].copy_from_slice(&self.marks.marks[..length]);
+        self.row_count += 1;
+        self.code_total += length;
+        Ok(row)
+    }
+
+    /// How many rows there is room for.
+    fn row_limit(&self) -> usize {
+        let row_cells = self.head.symbols * Interval::count(self.codes.largest);
+        (MOST_ROWS as usize).min(self.rows.len() / 2).min(self.cells.len() / row_cells as usize)
+    }
+}
+
+/// The edges with this symbol.
+fn edges_on<'a>(head: &Head, edges: &'a [u16], symbol: u16) -> impl Iterator<Item = Edge<'a>> {
+    edges_in_use(head, edges).filter(move |edge| edge.symbol() == symbol)
+}
+
+/// The codes of a row.
+fn row_codes<'a>(rows: &[u32], pool: &'a [u32], row: usize) -> &'a [u32] {
+    &pool[rows[2 * row] as usize..][..rows[2 * row + 1] as usize]
+}
+
+/// The codes of a row that stand for pairs with this location.
+fn codes_at(pairs: &[u32], location: u32, per_location: u32) -> &[u32] {
+    let first = pairs.partition_point(|&code| code < location * per_location);
+    let rest = &pairs[first..];
+    &rest[..rest.partition_point(|&code| code < (location + 1) * per_location)]
+}

@@ -1,0 +1,164 @@
+//! Random rules and words: all runs by the definition against every runner, and the set construction
+//! against the builder.
+
+mod common;
+
+use common::{
+    code, construct, enumerate, random_rule, random_word, refusal, Bounds, PlainRule, PlainWord, Random, Room,
+};
+use reference::{check_rule, check_table, follow_event, start_follower, write_rule, Branch, Built, Head};
+
+const SMALL: Bounds = Bounds { locations: 3, symbols: 2, clocks: 2, edges: 8, constant: 2 };
+const WIDER: Bounds = Bounds { locations: 4, symbols: 3, clocks: 4, edges: 14, constant: 3 };
+const LONG: Bounds = Bounds { locations: 3, symbols: 2, clocks: 2, edges: 5, constant: 2 };
+
+#[test]
+fn small_rules() {
+    cross_check(1, 700, &SMALL, 12, 6);
+}
+
+#[test]
+fn wider_rules() {
+    cross_check(2, 250, &WIDER, 10, 5);
+}
+
+#[test]
+fn twelve_events() {
+    cross_check(3, 250, &LONG, 10, 12);
+}
+
+fn cross_check(seed: u64, rules: usize, bounds: &Bounds, words: usize, events: u64) {
+    let mut random = Random(seed);
+    let (mut accepted, mut refused, mut resets) = (0, 0, 0);
+    for _ in 0..rules {
+        let rule = random_rule(&mut random, bounds);
+        let Some((room, head, built)) = build_and_compare(&rule) else { continue };
+        resets += room.cells.iter().filter(|&&cell| cell % 2 == 1).count();
+        for _ in 0..words {
+            let word = random_word(&mut random, &rule, events);
+            match run_and_compare(&rule, &word, &room, &head, &built) {
+                true => accepted += 1,
+                false => refused += 1,
+            }
+        }
+    }
+    println!("{accepted} accepted, {refused} not, {resets} cells with a reset");
+    assert!(accepted > rules && refused > rules && resets > rules / 2, "too few of some kind");
+}
+
+/// Reads, writes and builds a rule and compares each with what the plain rule says.
+fn build_and_compare(rule: &PlainRule) -> Option<(Room, Head, Built)> {
+    let plain = construct(rule, 400)?;
+    let width = 2 * rule.largest() as usize + 2;
+    let row_cells = width * usize::from(rule.symbols);
+    let codes: Vec<Vec<u32>> =
+        plain.rows.iter().map(|row| row.iter().map(|pair| code(rule, pair)).collect()).collect();
+    let total: usize = codes.iter().map(Vec::len).sum();
+    let count = codes.len();
+    let mut room = Room::new(rule.code_count() as usize, count * row_cells + 3, 2 * count + 1, total + 2, 11);
+
+    let file = rule.file();
+    let head = room.read(&file).unwrap();
+    assert_eq!(check_rule(&head, &room.edges), Ok(()));
+    let mut out = vec![0; file.len()];
+    assert_eq!(write_rule(&head, &room.edges, &mut out), Ok(file.len()));
+    assert_eq!(out, file);
+
+    let built = room.build(&head).unwrap();
+    assert_eq!((built.rows, built.pool), (count as u32, total as u32));
+    assert_eq!(u64::from(built.largest), rule.largest());
+    let mut cells: Vec<u32> =
+        plain.cells.iter().map(|&(row, reset)| 2 * row as u32 + u32::from(reset)).collect();
+    cells.resize(room.cells.len(), 0);
+    assert_eq!(room.cells, cells);
+    let mut pool = codes.concat();
+    pool.resize(room.pool.len(), 0);
+    assert_eq!(room.pool, pool);
+    let mut rows = Vec::new();
+    for row in &codes {
+        let start = if rows.is_empty() { 0 } else { rows[rows.len() - 2] + rows[rows.len() - 1] };
+        rows.extend([start, row.len() as u32]);
+    }
+    rows.push(0);
+    assert_eq!(room.rows, rows);
+    assert!(room.scratch.iter().all(|&number| number == 0));
+    assert_eq!(check_table(&built, &room.cells, &room.rows, &room.pool), Ok(()));
+    compare_tight_room(&head, &room, count, row_cells, total);
+    Some((room, head, built))
+}
+
+/// One row, cell or code less than needed is 23 or 24 and leaves zeros; just enough is enough.
+fn compare_tight_room(head: &Head, room: &Room, count: usize, row_cells: usize, total: usize) {
+    let scratch = room.scratch.len();
+    let tries = [
+        (count * row_cells, 2 * count, total, None),
+        (count * row_cells - 1, 2 * count, total, Some(23)),
+        (count * row_cells, 2 * count - 1, total, Some(23)),
+    ];
+    let short_pool = (count * row_cells, 2 * count, total.saturating_sub(1), Some(24));
+    let tries = tries.into_iter().chain((total > 0).then_some(short_pool));
+    for (cells, rows, pool, number) in tries {
+        let mut tight = Room::new(scratch + 1, cells, rows, pool, 8);
+        tight.edges.copy_from_slice(&room.edges);
+        let outcome = tight.build(head);
+        assert!(tight.scratch.iter().all(|&number| number == 0));
+        match number {
+            None => assert!(outcome.is_ok()),
+            Some(number) => {
+                assert_eq!(outcome, refusal(number, 0));
+                for table in [&tight.cells, &tight.rows, &tight.pool] {
+                    assert!(table.iter().all(|&number| number == 0));
+                }
+            }
+        }
+    }
+}
+
+/// Runs a word by every runner, compares with all its runs, and returns the verdict.
+fn run_and_compare(rule: &PlainRule, word: &PlainWord, room: &Room, head: &Head, built: &Built) -> bool {
+    let runs = enumerate(rule, word);
+    let accepted = !runs.accepting.is_empty();
+    let about = || format!("{rule:?} {word:?}");
+    assert_eq!(room.table(built, word), Ok(accepted), "{}", about());
+    assert_eq!(room.branch(head, word), Ok(least(&runs.accepting)), "{}", about());
+    compare_follower(rule, word, room, built);
+
+    let size = 2 * (1 + usize::from(rule.clocks));
+    let most = runs.configurations.iter().map(|set| set.len()).max().unwrap();
+    let mut scratch = vec![6; most * size + size - 1];
+    assert_eq!(room.exact(head, word, &mut scratch), Ok(accepted), "{}", about());
+    assert!(scratch.iter().all(|&number| number == 0));
+    if most > 0 {
+        let place = runs.configurations.iter().position(|set| set.len() == most).unwrap();
+        let mut scratch = vec![6; most * size - 1];
+        assert_eq!(room.exact(head, word, &mut scratch), refusal(26, place), "{}", about());
+        assert!(scratch.iter().all(|&number| number == 0));
+    }
+    accepted
+}
+
+/// The least accepting run as the branch runner returns it.
+fn least(accepting: &[(u16, Vec<u32>)]) -> Branch {
+    let Some((start, taken)) = accepting.iter().min() else { return Branch::default() };
+    let mut edges = [0; 12];
+    edges[..taken.len()].copy_from_slice(taken);
+    Branch { found: true, start: u32::from(*start), edges }
+}
+
+/// The follower's verdict after each event is that of the word so far.
+fn compare_follower(rule: &PlainRule, word: &PlainWord, room: &Room, built: &Built) {
+    let mut follower = start_follower(word.grain).unwrap();
+    for event in 0..word.symbols.len() {
+        let (symbol, stamp) = (word.symbols[event], word.stamps[event]);
+        let (verdict, after) =
+            follow_event(follower, built, &room.cells, &room.rows, &room.pool, symbol, stamp).unwrap();
+        let so_far = PlainWord {
+            grain: word.grain,
+            symbols: word.symbols[..=event].to_vec(),
+            stamps: word.stamps[..=event].to_vec(),
+        };
+        assert_eq!(verdict, !enumerate(rule, &so_far).accepting.is_empty());
+        assert_eq!((after.grain, after.last_stamp, after.count), (word.grain, stamp, event as u32 + 1));
+        follower = after;
+    }
+}
