@@ -17,14 +17,7 @@ use Rattle.model.proofs.Valid.{AtomIn, EdgeIn}
 use Rattle.pairs.specs.declared.Scale.{Scale}
 use Rattle.pairs.specs.declared.Pair.{Pair}
 use Rattle.pairs.specs.declared.Input.{Input}
-use Rattle.pairs.specs.Pairs.{radix, unpacked, movedBases, pairAllows, pairTarget, pairResetsOn, pairResetsBy, rowResetsBy}
-
--- the numbers of a rule
-pub record Scaled (r : Rule) (z : Scale) : Type 0 where
-  pub clocks-are : z .clocks ≡ r .clocks
-  pub clocks-most : r .clocks ≤ 4
-  pub top-is : z .top ≡ cm r
-  pub weight-is : z .weight ≡ baseCount r ^ r .clocks
+use Rattle.pairs.specs.Pairs.{Scaled, radix, unpacked, movedBases, pairAllows, pairTarget, pairResetsOn, pairResetsBy, rowResetsBy}
 
 -- the first k of n digits; bases are moved one by one
 digits-take : (k n m x : ℕ) → k ≤ n → take k (digitsOf n m x) ≡ digitsOf k m x

@@ -1,17 +1,25 @@
 -- Pairs, their codes and where edges lead from them, by the numbers that the code holds: the clocks, cm and the weight
 -- of a location. For the numbers of a rule they are the construction's own (proofs/Agreement.antt).
+use mathlib.Core.Path.{_≡_}
 use mathlib.Core.Bool.{Bool, true, false, _&&_, _||_}
 use mathlib.Core.List.{List, [], _∷_}
-use Prim.Native.Nat.{ℕ, suc, _+_, _*_, _/_}
+use Prim.Native.Nat.{ℕ, suc, _+_, _*_, _/_, _^_, _≤_}
 use lib.Dec.{eqb, ltb, leb}
 use lib.ListN.{take}
 use Rattle.model.specs.Basics.{pick, quotient, remainder, bit}
-use Rattle.model.specs.Rules.{Atom, Edge}
+use Rattle.model.specs.Rules.{Edge, Rule, cm, baseCount}
 use Rattle.model.specs.Runs.{zeroed}
 use Rattle.model.specs.Construction.{regionOf, regionsHold, digitsCode, digitsOf, advanced}
 use Rattle.pairs.specs.declared.Scale.{Scale}
 use Rattle.pairs.specs.declared.Pair.{Pair}
 use Rattle.pairs.specs.declared.Input.{Input}
+
+-- the numbers of a rule
+pub record Scaled (r : Rule) (z : Scale) : Type 0 where
+  pub clocks-are : z .clocks ≡ r .clocks
+  pub clocks-most : r .clocks ≤ 4
+  pub top-is : z .top ≡ cm r
+  pub weight-is : z .weight ≡ baseCount r ^ r .clocks
 
 -- a base takes cm + 2 values
 abbrev pub radix : Scale → ℕ
