@@ -5,3 +5,4 @@ pub mod RowSearch
 pub mod RowTables
 pub mod NewRow
 pub mod PlacedMarks
+pub mod CellLaws

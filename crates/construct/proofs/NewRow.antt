@@ -19,7 +19,7 @@ use Rattle.construct.specs.declared.Found.{Found}
 use Rattle.construct.specs.declared.Found.the-variants.{At, Nothing}
 use Rattle.construct.specs.declared.Progress.{Progress}
 use Rattle.construct.specs.declared.Placed.{Placed}
-use Rattle.construct.specs.Rows.{rowsIn, foundIn, Within, Held, Unfit, Numbered}
+use Rattle.construct.specs.Rows.{rowsIn, foundIn, Within, Held, Unfit, Grown, Numbered}
 use Rattle.construct.proofs.RowSearch.{rows-length}
 use Rattle.construct.proofs.RowTables.{filled-length, filled-set, filled-lay, rows-append, pool-append, rows-again, row-within}
 
@@ -147,7 +147,8 @@ module _ {rows pool : List ℕ} {p : Progress} (held : Held rows pool p) where
           progress = record { number = 0; rows = p .rows + 1; total = p .total + length x; room = p .room };
         })
     row-added = record {
-      held = λ e. record {
+      grown = record {
+        held = λ e. record {
         rows-are = rw (rows-then, rows-long) new-rows;
         pool-is = rw (rows-then, pool-long) new-pool;
         total-is =
@@ -160,11 +161,13 @@ module _ {rows pool : List ℕ} {p : Progress} (held : Held rows pool p) where
         room-most = held .room-most;
         room-fits = rw rows-long (held .room-fits);
         going = refl;
+        };
+        rows-are = λ e. rows-then;
+        refused = λ e. absurd (e refl);
+        room-kept = refl;
       };
-      rows-are = λ e. rows-then;
       row-is = λ e. refl;
-      refused = λ e. absurd (e refl);
-      room-kept = refl;
+      row-below = omega (arith, held .room-most);
     }
 
 -- a row that does not fit has no number
@@ -174,11 +177,14 @@ pub unplaced :
     → Numbered room after n rows pool
     (record { row = 0; progress = record { number = number; rows = count; total = total; room = room } })
 unplaced n count total u = record {
-  held = λ e. absurd (omega (arith, u .least));
-  rows-are = λ e. absurd (omega (arith, u .least));
+  grown = record {
+    held = λ e. absurd (omega (arith, u .least));
+    rows-are = λ e. absurd (omega (arith, u .least));
+    refused = λ e. u;
+    room-kept = refl;
+  };
   row-is = λ e. absurd (omega (arith, u .least));
-  refused = λ e. u;
-  room-kept = refl;
+  row-below = omega arith;
 }
 
 -- what the search found, as a number
@@ -213,11 +219,14 @@ module _ {rows pool : List ℕ} {p : Progress} (held : Held rows pool p) (x : Li
   placed-found row g =
       let k = found-at x (rowsIn (p .rows) rows pool) f row is-found g in
       record {
-        held = λ e. held;
-        rows-are = λ e. sym (with-present x (rowsIn (p .rows) rows pool) (k .0));
+        grown = record {
+          held = λ e. held;
+          rows-are = λ e. sym (with-present x (rowsIn (p .rows) rows pool) (k .0));
+          refused = λ e. absurd (e (held .going));
+          room-kept = refl;
+        };
         row-is = λ e. k .1;
-        refused = λ e. absurd (e (held .going));
-        room-kept = refl;
+        row-below = omega (arith, k .0, k .1, rows-length (p .rows) 0 rows pool, held .in-room, held .room-most);
       }
 
   -- none has: the next one is used
@@ -232,9 +241,12 @@ module _ {rows pool : List ℕ} {p : Progress} (held : Held rows pool p) (x : Li
       let are : withRow x rs ≡ rs ++ (x ∷ []) = with-new x rs new in
       let n : p .rows ≡ numberOf x rs = omega (arith, number-most 0 x rs, new, rows-length (p .rows) 0 rows pool) in
       record {
-        held = added .held;
-        rows-are = λ e. added .rows-are e ∙ sym are;
+        grown = record {
+          held = added .grown .held;
+          rows-are = λ e. added .grown .rows-are e ∙ sym are;
+          refused = λ e. rw are (added .grown .refused e);
+          room-kept = added .grown .room-kept;
+        };
         row-is = λ e. added .row-is e ∙ n;
-        refused = λ e. rw are (added .refused e);
-        room-kept = added .room-kept;
+        row-below = added .row-below;
       }

@@ -52,14 +52,19 @@ pub record Unfit (room pool number : ℕ) (rows : List (List ℕ)) : Type 0 wher
   pub least : 23 ≤ number
   pub refuses : (more : List (List ℕ)) → fitRefusal 0 room 0 pool (rows ++ more) ≡ refusal number 0
 
--- A set of codes was given its number n, and the rows are now these; or some row did not fit.
+-- The rows are now these, and held; or some row of them does not fit.
+pub record Grown (room : ℕ) (after : List (List ℕ)) (rows′ pool′ : List ℕ) (p : Progress) : Type 0 where
+  pub held : p .number ≡ 0 → Held rows′ pool′ p
+  pub rows-are : p .number ≡ 0 → rowsIn (p .rows) rows′ pool′ ≡ after
+  pub refused : (p .number ≡ 0 → ⊥) → Unfit room (length pool′) (p .number) after
+  pub room-kept : p .room ≡ room
+
+-- a set of codes was given its number n
 pub record Numbered
     (room : ℕ) (after : List (List ℕ)) (n : ℕ) (rows′ pool′ : List ℕ) (answer : Placed) : Type 0 where
-  pub held : answer .progress .number ≡ 0 → Held rows′ pool′ (answer .progress)
-  pub rows-are : answer .progress .number ≡ 0 → rowsIn (answer .progress .rows) rows′ pool′ ≡ after
+  pub grown : Grown room after rows′ pool′ (answer .progress)
   pub row-is : answer .progress .number ≡ 0 → answer .row ≡ n
-  pub refused : (answer .progress .number ≡ 0 → ⊥) → Unfit room (length pool′) (answer .progress .number) after
-  pub room-kept : answer .progress .room ≡ room
+  pub row-below : answer .row < mostRows
 
 -- the same of marks, which are then cleared
 pub record MarksNumbered

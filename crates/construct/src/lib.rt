@@ -1,4 +1,5 @@
 // The table builder: rows as sets of codes, numbered by discovery, into the lent tables.
+mod cells;
 mod lent;
 mod marks;
 mod rows;
@@ -33,5 +34,11 @@ pub struct Progress {
 // A set of codes with its row number.
 pub struct Placed {
     pub row: usize,
+    pub progress: Progress,
+}
+
+// A cell, and how far the rows are numbered with the row that it leads to.
+pub struct Filled {
+    pub cell: u32,
     pub progress: Progress,
 }

@@ -1,0 +1,41 @@
+// Cells, by row, symbol and interval; the rows that they lead to are numbered as they are found.
+ghost use mathlib.Core.Path.{_≡_};
+ghost use Prim.Native.Nat.{_+_, _*_, _^_, _<_};
+ghost use lib.ListN.{length};
+ghost use Rattle.model.specs.Basics.{oneIf};
+ghost use Rattle.model.specs.Construction.{width};
+ghost use Rattle.model.specs.Layout.{ruleIn};
+ghost use Rattle.construct.specs.Rows.{rowsIn};
+ghost use Rattle.construct.specs.Cells.{CanLeave, CellMade, CanFill, SymbolFilled, RowFilled, CanFillAll, AllFilled};
+use edges::wide32;
+use model::Head;
+use pairs::{Input, Scale};
+use pairs::numbers::wide8;
+use crate::{Filled, Progress};
+use crate::lent::narrow32;
+use crate::marks::mark_next;
+use crate::rows::place_marks;
+
+// Next row · 2, plus 1 if the timer is reset.
+pub(crate) fn cell_of(row: usize, timer: bool) -> u32
+    requires { ⌜ row < 4096 ⌝ }
+    ensures { λ r. ⌜ r ≡ 2 * row + oneIf timer ⌝ }
+{
+    if timer {
+        return narrow32(2 * row + 1);
+    }
+    narrow32(2 * row)
+}
+
+// The cell of a row at a symbol and an interval; the row that it leads to is numbered if it is new.
+pub(crate) fn make_cell(head: Head, edges: &[u16], scale: Scale, row: usize, input: Input, marks: &mut [u32], rows: &mut [u32], pool: &mut [u32], p: Progress) -> Filled
+    requires { ⌜ CanLeave (ruleIn head (now edges)) scale (now marks) (now rows) (now pool) p row ⌝ }
+    ensures { λ r. ⌜ CellMade (ruleIn head (now (edges .entry))) row input (rowsIn (p .rows) (now (rows .entry)) (now (pool .entry))) (p .room) (now (marks .entry)) (now (marks .exit)) (now (rows .exit)) (now (pool .exit)) r ⌝ }
+{
+    let start = wide32(rows[2 * row]);
+    let end = start + wide32(rows[2 * row + 1]);
+    let marked = mark_next(head, edges, scale, input, &pool[start..end], marks);
+    let placed = place_marks(marks, marked.span, rows, pool, p);
+    let progress = placed.progress;
+    Filled { cell: cell_of(placed.row, marked.timer), progress }
+}
