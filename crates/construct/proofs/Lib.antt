@@ -6,3 +6,5 @@ pub mod RowTables
 pub mod NewRow
 pub mod PlacedMarks
 pub mod CellLaws
+pub mod Laying
+pub mod SymbolFilling

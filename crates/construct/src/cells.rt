@@ -39,3 +39,34 @@ pub(crate) fn make_cell(head: Head, edges: &[u16], scale: Scale, row: usize, inp
     let progress = placed.progress;
     Filled { cell: cell_of(placed.row, marked.timer), progress }
 }
+
+// The place of a row's first cell at a symbol: (row · S + symbol) · W.
+pub(crate) fn place_of(row: usize, symbols: usize, symbol: usize, width: usize) -> usize
+    requires { ⌜ (row < 4096) × (symbols < 65536) × (symbol < 65536) × (width < 65536) ⌝ }
+    ensures { λ r. ⌜ r ≡ (row * symbols + symbol) * width ⌝ }
+{
+    (row * symbols + symbol) * width
+}
+
+// The cells of a row at a symbol, interval by interval.
+pub(crate) fn fill_symbol(head: Head, edges: &[u16], scale: Scale, row: usize, symbol: u32, marks: &mut [u32], cells: &mut [u32], rows: &mut [u32], pool: &mut [u32], p: Progress) -> Progress
+    requires { ⌜ CanFill (ruleIn head (now edges)) scale (now marks) (now cells) (now rows) (now pool) p row ⌝ }
+    requires { ⌜ symbol < head .symbols ⌝ }
+    ensures { λ r. ⌜ SymbolFilled (ruleIn head (now (edges .entry))) row symbol (rowsIn (p .rows) (now (rows .entry)) (now (pool .entry))) (p .room) (now (marks .entry)) (now (marks .exit)) (now (cells .entry)) (now (cells .exit)) (now (rows .exit)) (now (pool .exit)) r ⌝ }
+{
+    let width = 2 * wide8(scale.top) + 2;
+    let at = place_of(row, wide32(head.symbols), wide32(symbol), width);
+    let mut progress = p;
+    let mut i: usize = 0;
+    while i < width {
+        let input = Input { symbol, interval: narrow32(i) };
+        let filled = make_cell(head, edges, scale, row, input, marks, rows, pool, progress);
+        progress = filled.progress;
+        if progress.number != 0 {
+            return progress;
+        }
+        cells[at + i] = filled.cell;
+        i += 1;
+    }
+    progress
+}
