@@ -8,3 +8,4 @@ pub mod PlacedMarks
 pub mod CellLaws
 pub mod Laying
 pub mod SymbolFilling
+pub mod RowFilling

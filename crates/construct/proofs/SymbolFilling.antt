@@ -28,13 +28,17 @@ use Rattle.construct.proofs.RowSearch.{rows-length}
 use Rattle.construct.proofs.TargetMarks.{ready-again}
 use Rattle.construct.proofs.Laying.{laid-none, laid-store, cells-snoc, cell-stays}
 
+pub extends-more :
+    {rs after : List (List ℕ)} (e : Extends rs after) (more : List (List ℕ)) → after ++ more ≡ rs ++ (e .added ++ more)
+extends-more {rs} e more = ap (λ (l : List (List ℕ)). l ++ more) (e .after-is) ∙ append-assoc rs (e .added) more
+
 -- what does not fit among some rows does not fit among more
 pub unfit-extends :
     {room pool number : ℕ} {rs after : List (List ℕ)} → Unfit room pool number rs → Extends rs after
     → Unfit room pool number after
-unfit-extends {rs = rs} u e = record {
+unfit-extends u e = record {
   least = u .least;
-  refuses = λ more. rw (e .after-is, append-assoc rs (e .added) more) (u .refuses (e .added ++ more));
+  refuses = λ more. rw (extends-more e more) (u .refuses (e .added ++ more));
 }
 
 -- the place of a cell lies in the table
@@ -159,7 +163,7 @@ module _
         let old : List (List ℕ) = rowsIn (p .rows) rows pool in
         let new : List (List ℕ) = withRow (nextRow r s i x) old in
         let ext : Extends old new = with-extends (nextRow r s i x) old in
-        let all-are : new ++ more ≡ old ++ (ext .added ++ more) = rw (ext .after-is) (append-assoc old (ext .added) more) in
+        let all-are : new ++ more ≡ old ++ (ext .added ++ more) = extends-more ext more in
         let before : cells ≡ laid cells₀ at (cellsFrom i 0 r (new ++ more) x s) =
         rw all-are (inv .cells-are (ext .added ++ more)) in
         let cell : answer .cell ≡ cellOf r (new ++ more) x s i =

@@ -70,3 +70,37 @@ pub(crate) fn fill_symbol(head: Head, edges: &[u16], scale: Scale, row: usize, s
     }
     progress
 }
+
+// The cells of a row, symbol by symbol.
+pub(crate) fn fill_row(head: Head, edges: &[u16], scale: Scale, row: usize, marks: &mut [u32], cells: &mut [u32], rows: &mut [u32], pool: &mut [u32], p: Progress) -> Progress
+    requires { ⌜ CanFill (ruleIn head (now edges)) scale (now marks) (now cells) (now rows) (now pool) p row ⌝ }
+    ensures { λ r. ⌜ RowFilled (ruleIn head (now (edges .entry))) row (rowsIn (p .rows) (now (rows .entry)) (now (pool .entry))) (p .room) (now (marks .entry)) (now (marks .exit)) (now (cells .entry)) (now (cells .exit)) (now (rows .exit)) (now (pool .exit)) r ⌝ }
+{
+    let mut progress = p;
+    let mut symbol: u32 = 0;
+    while symbol < head.symbols {
+        progress = fill_symbol(head, edges, scale, row, symbol, marks, cells, rows, pool, progress);
+        if progress.number != 0 {
+            return progress;
+        }
+        symbol += 1;
+    }
+    progress
+}
+
+// All rows, as they are found.
+pub(crate) fn fill_rows(head: Head, edges: &[u16], scale: Scale, marks: &mut [u32], cells: &mut [u32], rows: &mut [u32], pool: &mut [u32], p: Progress) -> Progress
+    requires { ⌜ CanFillAll (ruleIn head (now edges)) scale (now marks) (now cells) (now rows) (now pool) p ⌝ }
+    ensures { λ r. ⌜ AllFilled (ruleIn head (now (edges .entry))) (p .room) (now (marks .entry)) (now (marks .exit)) (now (cells .entry)) (now (cells .exit)) (now (rows .exit)) (now (pool .exit)) r ⌝ }
+{
+    let mut progress = p;
+    let mut row: usize = 0;
+    while row < progress.rows {
+        progress = fill_row(head, edges, scale, row, marks, cells, rows, pool, progress);
+        if progress.number != 0 {
+            return progress;
+        }
+        row += 1;
+    }
+    progress
+}
