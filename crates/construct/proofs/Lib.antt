@@ -9,3 +9,4 @@ pub mod CellLaws
 pub mod Laying
 pub mod SymbolFilling
 pub mod RowFilling
+pub mod AllFilling
