@@ -1,12 +1,13 @@
-// The edge table by place, and the two numbers that the sizes of a rule give: cm and powers.
+// The edge table by place, and what the sizes of a rule give: their ranges, cm, powers and N.
 // Total: a place past the end of the table holds 0, as in the definitions.
 ghost use mathlib.Core.Path.{_≡_};
 ghost use Prim.Native.Nat.{ℕ, _+_, _*_, _^_, _≤_, _<_};
+ghost use lib.Dec.{ltb};
 ghost use lib.ListN.{length, getD, drop};
-ghost use Rattle.model.specs.Basics.{larger};
-ghost use Rattle.model.specs.Rules.{cm, largestConstant};
+ghost use Rattle.model.specs.Basics.{larger, within};
+ghost use Rattle.model.specs.Rules.{cm, largestConstant, sizesOk};
 ghost use Rattle.model.specs.Layout.{edgeIn, edgeWidth, ruleIn};
-ghost use Rattle.edges.specs.Powers.{smallPower};
+ghost use Rattle.edges.specs.Powers.{smallPower, smallPairs};
 use model::Head;
 
 pub fn wide16(x: u16) -> usize
@@ -92,4 +93,55 @@ pub fn top_of(head: Head, edges: &[u16]) -> usize
         e += 1;
     }
     most
+}
+
+// N = L · (cm + 2)^K, for at most 32 locations, 4 clocks and a cm of at most 30; 0 for others.
+pub fn pairs_of(head: Head, edges: &[u16]) -> usize
+    ensures { λ r. ⌜ r ≡ smallPairs head (now (edges .entry)) ⌝ }
+{
+    let locations = wide32(head.locations);
+    if 32 < locations {
+        return 0;
+    }
+    let clocks = wide32(head.clocks);
+    if 4 < clocks {
+        return 0;
+    }
+    let top = top_of(head, edges);
+    if 30 < top {
+        return 0;
+    }
+    locations * power(top + 2, clocks)
+}
+
+pub(crate) fn in_range(x: usize, most: usize) -> bool
+    ensures { λ r. ⌜ r ≡ within 1 most x ⌝ }
+{
+    if x < 1 {
+        return false;
+    }
+    x <= most
+}
+
+// L, S and K in their ranges.
+pub fn sizes_ok(locations: usize, symbols: usize, clocks: usize) -> bool
+    ensures { λ r. ⌜ r ≡ sizesOk locations symbols clocks ⌝ }
+{
+    if !in_range(locations, 32) {
+        return false;
+    }
+    if !in_range(symbols, 16) {
+        return false;
+    }
+    in_range(clocks, 4)
+}
+
+// Whether a mask has no bit at or past `bits`.
+pub fn mask_ok(mask: usize, bits: usize) -> bool
+    ensures { λ r. ⌜ r ≡ ltb mask (2 ^ bits) ⌝ }
+{
+    if 63 < bits {
+        return true;
+    }
+    mask >> bits == 0
 }

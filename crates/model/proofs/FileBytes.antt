@@ -13,7 +13,7 @@ use Rattle.model.specs.Rules.{Atom, Edge, Rule, rising}
 use Rattle.model.specs.Files.{numbers, sizesRecord, locationRecords, ceilingRecord, atomNumbers, edgeRecord, edgeRecords, ruleBytes}
 use Rattle.model.proofs.Logic.{and-both, In, here, there}
 use Rattle.model.proofs.Valid.{AtomIn, EdgeIn, Valid}
-use Rattle.model.proofs.MaskLists.{rising-below, rising-rest}
+use Rattle.model.proofs.Rising.{rising-below, rising-rest}
 use Rattle.model.proofs.Bytes.{all-below-append, numbers-are-bytes}
 
 all-below-more : (m x : ℕ) (xs : List ℕ) → x < m → allBelow m xs ≡ true → allBelow m (x ∷ xs) ≡ true

@@ -7,9 +7,9 @@ use native.Mathlib.Omega.{arith}
 use lib.ListN.{length, length-append}
 use Rattle.model.specs.Rules.{Edge, Rule, rising, edgesOk}
 use Rattle.model.specs.Files.{locationRecords, ceilingRecord, edgeRecord, edgeRecords, ruleBytes}
-use Rattle.model.proofs.MaskLists.{rising-least, rising-below, rising-rest}
-use Rattle.model.proofs.Valid.{sizes-of}
-use Rattle.model.proofs.ValidParts.{Parts, first-edge, other-edges}
+use Rattle.model.proofs.Rising.{rising-least, rising-below, rising-rest}
+use Rattle.model.proofs.Valid.{sizes-of, Parts}
+use Rattle.model.proofs.ValidParts.{first-edge, other-edges}
 use Rattle.model.proofs.FileRead.{edge-record-length}
 
 pub locations-length : (kind : ℕ) (xs : List ℕ) → length (locationRecords kind xs) ≡ 6 * length xs

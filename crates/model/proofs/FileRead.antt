@@ -9,9 +9,9 @@ use lib.Seq.{append-snoc, drop-at}
 use Rattle.model.specs.Rules.{Atom, Edge, Rule, rule, pairCount, mostPairs, mostEdges, sizesOk, edgeOk, integerReset, rising, edgesOk}
 use Rattle.model.specs.Files.{numberAt, recordHead, atomsFrom, edgeFrom, pastLast, noRule, withInitial, withFinal, withCeiling, withEdge, withRecord, Spelt, readRule, numbers, locationRecords, ceilingRecord, atomNumbers, edgeRecord, edgeRecords, ruleBytes}
 use Rattle.model.specs.Demands.{Valid-is-spelt}
-use Rattle.model.proofs.MaskLists.{rising-least, rising-below, rising-rest}
-use Rattle.model.proofs.Valid.{sizes-of}
-use Rattle.model.proofs.ValidParts.{Parts, valid-parts, valid-pairs, Edge-ok, first-edge, other-edges, same-sizes, past-last}
+use Rattle.model.proofs.Rising.{rising-least, rising-below, rising-rest}
+use Rattle.model.proofs.Valid.{sizes-of, Parts, valid-parts, valid-pairs}
+use Rattle.model.proofs.ValidParts.{Edge-ok, first-edge, other-edges, same-sizes, past-last}
 use Rattle.model.proofs.Bytes.{two-back, numbers-length, atom-numbers-length}
 use Rattle.model.proofs.FileSteps.{readOn, read-all, read-ends}
 use Rattle.model.proofs.FileOutcomes.{spelt, end-fine}

@@ -8,8 +8,8 @@ use native.Mathlib.Omega.{arith}
 use lib.ListN.{length, drop, length-append}
 use Rattle.model.specs.Rules.{Edge, Rule, edgesOk}
 use Rattle.model.specs.Files.{numberAt, atomsFrom, edgeFrom, withSizes, withInitial, withFinal, withCeiling, withEdge, withRecord}
-use Rattle.model.proofs.Valid.{sizes-of}
-use Rattle.model.proofs.ValidParts.{Parts, same-sizes, edge-last, rising-last}
+use Rattle.model.proofs.Valid.{sizes-of, Parts}
+use Rattle.model.proofs.ValidParts.{same-sizes, edge-last, rising-last}
 use Rattle.model.proofs.FileRecords.{Sizes-allowed, Location-allowed, Ceiling-allowed, Edge-allowed, Allowed, sizes, initial, final, ceiling, edge}
 
 pub record So-far (last : ℕ) (r : Rule) : Type 0 where

@@ -12,18 +12,19 @@ use borrow.Author.Tests.{ltb-true, le-ltb, lt-leb, ne-eqb}
 use Rattle.model.specs.declared.Follower.{Follower}
 use Rattle.model.specs.Basics.{pick, remainder, refuse, fine, _⨾_}
 use Rattle.model.specs.Rules.{Rule, cm}
-use Rattle.model.specs.Words.{Event, eventsOf, mostEvents, grainOk, eventsRefusal, wordRefusal}
+use Rattle.model.specs.Words.{Event, eventsOf, mostEvents, grainOk, wordRefusal}
 use Rattle.model.specs.Runs.{accepts}
 use Rattle.model.specs.Construction.{intervalOf, rowResets, rowAt, rowsOf}
 use Rattle.model.specs.Tables.{Tables, tablesBy, tablesOf}
 use Rattle.model.specs.Walks.{inShape, shapeRefusal, verdict, startAt, step, stepAll, tableAccepts, strayed, followRefusal}
-use Rattle.model.specs.Demands.{Walk-agrees}
 use Rattle.model.specs.Claims.{noEvent, Follower-agrees}
-use Rattle.model.proofs.Logic.{remainder-is}
+use Rattle.model.proofs.Logic.{remainder-is, in-within}
 use Rattle.model.proofs.Valid.{Valid, valid-of}
 use Rattle.model.proofs.Discovery.{Closed, discovered}
-use Rattle.model.proofs.EvenResets.{resets-even}
-use Rattle.model.proofs.TableNeeds.{Age, beyond, whole, part, age, Word, word-of, word-back, grain-least, Event-in, event-of, Events-in, events-of, events-on}
+use Rattle.model.proofs.RowSets.{even-reset}
+use Rattle.model.proofs.Regions.{Age, beyond, whole, part, age}
+use Rattle.model.proofs.Words.{Ordered, Below, Keeps, fine-keeps, keeps-fine, events-length}
+use Rattle.model.proofs.Agreement.{walk-agrees}
 use Rattle.model.proofs.TableRoom.{fitted-closed}
 use Rattle.model.proofs.TableWalk.{Stepped, steps, table-walks}
 use Rattle.model.proofs.Shape.{built-in-shape}
@@ -82,7 +83,8 @@ reset-after c d last now reset q true hd h g e even =
 pub record Ready (r : Rule) (rows : List (List ℕ)) (d count : ℕ) (f : Follower) (v : Event) : Type 0 where
   pub last : ℕ
   pub kept : Kept rows d last count f
-  pub event-in : Event-in (r .symbols) last v
+  pub symbol-below : v .symbol < r .symbols
+  pub not-before : last ≤ v .stamp
 
 module _
     (r : Rule) (rows : List (List ℕ)) (c n p d : ℕ) (v : Valid r) (closed : Closed r (length rows) rows) (hd : 1 ≤ d)
@@ -90,9 +92,10 @@ module _
     step-kept :
         (f : Follower) (e : Event) (last count : ℕ)
         → Kept rows d last count f
-        → Event-in (r .symbols) last e
+        → e .symbol < r .symbols
+        → last ≤ e .stamp
         → Kept rows d (e .stamp) (suc count) (step (tablesBy r rows c n p) f e)
-    step-kept f e last count k h =
+    step-kept f e last count k hs ho =
         record {
           grain-is = s .grain-is ∙ k .grain-is;
           row-below = s .row-below;
@@ -107,40 +110,36 @@ module _
         i = intervalOf (cm r) (f .grain) (e .stamp - f .reset .0)
 
         s : Stepped r rows f e i (step (tablesBy r rows c n p) f e)
-        s = steps r rows c n p closed f e (omega (arith, k .grain-is)) (k .row-below) (h .symbol-below)
+        s = steps r rows c n p closed f e (omega (arith, k .grain-is)) (k .row-below) hs
 
         timer : Bool
         timer = rowResets r (e .symbol) i (rowAt rows (f .row))
 
         even : timer ≡ true → intervalOf (cm r) d (e .stamp - f .reset .0) % 2 ≡ 0
-        even t = rw (k .grain-is) at (resets-even r (e .symbol) i (rowAt rows (f .row)) v t)
+        even t = rw (k .grain-is) at (even-reset r (e .symbol) i (rowAt rows (f .row)) v t)
 
         reset : Reset d (e .stamp) (pick timer (e .stamp) (f .reset .0))
         reset =
-            reset-after (cm r) d last (e .stamp) (f .reset .0) (k .seconds) timer hd (h .not-before) (k .reset-before)
+            reset-after (cm r) d last (e .stamp) (f .reset .0) (k .seconds) timer hd ho (k .reset-before)
             (k .reset-whole) even
 
     pub ready :
-        (m : ℕ) (vs : List Event) (i last count : ℕ) (f : Follower)
+        (m : ℕ) (vs : List Event) (last count : ℕ) (f : Follower)
         → m < length vs
-        → eventsRefusal (r .symbols) i last vs ≡ fine
+        → Below (r .symbols) vs
+        → Ordered last vs
         → Kept rows d last count f
         → Ready r rows d (count + m) (stepAll (tablesBy r rows c n p) f (take m vs)) (getD vs m noEvent)
     unfolding stepAll
-    ready m [] i last count f h w k = absurd (omega arith)
-    ready zero (e ∷ vs) i last count f h w k =
+    ready m [] last count f h b o k = absurd (omega arith)
+    ready zero (e ∷ vs) last count f h b o k =
         let z : count + 0 ≡ count = omega arith in
-        record {
-          last = last;
-          kept = rw z k;
-          event-in = event-of (r .symbols) i last e (events-of (r .symbols) i last e vs w .passes-first);
-        }
-    ready (suc m) (e ∷ vs) i last count f h w k =
+        record { last = last; kept = rw z k; symbol-below = b .0; not-before = o .0 }
+    ready (suc m) (e ∷ vs) last count f h b o k =
         let z : count + suc m ≡ suc count + m = omega arith in
-        let all : Events-in (r .symbols) i last e vs = events-of (r .symbols) i last e vs w in
         rw z
-        (ready m vs (suc i) (e .stamp) (suc count) (step (tablesBy r rows c n p) f e) (omega arith) (all .rest-fine)
-        (step-kept f e last count k (event-of (r .symbols) i last e (all .passes-first))))
+        (ready m vs (e .stamp) (suc count) (step (tablesBy r rows c n p) f e) (omega arith) (b .1) (o .1)
+        (step-kept f e last count k (b .0) (o .0)))
 
 pub ready-at :
     (r : Rule) (rows : List (List ℕ)) (c n p d m : ℕ) (vs : List Event)
@@ -149,11 +148,12 @@ pub ready-at :
     → 1 ≤ length rows
     → 1 ≤ d
     → m < length vs
-    → eventsRefusal (r .symbols) 1 0 vs ≡ fine
+    → Below (r .symbols) vs
+    → Ordered 0 vs
     → Ready r rows d m (stepAll (tablesBy r rows c n p) (startAt d) (take m vs)) (getD vs m noEvent)
-ready-at r rows c n p d m vs v closed some hd h w =
+ready-at r rows c n p d m vs v closed some hd h b o =
     let z : 0 + m ≡ m = omega arith in
-    rw z at (ready r rows c n p d v closed hd m vs 1 0 0 (startAt d) h w (start-kept rows d some))
+    rw z at (ready r rows c n p d v closed hd m vs 0 0 (startAt d) h b o (start-kept rows d some))
 
 -- then none of 25, 30, 34, 31, 32 and 33 is met
 not-strayed :
@@ -188,21 +188,22 @@ all-pass shape grain stray many symbol order i a b c d e f = rw (a, b, c, d, e, 
 pub none-refused :
     (r : Rule) (rows : List (List ℕ)) (c n p d count : ℕ) (f : Follower) (v : Event)
     → inShape (tablesBy r rows c n p) ≡ true
-    → grainOk d ≡ true
+    → 1 ≤ d
+    → d ≤ 1000
     → count < mostEvents
     → Ready r rows d count f v
     → followRefusal (tablesBy r rows c n p) f v ≡ fine
 unfolding followRefusal shapeRefusal tablesBy
-none-refused r rows c n p d count f v shape grain h k =
+none-refused r rows c n p d count f v shape low high h k =
     let was : Kept rows d (k .last) count f = k .kept in
     all-pass (not (inShape (tablesBy r rows c n p))) (not (grainOk (f .grain))) (strayed (length rows) f)
     (eqb (f .count) mostEvents) (leb (r .symbols) (v .symbol)) (ltb (v .stamp) (f .last .0)) (suc (f .count))
     (ap not shape)
-    (ap not (ap grainOk (was .grain-is) ∙ grain))
-    (not-strayed rows d (k .last) count f (grain-least d grain) h was)
+    (ap not (ap grainOk (was .grain-is) ∙ in-within 1 1000 d low high))
+    (not-strayed rows d (k .last) count f low h was)
     (ne-eqb (f .count) mostEvents (omega (arith, was .count-is)))
-    (lt-leb (r .symbols) (v .symbol) (k .event-in .symbol-below))
-    (le-ltb (v .stamp) (f .last .0) (omega (arith, was .last-is, k .event-in .not-before)))
+    (lt-leb (r .symbols) (v .symbol) (k .symbol-below))
+    (le-ltb (v .stamp) (f .last .0) (omega (arith, was .last-is, k .not-before)))
 
 -- The word so far keeps the rules too.
 events-take :
@@ -213,36 +214,33 @@ events-take (suc n) (x ∷ xs) [] = refl
 events-take (suc n) (x ∷ xs) (t ∷ ts) =
     ap (λ (vs : List Event). record { symbol = x; stamp = t } ∷ vs) (events-take n xs ts)
 
-events-length : (xs ts : List ℕ) → length xs ≡ length ts → length (eventsOf xs ts) ≡ length xs
-events-length [] ts h = refl
-events-length (x ∷ xs) [] h = absurd (omega arith)
-events-length (x ∷ xs) (t ∷ ts) h = ap suc (events-length xs ts (omega arith))
+prefix-below : (s n : ℕ) (vs : List Event) → Below s vs → Below s (take n vs)
+prefix-below s zero vs b = tt
+prefix-below s (suc n) [] b = tt
+prefix-below s (suc n) (v ∷ vs) b = (b .0, prefix-below s n vs (b .1))
 
-prefix-fine :
-    (s n i last : ℕ) (vs : List Event)
-    → eventsRefusal s i last vs ≡ fine
-    → eventsRefusal s i last (take n vs) ≡ fine
-prefix-fine s zero i last vs h = refl
-prefix-fine s (suc n) i last [] h = refl
-prefix-fine s (suc n) i last (v ∷ vs) h =
-    let all : Events-in s i last v vs = events-of s i last v vs h in
-    events-on s i last v (take n vs) (all .passes-first) ∙ prefix-fine s n (suc i) (v .stamp) vs (all .rest-fine)
+prefix-ordered : (n last : ℕ) (vs : List Event) → Ordered last vs → Ordered last (take n vs)
+prefix-ordered zero last vs o = tt
+prefix-ordered (suc n) last [] o = tt
+prefix-ordered (suc n) last (v ∷ vs) o = (o .0, prefix-ordered n (v .stamp) vs (o .1))
 
 pub word-so-far :
     (s d most n : ℕ) (xs ts : List ℕ)
     → wordRefusal s d most xs ts ≡ fine
     → wordRefusal s d most (take n xs) (take n ts) ≡ fine
 word-so-far s d most n xs ts h =
-    let w : Word s d most xs ts = word-of s d most xs ts h in
-    word-back s d most (take n xs) (take n ts)
+    let w : Keeps s d most xs ts = fine-keeps s d most xs ts h in
+    keeps-fine s d most (take n xs) (take n ts)
     (record {
-      grain-ok = w .grain-ok;
-      counts = length-take n xs ∙ (ap (min n) (w .counts) ∙ sym (length-take n ts));
-      count-most = omega (arith, length-take n xs, w .count-most);
-      events-fine = rw (events-take n xs ts) (prefix-fine s n 1 0 (eventsOf xs ts) (w .events-fine));
+      grain-least = w .grain-least;
+      grain-most = w .grain-most;
+      lengths-equal = length-take n xs ∙ (ap (min n) (w .lengths-equal) ∙ sym (length-take n ts));
+      events-most = omega (arith, length-take n xs, w .events-most);
+      symbols-below = rw (events-take n xs ts) (prefix-below s n (eventsOf xs ts) (w .symbols-below));
+      stamps-ordered = rw (events-take n xs ts) (prefix-ordered n 0 (eventsOf xs ts) (w .stamps-ordered));
     })
 
--- The claim, from the agreement of the walk with the runs.
+-- The claim, by the agreement of the walk with the runs.
 verdict-so-far :
     (r : Rule) (t : Tables) (d n : ℕ) (xs ts : List ℕ)
     → tableAccepts t d (eventsOf (take n xs) (take n ts)) ≡ accepts r d (eventsOf (take n xs) (take n ts))
@@ -250,10 +248,10 @@ verdict-so-far :
 unfolding tableAccepts
 verdict-so-far r t d n xs ts h = rw (events-take n xs ts) at h
 
-pub follower-agrees-from : Walk-agrees → Follower-agrees
+pub follower-agrees : Follower-agrees
 unfolding tablesOf
-follower-agrees-from agrees r scratch cells rows pool d xs ts n valid fits word h =
-    let w : Word (r .symbols) d mostEvents xs ts = word-of (r .symbols) d mostEvents xs ts word in
+follower-agrees r scratch cells rows pool d xs ts n valid fits word h =
+    let w : Keeps (r .symbols) d mostEvents xs ts = fine-keeps (r .symbols) d mostEvents xs ts word in
     let so-far : wordRefusal (r .symbols) d mostEvents (take (suc n) xs) (take (suc n) ts) ≡ fine =
     word-so-far (r .symbols) d mostEvents (suc n) xs ts word in
     let l : n < length xs = ltb-true n (length xs) h in
@@ -261,13 +259,20 @@ follower-agrees-from agrees r scratch cells rows pool d xs ts n valid fits word 
       not-refused =
           none-refused r (rowsOf r) cells rows pool d n
           (stepAll (tablesOf r cells rows pool) (startAt d) (take n (eventsOf xs ts)))
-          (getD (eventsOf xs ts) n noEvent) (built-in-shape r scratch cells rows pool valid fits) (w .grain-ok)
-          (omega (arith, w .count-most))
+          (getD (eventsOf xs ts) n noEvent)
+          (built-in-shape r scratch cells rows pool valid fits)
+          (w .grain-least)
+          (w .grain-most)
+          (omega (arith, w .events-most))
           (ready-at r (rowsOf r) cells rows pool d n (eventsOf xs ts) (valid-of r valid)
-          (fitted-closed r scratch cells rows pool fits) (discovered r .some) (grain-least d (w .grain-ok))
-          (omega (arith, events-length xs ts (w .counts))) (w .events-fine));
+          (fitted-closed r scratch cells rows pool fits)
+          (discovered r .some)
+          (w .grain-least)
+          (omega (arith, events-length xs ts (w .lengths-equal)))
+          (w .symbols-below)
+          (w .stamps-ordered));
       verdict-is =
           verdict-so-far r (tablesOf r cells rows pool) d (suc n) xs ts
           (table-walks r scratch cells rows pool d mostEvents (take (suc n) xs) (take (suc n) ts) valid fits so-far
-          ∙ agrees r d mostEvents (take (suc n) xs) (take (suc n) ts) valid so-far);
+          ∙ walk-agrees r d mostEvents (take (suc n) xs) (take (suc n) ts) valid so-far);
     }

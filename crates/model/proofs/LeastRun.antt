@@ -13,7 +13,8 @@ use Rattle.model.specs.Words.{Event}
 use Rattle.model.specs.Runs.{older, zeroed, canTake, startAges, noEdge, runEndsFinal, isAcceptingRun, someEdge, acceptsFrom, acceptsFromSome, accepts, Path, path, leastEdge, leastFrom, leastStart, leastRun}
 use Rattle.model.specs.Claims.{notAfter, Runs-are}
 use Rattle.model.proofs.Logic.{no-way, by-test, and-left, and-right, and-both, or-right, Cmp, cmp, is-lt, is-eq, is-gt, In, here, there, is-in, in-is}
-use Rattle.model.proofs.Valid.{valid-of, rises-on, rises-least}
+use Rattle.model.proofs.Valid.{valid-of}
+use Rattle.model.proofs.Rising.{rising-rest, rises-least}
 use Rattle.model.proofs.Runs.{RunStep, run-step, run-from, run-accepts}
 
 -- An event: the first edge, by number, that serves, which is to say that it can be taken and a run is found from there.
@@ -238,7 +239,7 @@ module _ (r : Rule) (d : ℕ) (vs : List Event) where
       → leastStart r d vs ls .start ≤ k
   start-lowest least most (l ∷ ls) k rises (here e) s = rw (start-yes l ls (rw e at s)) (omega arith)
   start-lowest least most (l ∷ ls) k rises (there i) s =
-      let on = rises-on least most l ls rises in
+      let on = rising-rest least most l ls rises in
       by-test (leastAt l .found)
       (λ q. rw (start-yes l ls q) (omega (arith, rises-least (suc l) most ls k on i)))
       (λ q. rw (start-no l ls q) (start-lowest (suc l) most ls k on i s))

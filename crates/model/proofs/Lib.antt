@@ -1,16 +1,24 @@
 -- What is proved of the definitions, in the order in which it is built.
 -- Plain laws: tests, membership, refusals in order, masks
 pub mod Logic
+pub mod Flags
 pub mod Refusals
+pub mod Answers
 pub mod Masks
+pub mod Rising
 pub mod MaskLists
 pub mod MaskSets
 -- A valid rule and a word that keeps the rules, as plain facts; the edge table by place, and read back
 pub mod Valid
 pub mod ValidParts
+pub mod TopMost
 pub mod Words
+pub mod Events
 pub mod EdgeTable
 pub mod EdgesWritten
+-- Ages as lists; the checks that come before a run
+pub mod Ages
+pub mod Inputs
 -- P1 to P9, two whole tables, every refusal at its edges: by computation from the definitions
 pub mod Examples
 pub mod Refused
@@ -20,6 +28,8 @@ pub mod Numbers
 -- Runs: a word is accepted exactly if some run is accepting; the least run
 pub mod Runs
 pub mod LeastRun
+-- With all configurations kept, accepted is to end in a final location
+pub mod Configs
 -- Rows: bases track ages, codes give their pairs back, the successor row is the paper's set
 pub mod Regions
 pub mod Clocks
@@ -32,10 +42,8 @@ pub mod Agreement
 pub mod RowsKeep
 pub mod RowNumbers
 pub mod Discovery
--- The tables: room, places, walk, shape, follower
+-- The tables: room, places, walk, shape; the follower against the runs
 pub mod CodeBounds
-pub mod EvenResets
-pub mod TableNeeds
 pub mod TableRoom
 pub mod TablePlaces
 pub mod TableWalk
@@ -61,5 +69,5 @@ pub mod ReadWrite
 pub mod Calls
 pub mod ThreeCalls
 pub mod Decision
--- The runners agree; the follower against the runs
+-- The runners agree
 pub mod Runners

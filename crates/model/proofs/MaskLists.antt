@@ -10,33 +10,7 @@ use Rattle.model.specs.Basics.{isIn, bit, maskOf, bitsFrom}
 use Rattle.model.specs.Rules.{rising}
 use Rattle.model.proofs.Logic.{and-left, and-right, Cmp, cmp, is-lt, is-eq, is-gt}
 use Rattle.model.proofs.Masks.{Asc, not-below, mask-bits}
-
--- a rising list, as plain facts: it ascends, and its numbers are below l
-abbrev pub Below : ℕ → List ℕ → Type 0
-Below l [] = Unit {0}
-Below l (x ∷ xs) = (x < l) × Below l xs
-
-pub rising-least : (least l x : ℕ) (xs : List ℕ) → rising least l (x ∷ xs) ≡ true → least ≤ x
-rising-least least l x xs h =
-    leb-true least x
-    (and-left (leb least x) (ltb x l) (and-left (leb least x && ltb x l) (rising (suc x) l xs) h))
-
-pub rising-below : (least l x : ℕ) (xs : List ℕ) → rising least l (x ∷ xs) ≡ true → x < l
-rising-below least l x xs h =
-    ltb-true x l (and-right (leb least x) (ltb x l) (and-left (leb least x && ltb x l) (rising (suc x) l xs) h))
-
-pub rising-rest : (least l x : ℕ) (xs : List ℕ) → rising least l (x ∷ xs) ≡ true → rising (suc x) l xs ≡ true
-rising-rest least l x xs h = and-right (leb least x && ltb x l) (rising (suc x) l xs) h
-
-pub rising-asc : (least l : ℕ) (xs : List ℕ) → rising least l xs ≡ true → Asc least xs
-rising-asc least l [] h = tt
-rising-asc least l (x ∷ xs) h =
-    (rising-least least l x xs h, rising-asc (suc x) l xs (rising-rest least l x xs h))
-
-pub rising-all-below : (least l m : ℕ) (xs : List ℕ) → l ≤ m → rising least l xs ≡ true → Below m xs
-rising-all-below least l m [] q h = tt
-rising-all-below least l m (x ∷ xs) q h =
-    (omega (arith, rising-below least l x xs h), rising-all-below (suc x) l m xs q (rising-rest least l x xs h))
+use Rattle.model.proofs.Rising.{Below, rising-asc, rising-all-below}
 
 -- the bits of a mask from i on are a list that ascends from i
 abbrev Bits : ℕ → ℕ → List ℕ → Type 0

@@ -12,7 +12,7 @@ use borrow.Author.Tests.{eqb-true, eqb-false, lt-ltb, le-leb}
 use Rattle.model.specs.Basics.{bit, maskOf, bitsFrom}
 use Rattle.model.specs.Rules.{rising}
 use Rattle.model.proofs.Logic.{Two, two, less, least}
-use Rattle.model.proofs.MaskLists.{rising-least, rising-below, rising-rest}
+use Rattle.model.proofs.Rising.{rising-least, rising-below, rising-rest}
 
 -- one number more
 pub mask-append : (xs ys : List ℕ) → maskOf (xs ++ ys) ≡ maskOf xs + maskOf ys

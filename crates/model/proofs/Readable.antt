@@ -17,8 +17,7 @@ use Rattle.model.specs.Demands.{Spelled, Only-read}
 use Rattle.model.proofs.Logic.{and-left, and-right, same-equal, same-self}
 use Rattle.model.proofs.Refusals.{refused-false, then-passes, Settled, refuse-settled, then-settled}
 use Rattle.model.proofs.MaskLists.{bits-of-mask}
-use Rattle.model.proofs.Valid.{sizes-of, valid-of}
-use Rattle.model.proofs.ValidParts.{Parts, valid-parts}
+use Rattle.model.proofs.Valid.{sizes-of, valid-of, Parts, valid-parts}
 use Rattle.model.proofs.EdgeTable.{edges-length}
 use Rattle.model.proofs.EdgesWritten.{filled-length, edges-numbers-length, edges-written}
 use Rattle.model.proofs.FileRead.{valid-is-spelt}

@@ -76,14 +76,6 @@ pub ascending-of : (n : ℕ) (xs : List ℕ) → Asc n xs → ascending n xs ≡
 ascending-of n [] a = refl
 ascending-of n (x ∷ xs) a = rw (le-leb n x (a .0), ascending-of (suc x) xs (a .1))
 
-pub rising-asc : (n l : ℕ) (xs : List ℕ) → rising n l xs ≡ true → Asc n xs
-rising-asc n l [] h = tt
-rising-asc n l (x ∷ xs) h =
-    let a : (leb n x && ltb x l) ≡ true = and-left (leb n x && ltb x l) (rising (suc x) l xs) h in (
-      leb-true n x (and-left (leb n x) (ltb x l) a),
-      rising-asc (suc x) l xs (and-right (leb n x && ltb x l) (rising (suc x) l xs) h),
-    )
-
 -- a code is put in where it keeps the order
 with-ascends : (n x : ℕ) (ys : List ℕ) → n ≤ x → Asc n ys → Asc n (withCode x ys)
 with-ascends n x [] h a = (h, tt)

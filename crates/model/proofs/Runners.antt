@@ -17,17 +17,12 @@ use Rattle.model.specs.Layout.{ruleIn, ruleRefusal}
 use Rattle.model.specs.Tables.{Tables, tables}
 use Rattle.model.specs.Walks.{tableAccepts}
 use Rattle.model.specs.Promises.{answerOf, buildRefusal, branchOf, runRefusal}
-use Rattle.model.specs.Claims.{Follower-agrees, Runners-agree}
+use Rattle.model.specs.Claims.{Runners-agree}
 use Rattle.model.proofs.Refusals.{first-passes}
 use Rattle.model.proofs.LeastRun.{runs-are}
-use Rattle.model.proofs.Agreement.{walk-agrees}
-use Rattle.model.proofs.FollowerWalk.{follower-agrees-from}
 use Rattle.model.proofs.Readable.{rule-settled, passes-valid}
 use Rattle.model.proofs.Numbers.{among-zero, word-numbers}
 use Rattle.model.proofs.Calls.{Made, made, Answered, answered}
-
-pub follower-agrees : Follower-agrees
-follower-agrees = follower-agrees-from walk-agrees
 
 -- an answer without a number gives its value
 value-of : (f : Refusal) (value : ℕ) (answer : Answer) → answer ≡ answerOf f value → answer .number ≡ 0 → answer .value ≡ value

@@ -21,8 +21,9 @@ use Rattle.model.proofs.Logic.{and-left, and-right, and-both, or-right,
 use Rattle.model.proofs.Valid.{Sizes, Valid, valid-of, cm-most}
 use Rattle.model.proofs.RowNumbers.{Stands, stands, in-below}
 use Rattle.model.proofs.Discovery.{Closed, Each, discovered}
-use Rattle.model.proofs.CodeBounds.{Below, below-test, below-append, rows-below}
-use Rattle.model.proofs.EvenResets.{resets-even}
+use Rattle.model.proofs.CodeBounds.{rows-below}
+use Rattle.model.proofs.Rising.{Below, below-test, below-append}
+use Rattle.model.proofs.RowSets.{even-reset}
 use Rattle.model.proofs.TableRoom.{fitted, fitted-closed}
 use Rattle.model.proofs.TablePlaces.{cells-length, symbols-length, cell-numbers-length, row-numbers-length}
 use Rattle.model.proofs.TableWalk.{cell-row}
@@ -104,7 +105,7 @@ cell-ok r rows v closed x at s i hs hi =
     and-both (ltb (cellOf r rows x s i / 2) (length rows)) (eqb (cellOf r rows x s i % 2) 0 || eqb (i % 2) 0)
     (lt-ltb (cellOf r rows x s i / 2) (length rows)
     (rw (cell-row (numberOf next rows) (rowResets r s i x)) (in-below next rows next-in)))
-    (cell-bit (numberOf next rows) i (rowResets r s i x) (resets-even r s i x v))
+    (cell-bit (numberOf next rows) i (rowResets r s i x) (even-reset r s i x v))
   where
     next : List ℕ
     next = nextRow r s i x

@@ -10,8 +10,8 @@ use borrow.Author.Tests.{ltb-true, leb-true, lt-ltb, le-leb}
 use Rattle.model.specs.Basics.{isIn}
 use Rattle.model.specs.Rules.{Edge, Rule}
 use Rattle.model.specs.Runs.{noEdge}
-use Rattle.model.specs.Construction.{rowResets, nextRow}
-use Rattle.model.specs.Claims.{Makes, Resets, Successors-are}
+use Rattle.model.specs.Construction.{allows, rowResets, nextRow}
+use Rattle.model.specs.Claims.{Allowed, Makes, Resets, Successors-are}
 use Rattle.model.proofs.Logic.{In, is-in, in-is, in-at, Numbered, in-number}
 use Rattle.model.proofs.RowSets.{Leads, next-has, next-of, ResetsBy, reset-has, reset-of}
 
@@ -19,18 +19,22 @@ edge-in : (r : Rule) (n : ℕ) → ltb n (length (r .edges)) ≡ true → In (ge
 edge-in r n h = in-at noEdge (r .edges) n (ltb-true n (length (r .edges)) h)
 
 module _ (r : Rule) (s i : ℕ) (row : List ℕ) where
-  made-by :
-      (code pair : ℕ) (e : Edge) → In pair row → Numbered noEdge (r .edges) e
-      → Leads r s i (rowResets r s i row) pair code e
-      → Makes r s i row code
-  made-by code pair e j n m = record {
+  abbrev allowed-by :
+      (pair : ℕ) (e : Edge) → In pair row → Numbered noEdge (r .edges) e → allows r s i pair e ≡ true → Allowed r s i row
+  allowed-by pair e j n a = record {
     pair = pair;
     edge = n .number;
     pair-in = is-in pair row j;
     edge-in = lt-ltb (n .number) (length (r .edges)) (n .number-below);
-    allowed = rw (n .at-number) (m .allowed);
-    code-is = rw (n .at-number) (m .code-is);
+    allows-it = rw (n .at-number) a;
   }
+
+  made-by :
+      (code pair : ℕ) (e : Edge) → In pair row → Numbered noEdge (r .edges) e
+      → Leads r s i (rowResets r s i row) pair code e
+      → Makes r s i row code
+  made-by code pair e j n m =
+      record { by = allowed-by pair e j n (m .allowed); code-is = rw (n .at-number) (m .code-is) }
 
   pub made : (code : ℕ) → isIn code (nextRow r s i row) ≡ true → Makes r s i row code
   made code h =
@@ -40,22 +44,19 @@ module _ (r : Rule) (s i : ℕ) (row : List ℕ) where
 
   pub makes : (code : ℕ) → Makes r s i row code → isIn code (nextRow r s i row) ≡ true
   makes code m =
+      let a : Allowed r s i row = m .by in
       is-in code (nextRow r s i row)
-      (next-has r s i row (m .pair) code (in-is (m .pair) row (m .pair-in))
+      (next-has r s i row (a .pair) code (in-is (a .pair) row (a .pair-in))
       (record {
-        member = getD (r .edges) (m .edge) noEdge;
-        is-in = edge-in r (m .edge) (m .edge-in);
-        such = record { allowed = m .allowed; code-is = m .code-is };
+        member = getD (r .edges) (a .edge) noEdge;
+        is-in = edge-in r (a .edge) (a .edge-in);
+        such = record { allowed = a .allows-it; code-is = m .code-is };
       }))
 
   reset-by :
       (pair : ℕ) (e : Edge) → In pair row → Numbered noEdge (r .edges) e → ResetsBy r s i pair e → Resets r s i row
   reset-by pair e j n m = record {
-    pair = pair;
-    edge = n .number;
-    pair-in = is-in pair row j;
-    edge-in = lt-ltb (n .number) (length (r .edges)) (n .number-below);
-    allowed = rw (n .at-number) (m .allowed);
+    by = allowed-by pair e j n (m .allowed);
     resets-one = rw (n .at-number) (le-leb 1 (e .resets) (m .some-clock));
   }
 
@@ -67,12 +68,13 @@ module _ (r : Rule) (s i : ℕ) (row : List ℕ) where
 
   pub resets : Resets r s i row → rowResets r s i row ≡ true
   resets m =
-      let e : Edge = getD (r .edges) (m .edge) noEdge in
-      reset-has r s i (m .pair) row (in-is (m .pair) row (m .pair-in))
+      let a : Allowed r s i row = m .by in
+      let e : Edge = getD (r .edges) (a .edge) noEdge in
+      reset-has r s i (a .pair) row (in-is (a .pair) row (a .pair-in))
       (record {
         member = e;
-        is-in = edge-in r (m .edge) (m .edge-in);
-        such = record { allowed = m .allowed; some-clock = leb-true 1 (e .resets) (m .resets-one) };
+        is-in = edge-in r (a .edge) (a .edge-in);
+        such = record { allowed = a .allows-it; some-clock = leb-true 1 (e .resets) (m .resets-one) };
       })
 
 pub successors-are : Successors-are

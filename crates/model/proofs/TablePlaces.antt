@@ -18,7 +18,7 @@ use Rattle.model.specs.Claims.{Every-place}
 use Rattle.model.proofs.Logic.{first-part}
 use Rattle.model.proofs.Masks.{Asc, mask-bits}
 use Rattle.model.proofs.Valid.{Valid, valid-of}
-use Rattle.model.proofs.RowsKeep.{rising-asc}
+use Rattle.model.proofs.Rising.{rising-asc}
 
 -- a place past the first of two lists
 later-part : (xs ys : List ℕ) (n k : ℕ) → k ≡ length xs + n → getD (xs ++ ys) k 0 ≡ getD ys n 0

@@ -11,9 +11,9 @@ use lib.ListN.{length}
 use borrow.Author.Tests.{eq-eqb, ne-eqb}
 use Rattle.model.specs.declared.Stamp.{Stamp}
 use Rattle.model.specs.declared.Follower.{Follower}
-use Rattle.model.specs.Basics.{pick, oneIf, fine}
+use Rattle.model.specs.Basics.{pick, oneIf}
 use Rattle.model.specs.Rules.{Rule, cm}
-use Rattle.model.specs.Words.{Event, eventsOf, eventsRefusal}
+use Rattle.model.specs.Words.{Event, eventsOf}
 use Rattle.model.specs.Construction.{intervalOf, nextRow, rowResets, rowAt, numberOf, mostRows, rowsOf, cellOf, walksFrom, walks}
 use Rattle.model.specs.Tables.{tablesBy, tablesOf}
 use Rattle.model.specs.Walks.{verdict, stamp, startAt, stepCell, step, stepAll, tableAccepts}
@@ -22,7 +22,8 @@ use Rattle.model.proofs.Masks.{Asc}
 use Rattle.model.proofs.Valid.{valid-of}
 use Rattle.model.proofs.RowNumbers.{Stands, stands}
 use Rattle.model.proofs.Discovery.{Closed, Discovered, discovered}
-use Rattle.model.proofs.TableNeeds.{interval-below, Word, word-of, grain-least, event-of, Events-in, events-of}
+use Rattle.model.proofs.Regions.{interval-small}
+use Rattle.model.proofs.Words.{Below, Keeps, fine-keeps}
 use Rattle.model.proofs.TableRoom.{fitted-closed}
 use Rattle.model.proofs.TablePlaces.{cell-by-place, verdict-by-place, final-asc}
 
@@ -78,7 +79,7 @@ module _ (r : Rule) (rows : List (List ℕ)) (c n p : ℕ) (closed : Closed r (l
       cell = stepCell (tablesBy r rows c n p) f v
 
       i-below : i < 2 * cm r + 2
-      i-below = interval-below (cm r) (f .grain) (v .stamp - f .reset .0) hd
+      i-below = interval-small (cm r) (f .grain) (v .stamp - f .reset .0) hd
 
       cell-is : cell ≡ cellOf r rows x (v .symbol) i
       cell-is = cell-by-place r rows c n p (f .row) (v .symbol) i h hs i-below
@@ -99,44 +100,42 @@ module _ (r : Rule) (rows : List (List ℕ)) (c n p : ℕ) (closed : Closed r (l
 
   -- any events that keep the rules, from any follower on a row
   pub walk-on :
-      (d : ℕ) (vs : List Event) (i last : ℕ) (f : Follower)
+      (d : ℕ) (vs : List Event) (f : Follower)
       → 1 ≤ d
       → Asc 0 (r .final)
       → f .grain ≡ d
       → f .row < length rows
-      → eventsRefusal (r .symbols) i last vs ≡ fine
+      → Below (r .symbols) vs
       → verdict (tablesBy r rows c n p) (stepAll (tablesBy r rows c n p) f vs .row)
       ≡ walksFrom r d vs (rowAt rows (f .row)) (f .reset .0)
   unfolding stepAll walksFrom
-  walk-on d [] i last f hd asc g h w = verdict-by-place r rows c n p (f .row) asc h
-  walk-on d (v ∷ vs) i last f hd asc g h w =
-      let all : Events-in (r .symbols) i last v vs = events-of (r .symbols) i last v vs w in
+  walk-on d [] f hd asc g h b = verdict-by-place r rows c n p (f .row) asc h
+  walk-on d (v ∷ vs) f hd asc g h b =
       let now : ℕ = intervalOf (cm r) (f .grain) (v .stamp - f .reset .0) in
-      let s : Stepped r rows f v now (step (tablesBy r rows c n p) f v) =
-      steps f v (omega arith) h (event-of (r .symbols) i last v (all .passes-first) .symbol-below) in
-      walk-on d vs (suc i) (v .stamp) (step (tablesBy r rows c n p) f v) hd asc (s .grain-is ∙ g) (s .row-below)
-      (all .rest-fine)
+      let s : Stepped r rows f v now (step (tablesBy r rows c n p) f v) = steps f v (omega arith) h (b .0) in
+      walk-on d vs (step (tablesBy r rows c n p) f v) hd asc (s .grain-is ∙ g) (s .row-below) (b .1)
       ∙ rw (s .row-is, s .reset-is, g)
 
 -- from the start row, over the rows of a rule
 walk-by :
-    (fuel : ℕ) (r : Rule) (rows : List (List ℕ)) (c n p d i last : ℕ) (vs : List Event)
+    (fuel : ℕ) (r : Rule) (rows : List (List ℕ)) (c n p d : ℕ) (vs : List Event)
     → 1 ≤ d
     → Asc 0 (r .final)
     → Discovered fuel r rows
     → Closed r (length rows) rows
-    → eventsRefusal (r .symbols) i last vs ≡ fine
+    → Below (r .symbols) vs
     → tableAccepts (tablesBy r rows c n p) d vs ≡ walks r d vs
 unfolding tableAccepts walks
-walk-by fuel r rows c n p d i last vs hd asc found closed w =
-    walk-on r rows c n p closed d vs i last (startAt d) hd asc refl (found .some) w
+walk-by fuel r rows c n p d vs hd asc found closed b =
+    walk-on r rows c n p closed d vs (startAt d) hd asc refl (found .some) b
     ∙ ap (λ (x : List ℕ). walksFrom r d vs x 0) (found .start-is)
 
 -- The claim.
 pub table-walks : Table-walks
 unfolding tablesOf
 table-walks r scratch cells rows pool d most xs ts valid fits word =
-    let w : Word (r .symbols) d most xs ts = word-of (r .symbols) d most xs ts word in
-    walk-by (suc mostRows) r (rowsOf r) cells rows pool d 1 0 (eventsOf xs ts) (grain-least d (w .grain-ok))
-    (final-asc r (valid-of r valid)) (discovered r) (fitted-closed r scratch cells rows pool fits)
-    (w .events-fine)
+    let w : Keeps (r .symbols) d most xs ts = fine-keeps (r .symbols) d most xs ts word in
+    walk-by (suc mostRows) r (rowsOf r) cells rows pool d (eventsOf xs ts) (w .grain-least) (final-asc r (valid-of r valid))
+    (discovered r)
+    (fitted-closed r scratch cells rows pool fits)
+    (w .symbols-below)

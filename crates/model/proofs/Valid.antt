@@ -84,7 +84,7 @@ edge-of r e h p m =
       atoms-most = leb-true (length (e .atoms)) mostAtoms m;
     }
 
-edges-of : (r : Rule) (es : List Edge) → edgesOk r es ≡ true → (e : Edge) → In e es → EdgeIn r e
+pub edges-of : (r : Rule) (es : List Edge) → edgesOk r es ≡ true → (e : Edge) → In e es → EdgeIn r e
 edges-of r (f ∷ es) h e i =
     let a : Bool = edgeOk r f in
     let b : Bool = integerReset f in
@@ -97,19 +97,18 @@ edges-of r (f ∷ es) h e i =
       | there j ↦ edges-of r es (and-right (a && b && c) d h) e j
     ]
 
--- the whole rule
-pub record Valid (r : Rule) : Type 0 where
-  pub sizes : Sizes (r .locations) (r .symbols) (r .clocks)
+-- all but the bound on N
+pub record Parts (r : Rule) : Type 0 where
+  pub sizes : sizesOk (r .locations) (r .symbols) (r .clocks) ≡ true
   pub initial-rises : rising 0 (r .locations) (r .initial) ≡ true
   pub final-rises : rising 0 (r .locations) (r .final) ≡ true
   pub ceiling-most : r .ceiling ≤ 31
   pub edges-most : length (r .edges) ≤ mostEdges
-  pub edges-in : (e : Edge) → In e (r .edges) → EdgeIn r e
-  pub pairs-most : pairCount r ≤ mostPairs
+  pub edges-ok : edgesOk r (r .edges) ≡ true
 
-pub valid-of : (r : Rule) → validRule r ≡ true → Valid r
+pub valid-parts : (r : Rule) → validRule r ≡ true → Parts r
 unfolding validRule
-valid-of r h =
+valid-parts r h =
     let a : Bool = sizesOk (r .locations) (r .symbols) (r .clocks) in
     let b : Bool = rising 0 (r .locations) (r .initial) in
     let c : Bool = rising 0 (r .locations) (r .final) in
@@ -123,27 +122,49 @@ valid-of r h =
     let h3 : (a && b && c) ≡ true = and-left (a && b && c) d h4 in
     let h2 : (a && b) ≡ true = and-left (a && b) c h3 in
     record {
-      sizes = sizes-of (r .locations) (r .symbols) (r .clocks) (and-left a b h2);
+      sizes = and-left a b h2;
       initial-rises = and-right a b h2;
       final-rises = and-right (a && b) c h3;
       ceiling-most = leb-true (r .ceiling) 31 (and-right (a && b && c) d h4);
       edges-most = leb-true (length (r .edges)) mostEdges (and-right (a && b && c && d) e h5);
-      edges-in = edges-of r (r .edges) (and-right (a && b && c && d && e) f h6);
-      pairs-most = leb-true (pairCount r) mostPairs (and-right (a && b && c && d && e && f) g h);
+      edges-ok = and-right (a && b && c && d && e) f h6;
     }
 
--- locations that rise: the first is the least
-pub rises-on :
-    (least most x : ℕ) (xs : List ℕ) → rising least most (x ∷ xs) ≡ true → rising (suc x) most xs ≡ true
-rises-on least most x xs h = and-right (leb least x && ltb x most) (rising (suc x) most xs) h
+pub valid-pairs : (r : Rule) → validRule r ≡ true → pairCount r ≤ mostPairs
+unfolding validRule
+valid-pairs r h =
+    leb-true (pairCount r) mostPairs
+    (and-right
+    (sizesOk (r .locations) (r .symbols) (r .clocks) && rising 0 (r .locations) (r .initial)
+    && rising 0 (r .locations) (r .final)
+    && leb (r .ceiling) 31
+    && leb (length (r .edges)) mostEdges
+    && edgesOk r (r .edges))
+    (leb (pairCount r) mostPairs)
+    h)
 
-pub rises-least : (least most : ℕ) (xs : List ℕ) (k : ℕ) → rising least most xs ≡ true → In k xs → least ≤ k
-rises-least least most (x ∷ xs) k h i =
-    let a = and-left (leb least x) (ltb x most) (and-left (leb least x && ltb x most) (rising (suc x) most xs) h) in
-    elim i [
-      | here e ↦ omega (arith, leb-true least x a)
-      | there j ↦ omega (arith, leb-true least x a, rises-least (suc x) most xs k (rises-on least most x xs h) j)
-    ]
+-- the whole rule
+pub record Valid (r : Rule) : Type 0 where
+  pub sizes : Sizes (r .locations) (r .symbols) (r .clocks)
+  pub initial-rises : rising 0 (r .locations) (r .initial) ≡ true
+  pub final-rises : rising 0 (r .locations) (r .final) ≡ true
+  pub ceiling-most : r .ceiling ≤ 31
+  pub edges-most : length (r .edges) ≤ mostEdges
+  pub edges-in : (e : Edge) → In e (r .edges) → EdgeIn r e
+  pub pairs-most : pairCount r ≤ mostPairs
+
+pub valid-of : (r : Rule) → validRule r ≡ true → Valid r
+valid-of r h =
+    let p : Parts r = valid-parts r h in
+    record {
+      sizes = sizes-of (r .locations) (r .symbols) (r .clocks) (p .sizes);
+      initial-rises = p .initial-rises;
+      final-rises = p .final-rises;
+      ceiling-most = p .ceiling-most;
+      edges-most = p .edges-most;
+      edges-in = edges-of r (r .edges) (p .edges-ok);
+      pairs-most = valid-pairs r h;
+    }
 
 -- a constant is at most the largest, and the largest at most a bound of all
 pub constant-largest : (a : Atom) (xs : List Atom) → In a xs → a .constant ≤ largestConstant xs
@@ -162,12 +183,12 @@ constant-below r e a i j =
     omega
     (arith, constant-largest a (e .atoms) j, edge-largest e (r .edges) i, larger-left (largestOf (r .edges)) (r .ceiling - 1))
 
-atoms-largest : (xs : List Atom) (m : ℕ) → ((a : Atom) → In a xs → a .constant ≤ m) → largestConstant xs ≤ m
+pub atoms-largest : (xs : List Atom) (m : ℕ) → ((a : Atom) → In a xs → a .constant ≤ m) → largestConstant xs ≤ m
 atoms-largest [] m h = omega arith
 atoms-largest (x ∷ xs) m h =
     larger-most (x .constant) (largestConstant xs) m (h x (here refl)) (atoms-largest xs m (λ a i. h a (there i)))
 
-edges-largest : (es : List Edge) (m : ℕ) → ((e : Edge) → In e es → largestConstant (e .atoms) ≤ m) → largestOf es ≤ m
+pub edges-largest : (es : List Edge) (m : ℕ) → ((e : Edge) → In e es → largestConstant (e .atoms) ≤ m) → largestOf es ≤ m
 edges-largest [] m h = omega arith
 edges-largest (x ∷ xs) m h =
     larger-most (largestConstant (x .atoms)) (largestOf xs) m (h x (here refl)) (edges-largest xs m (λ e i. h e (there i)))

@@ -10,58 +10,22 @@ use borrow.Author.Tests.{leb-true, lt-ltb, le-leb}
 use Rattle.model.specs.Rules.{Edge, Rule, pairCount, mostPairs, mostEdges, mostAtoms, sizesOk, edgeOk, integerReset, rising, edgesOk, validRule}
 use Rattle.model.specs.Files.{pastLast}
 use Rattle.model.proofs.Logic.{and-left, and-right, and-both}
-use Rattle.model.proofs.Valid.{valid-of}
-use Rattle.model.proofs.MaskLists.{rising-least, rising-below, rising-rest}
+use Rattle.model.proofs.Valid.{Parts}
+use Rattle.model.proofs.Rising.{rising-least, rising-below, rising-rest}
 
--- all but the bound on N
-pub record Parts (r : Rule) : Type 0 where
-  pub sizes : sizesOk (r .locations) (r .symbols) (r .clocks) ≡ true
-  pub initial-rises : rising 0 (r .locations) (r .initial) ≡ true
-  pub final-rises : rising 0 (r .locations) (r .final) ≡ true
-  pub ceiling-most : r .ceiling ≤ 31
-  pub edges-most : length (r .edges) ≤ mostEdges
-  pub edges-ok : edgesOk r (r .edges) ≡ true
-
-module _ (r : Rule) where
-  pub parts-valid : Parts r → pairCount r ≤ mostPairs → validRule r ≡ true
-  unfolding validRule
-  parts-valid q h =
-      rw (
-        q .sizes,
-        q .initial-rises,
-        q .final-rises,
-        le-leb (r .ceiling) 31 (q .ceiling-most),
-        le-leb (length (r .edges)) mostEdges (q .edges-most),
-        q .edges-ok,
-        le-leb (pairCount r) mostPairs h,
-      )
-
-  pub valid-parts : validRule r ≡ true → Parts r
-  unfolding validRule
-  valid-parts h =
-      let a : Bool = sizesOk (r .locations) (r .symbols) (r .clocks) in
-      let b : Bool = rising 0 (r .locations) (r .initial) in
-      let c : Bool = rising 0 (r .locations) (r .final) in
-      let d : Bool = leb (r .ceiling) 31 in
-      let e : Bool = leb (length (r .edges)) mostEdges in
-      let f : Bool = edgesOk r (r .edges) in
-      let g : Bool = leb (pairCount r) mostPairs in
-      let h6 : (a && b && c && d && e && f) ≡ true = and-left (a && b && c && d && e && f) g h in
-      let h5 : (a && b && c && d && e) ≡ true = and-left (a && b && c && d && e) f h6 in
-      let h4 : (a && b && c && d) ≡ true = and-left (a && b && c && d) e h5 in
-      let h3 : (a && b && c) ≡ true = and-left (a && b && c) d h4 in
-      let h2 : (a && b) ≡ true = and-left (a && b) c h3 in
-      record {
-        sizes = and-left a b h2;
-        initial-rises = and-right a b h2;
-        final-rises = and-right (a && b) c h3;
-        ceiling-most = leb-true (r .ceiling) 31 (and-right (a && b && c) d h4);
-        edges-most = leb-true (length (r .edges)) mostEdges (and-right (a && b && c && d) e h5);
-        edges-ok = and-right (a && b && c && d && e) f h6;
-      }
-
-  pub valid-pairs : validRule r ≡ true → pairCount r ≤ mostPairs
-  valid-pairs h = valid-of r h .pairs-most
+-- the parts make the rule
+pub parts-valid : (r : Rule) → Parts r → pairCount r ≤ mostPairs → validRule r ≡ true
+unfolding validRule
+parts-valid r q h =
+    rw (
+      q .sizes,
+      q .initial-rises,
+      q .final-rises,
+      le-leb (r .ceiling) 31 (q .ceiling-most),
+      le-leb (length (r .edges)) mostEdges (q .edges-most),
+      q .edges-ok,
+      le-leb (pairCount r) mostPairs h,
+    )
 
 -- one edge
 pub record Edge-ok (r : Rule) (e : Edge) : Type 0 where

@@ -39,22 +39,21 @@ pub record Runs-are : Type 0 where
 
 -- The successor row is the paper's set: a code is in it exactly if some pair of the row and some edge that it allows
 -- make it.
-pub record Makes (r : Rule) (s i : ℕ) (row : List ℕ) (code : ℕ) : Type 0 where
+pub record Allowed (r : Rule) (s i : ℕ) (row : List ℕ) : Type 0 where
   pub pair : ℕ
   pub edge : ℕ
   pub pair-in : isIn pair row ≡ true
   pub edge-in : ltb edge (length (r .edges)) ≡ true
-  pub allowed : allows r s i pair (getD (r .edges) edge noEdge) ≡ true
-  pub code-is : code ≡ targetOf r i (rowResets r s i row) pair (getD (r .edges) edge noEdge)
+  pub allows-it : allows r s i pair (getD (r .edges) edge noEdge) ≡ true
+
+pub record Makes (r : Rule) (s i : ℕ) (row : List ℕ) (code : ℕ) : Type 0 where
+  pub by : Allowed r s i row
+  pub code-is : code ≡ targetOf r i (rowResets r s i row) (by .pair) (getD (r .edges) (by .edge) noEdge)
 
 -- the timer is reset exactly if some pair of the row allows an edge that resets a clock
 pub record Resets (r : Rule) (s i : ℕ) (row : List ℕ) : Type 0 where
-  pub pair : ℕ
-  pub edge : ℕ
-  pub pair-in : isIn pair row ≡ true
-  pub edge-in : ltb edge (length (r .edges)) ≡ true
-  pub allowed : allows r s i pair (getD (r .edges) edge noEdge) ≡ true
-  pub resets-one : leb 1 (getD (r .edges) edge noEdge .resets) ≡ true
+  pub by : Allowed r s i row
+  pub resets-one : leb 1 (getD (r .edges) (by .edge) noEdge .resets) ≡ true
 
 pub record Successors-are : Type 0 where
   pub made : (r : Rule) (s i code : ℕ) (row : List ℕ) → isIn code (nextRow r s i row) ≡ true → Makes r s i row code

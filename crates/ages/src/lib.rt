@@ -1,0 +1,247 @@
+// The ages of the clocks by value, guards over them, and an edge of the table as a move between configurations.
+// Total: ages past the rule's clocks are not looked at, and a clock past them reads 0, as in the definitions.
+ghost use mathlib.Core.Path.{_≡_};
+ghost use Prim.Native.Nat.{_+_, _*_, _^_, _<_};
+ghost use lib.ListN.{getD};
+ghost use Rattle.model.specs.Basics.{pick, lesser, zeros, bit, isIn, same};
+ghost use Rattle.model.specs.Runs.{related, holds, zeroed};
+ghost use Rattle.model.specs.Layout.{locationsIn};
+ghost use Rattle.ages.specs.Ages.{numbersOf, agesOf, mostAge, olderCapped, Waited, Moved};
+ghost use Rattle.ages.specs.Ages.{atomHolds, atomAt, edgeAt, takes, configOf, sameConfig};
+use edges::number_at;
+use edges::wide16;
+use edges::wide32;
+use model::Age;
+
+// The ages of up to four clocks.
+pub struct Ages {
+    pub of: [Age; 4],
+}
+
+// A location and the ages of the clocks.
+pub struct Configuration {
+    pub location: u32,
+    pub ages: Ages,
+}
+
+// All ages are 0 at time 0.
+pub fn no_ages() -> Ages
+    ensures { λ r. ⌜ numbersOf (r .of) ≡ zeros 4 ⌝ }
+{
+    Ages { of: [Age(0); 4] }
+}
+
+// A location with all ages 0.
+pub fn start_at(location: u32) -> Configuration
+    ensures { λ r. ⌜ (r .location ≡ location) × (numbersOf (r .ages .of) ≡ zeros 4) ⌝ }
+{
+    let ages = no_ages();
+    Configuration { location, ages }
+}
+
+// One age after the delay, at most the last number of 32 bits.
+pub fn later(age: Age, delay: Age) -> Age
+    ensures { λ r. ⌜ r .0 ≡ lesser (age .0 + delay .0) mostAge ⌝ }
+{
+    let sum = wide32(age.0) + wide32(delay.0);
+    if 4294967295 < sum {
+        return Age(4294967295);
+    }
+    Age(sum as u32)
+}
+
+// The delay is added to every age.
+pub fn older(ages: Ages, delay: Age) -> Ages
+    ensures { λ r. ⌜ numbersOf (r .of) ≡ olderCapped (delay .0) (numbersOf (ages .of)) ⌝ }
+{
+    let of = ages.of;
+    Ages {
+        of: [
+            later(of[0], delay),
+            later(of[1], delay),
+            later(of[2], delay),
+            later(of[3], delay),
+        ],
+    }
+}
+
+// The age of a clock.
+pub fn age_of(ages: Ages, clocks: usize, clock: usize) -> Age
+    ensures { λ r. ⌜ r .0 ≡ getD (agesOf clocks ages) clock 0 ⌝ }
+{
+    if clocks <= clock {
+        return Age(0);
+    }
+    if 4 <= clock {
+        return Age(0);
+    }
+    ages.of[clock]
+}
+
+// Is bit i set in a mask.
+pub fn has_bit(mask: usize, i: usize) -> bool
+    ensures { λ r. ⌜ r ≡ bit i mask ⌝ }
+{
+    if 64 <= i {
+        return false;
+    }
+    (mask >> i) % 2 == 1
+}
+
+// One age after a reset by the mask.
+pub fn kept(age: Age, mask: usize, clock: usize) -> Age
+    ensures { λ r. ⌜ r .0 ≡ pick (bit clock mask) 0 (age .0) ⌝ }
+{
+    if has_bit(mask, clock) {
+        return Age(0);
+    }
+    age
+}
+
+// The clocks of the mask are zeroed.
+pub fn zeroed(ages: Ages, mask: usize) -> Ages
+    ensures { λ r. ⌜ numbersOf (r .of) ≡ zeroed mask (numbersOf (ages .of)) ⌝ }
+{
+    let of = ages.of;
+    Ages {
+        of: [
+            kept(of[0], mask, 0),
+            kept(of[1], mask, 1),
+            kept(of[2], mask, 2),
+            kept(of[3], mask, 3),
+        ],
+    }
+}
+
+// An age against a limit, both in D-ths, by the code of a relation.
+pub fn meets(relation: usize, age: Age, limit: usize) -> bool
+    ensures { λ r. ⌜ r ≡ related relation (age .0) limit ⌝ }
+{
+    let age = wide32(age.0);
+    if relation == 0 {
+        return age < limit;
+    }
+    if relation == 1 {
+        return age <= limit;
+    }
+    if relation == 2 {
+        return age == limit;
+    }
+    if relation == 3 {
+        return limit <= age;
+    }
+    limit < age
+}
+
+// The atom at a place of the edge table: its clock's age against constant · D.
+pub(crate) fn atom_holds(edges: &[u16], at: usize, clocks: usize, grain: u32, ages: Ages) -> bool
+    requires { ⌜ at < 2 ^ 32 ⌝ }
+    ensures { λ r. ⌜ r ≡ atomHolds grain (agesOf clocks ages) (atomAt at (now (edges .entry))) ⌝ }
+{
+    let clock = number_at(edges, at);
+    let relation = number_at(edges, at + 1);
+    let constant = number_at(edges, at + 2);
+    let age = age_of(ages, clocks, clock);
+    meets(relation, age, constant * wide32(grain))
+}
+
+// The guard of edge `e`: all its atoms hold.
+pub fn guard_holds(edges: &[u16], e: u16, clocks: usize, grain: u32, ages: Ages) -> bool
+    ensures { λ r. ⌜ r ≡ holds grain (agesOf clocks ages) (edgeAt e (now (edges .entry)) .atoms) ⌝ }
+{
+    let at = 29 * wide16(e);
+    let count = number_at(edges, at + 4);
+    let mut j: usize = 0;
+    while j < count {
+        if !atom_holds(edges, at + 3 * j + 5, clocks, grain, ages) {
+            return false;
+        }
+        j += 1;
+    }
+    true
+}
+
+// Edge `e` leaves the location, with the symbol, and its guard holds.
+pub fn can_take(
+    edges: &[u16],
+    e: u16,
+    clocks: usize,
+    grain: u32,
+    symbol: u16,
+    from: Configuration,
+) -> bool
+    ensures { λ r. ⌜ r ≡ takes grain clocks symbol from (edgeAt e (now (edges .entry))) ⌝ }
+{
+    let at = 29 * wide16(e);
+    let ages = from.ages;
+    if number_at(edges, at) != wide32(from.location) {
+        return false;
+    }
+    if number_at(edges, at + 2) != wide16(symbol) {
+        return false;
+    }
+    guard_holds(edges, e, clocks, grain, ages)
+}
+
+// Time passes: every age grows by the delay, the location stays.
+pub fn after_delay(from: Configuration, delay: Age) -> Configuration
+    ensures { λ r. ⌜ Waited (delay .0) from r ⌝ }
+{
+    let ages = from.ages;
+    Configuration {
+        location: from.location,
+        ages: older(ages, delay),
+    }
+}
+
+// Edge `e` is taken: its clocks are zeroed, its target is reached.
+pub fn after_edge(edges: &[u16], e: u16, from: Configuration) -> Configuration
+    ensures { λ r. ⌜ Moved (edgeAt e (now (edges .entry))) from r ⌝ }
+{
+    let at = 29 * wide16(e);
+    let ages = from.ages;
+    let target = number_at(edges, at + 1);
+    let resets = number_at(edges, at + 3);
+    Configuration {
+        location: target as u32,
+        ages: zeroed(ages, resets),
+    }
+}
+
+// Equal ages, as far as there are clocks.
+pub fn same_ages(one: Ages, other: Ages, clocks: usize) -> bool
+    ensures { λ r. ⌜ r ≡ same (agesOf clocks one) (agesOf clocks other) ⌝ }
+{
+    let mut k: usize = 0;
+    while k < clocks {
+        let age = age_of(one, clocks, k);
+        let against = age_of(other, clocks, k);
+        if age.0 != against.0 {
+            return false;
+        }
+        k += 1;
+    }
+    true
+}
+
+// Equal locations and ages.
+pub fn same_configuration(one: Configuration, other: Configuration, clocks: usize) -> bool
+    ensures { λ r. ⌜ r ≡ sameConfig (configOf clocks one) (configOf clocks other) ⌝ }
+{
+    if one.location != other.location {
+        return false;
+    }
+    let ages = one.ages;
+    let against = other.ages;
+    same_ages(ages, against, clocks)
+}
+
+// Is a location in a set of locations.
+pub fn has_location(set: u32, location: u32) -> bool
+    ensures { λ r. ⌜ r ≡ isIn location (locationsIn set) ⌝ }
+{
+    if 32 <= location {
+        return false;
+    }
+    has_bit(wide32(set), wide32(location))
+}

@@ -1,0 +1,247 @@
+-- `branch::least_from` meets its contract: it calls itself with one event fewer. The edges passed led to no accepting run,
+-- so the least one is what the edges still to try give; the first edge that leads to one gives it.
+use mathlib.Core.Path.{refl, sym, _∙_, ap}
+use mathlib.Core.Logic.{⊎-elim}
+use Prim.Native.Nat.{ℕ, _-_, _<_}
+use native.Mathlib.Omega.{arith}
+use lib.ListN.{length}
+use borrow.Author.Needs.{needs}
+use borrow.Fn.Kinds.{In}
+use borrow.Fn.PlainCycle.{Measures, is, falls, and}
+use denote.Ref.{now}
+use Rattle.model.specs.Runs.{Path, noPath}
+use Rattle.branch.specs.Branches.{placed}
+use Rattle.branch.proofs.Laws.{end-is, Trying, trying-start, trying-other, trying-stuck, trying-found}
+use Rattle.branch.proofs.Laws.{trying-none, at-event, next-ready, nowhere}
+use Rattle.branch.proofs.least_from.Reads as own
+use Rattle.branch.proofs.least_from.Kinds as kinds
+use Rattle.branch.proofs.+least_from.Lts-least_from as lts
+use Rattle.ages.proofs.after_delay.Reads as after-delay-reads
+use Rattle.ages.proofs.after_edge.Reads as after-edge-reads
+use Rattle.ages.proofs.can_take.Reads as can-take-reads
+use Rattle.branch.proofs.ended.Reads as ended-reads
+use Rattle.branch.proofs.no_branch.Reads as no-branch-reads
+use Rattle.branch.proofs.with_edge.Reads as with-edge-reads
+use Rattle.edges.proofs.wide32.Reads as wide32-reads
+use Rattle.model.proofs.Stamp.since.Reads as since-reads
+use Rattle.branch.proofs.+least_from.{statement}
+use Rattle.branch.proofs.+least_from.Tie.{close}
+
+-- the events left
+abbrev μ : Measures 3 kinds.ps ℕ
+μ κs a = length (now (a .1 .1 .1 .0)) - a .1 .1 .1 .1 .1 .0
+
+abbrev here : ℕ → In 3 kinds.ps
+here t = and 3 kinds.ps (is 3 kinds.ps μ t) own.Pre
+
+abbrev fewer : ℕ → In 3 kinds.ps
+fewer t = and 3 kinds.ps (falls 3 kinds.ps _<_ μ t) own.Pre
+
+-- what each callee asks and ensures; the call of itself asks for fewer events
+abbrev claims : ℕ → lts.Claims
+claims t = (
+  ended-reads.Asked,
+  ended-reads.Learnt,
+  since-reads.Asked,
+  since-reads.Learnt,
+  after-delay-reads.Asked,
+  after-delay-reads.Learnt,
+  wide32-reads.Asked,
+  wide32-reads.Learnt,
+  can-take-reads.Asked,
+  can-take-reads.Learnt,
+  after-edge-reads.Asked,
+  after-edge-reads.Learnt,
+  fewer t,
+  own.Post,
+  with-edge-reads.Asked,
+  with-edge-reads.Learnt,
+  no-branch-reads.Asked,
+  no-branch-reads.Learnt,
+)
+
+abbrev Inv-loop : lts.InvT-loop
+Inv-loop head edges grain symbols stamps depth stamp now clocks count e₀ e =
+    (depth < 12) × Trying head edges grain symbols stamps depth now clocks count e
+
+abbrev μ-loop : lts.MeasureT-loop
+μ-loop head edges grain symbols stamps depth stamp now clocks count e₀ e = count - e
+
+module _ (t : ℕ) where
+  ended-requires : lts.Need-ended-requires (claims t) (here t) own.Post Inv-loop μ-loop
+  ended-requires c κs = search needs
+
+  returns : lts.Need-returns (claims t) (here t) own.Post Inv-loop μ-loop
+  returns c =
+      let s = c .before .before .before .before .before in
+      let a = s .args in
+      end-is (a .head) (a .edges .now) (a .grain) (a .symbols .now) (a .stamps .now) (a .depth) (a .last .0) (a .from) _
+      (s .pre .1)
+      (c .before .if1 .taken)
+      (c .ended .ensures)
+
+  mul-t16 : lts.Need-mul-t16 (claims t) (here t) own.Post Inv-loop μ-loop
+  mul-t16 c = search needs
+
+  shared-slice-read-t19 : lts.Need-shared-slice-read-t19 (claims t) (here t) own.Post Inv-loop μ-loop
+  shared-slice-read-t19 c = search needs
+
+  since-requires : lts.Need-since-requires (claims t) (here t) own.Post Inv-loop μ-loop
+  since-requires c κs = search needs
+
+  after-delay-requires : lts.Need-after-delay-requires (claims t) (here t) own.Post Inv-loop μ-loop
+  after-delay-requires c κs = search needs
+
+  wide32-requires : lts.Need-wide32-requires (claims t) (here t) own.Post Inv-loop μ-loop
+  wide32-requires c κs = search needs
+
+  cast-count : lts.Need-cast-count (claims t) (here t) own.Post Inv-loop μ-loop
+  cast-count c = search needs
+
+  loop-holds : lts.Need-loop-holds (claims t) (here t) own.Post Inv-loop μ-loop
+  loop-holds c =
+      let pre = c .before .before .before .before .before .before .before .before .before .pre .1 in (
+        omega (arith, pre .events-most, c .before .before .before .before .before .if1 .left),
+        trying-start _ _ _ _ _ _ _ _ _ (c .before .wide32 .ensures .0) (search needs),
+      )
+
+  mul-can-take : lts.Need-mul-can-take (claims t) (here t) own.Post Inv-loop μ-loop
+  mul-can-take c = search needs
+
+  shared-slice-read-can-take : lts.Need-shared-slice-read-can-take (claims t) (here t) own.Post Inv-loop μ-loop
+  shared-slice-read-can-take c = search needs
+
+  can-take-requires : lts.Need-can-take-requires (claims t) (here t) own.Post Inv-loop μ-loop
+  can-take-requires c κs = search needs
+
+  after-edge-requires : lts.Need-after-edge-requires (claims t) (here t) own.Post Inv-loop μ-loop
+  after-edge-requires c κs = search needs
+
+  add-least-from : lts.Need-add-least-from (claims t) (here t) own.Post Inv-loop μ-loop
+  add-least-from c = search needs
+
+  least-from-requires : lts.Need-least-from-requires (claims t) (here t) own.Post Inv-loop μ-loop
+  least-from-requires c κs =
+      let s = c .before .before .before .before .before .before .before .before .before .before .before .before .before .before .before in
+      let a = s .args in
+      let h = c .before .before .before .before .before .before .before .before .before .before .before .if1 .left in (
+        omega (arith, s .pre .0, h),
+        next-ready (a .head) (a .edges .now) (a .symbols .now) (a .stamps .now) (a .depth) (a .last .0) _
+            (c .before .before .before .before .before .loop .e)
+            (a .from)
+            _
+            _
+            (s .pre .1)
+            h
+            (omega (arith, c .before .before .before .before .before .before .before .before .before .before .shared-slice-known4 .given (a .depth)))
+            (c .before .before .before .before .before .before .before .before .before .since .ensures)
+            (c .before .before .before .before .before .before .before .before .after-delay .ensures)
+            (c .after-edge .ensures),
+      )
+
+  with-edge-requires : lts.Need-with-edge-requires (claims t) (here t) own.Post Inv-loop μ-loop
+  with-edge-requires c κs = search needs
+
+  returns-2 : lts.Need-returns-2 (claims t) (here t) own.Post Inv-loop μ-loop
+  returns-2 c =
+      let s = c .before .before .before .before .before .before .before .before .before .before .before .before .before .before .before .before .before .before in
+      let a = s .args in
+      let l = c .before .before .before .before .before .before .before .before .loop in
+      let found =
+      trying-found (a .head) (a .edges .now) (a .grain) (a .symbols .now) (a .stamps .now) (a .depth)
+      (c .before .before .before .before .before .before .before .before .before .before .before .after-delay .result)
+      (l .inv .1)
+      (c .before .before .before .before .before .before .before .loop-test .taken)
+      (c .before .before .before .after-edge .result)
+      (c .before .before .before .after-edge .ensures)
+      _
+      (c .before .before .least-from .result)
+      (l .inv .0)
+      (c .before .before .before .before .before .can-take .ensures)
+      (c .before .before .before .before .if2 .taken)
+      (c .before .before .least-from .ensures)
+      (c .before .if3 .taken) in
+      c .with-edge .ensures
+      ∙ (found
+      ∙ ap (λ (p : Path). placed (a .depth) p)
+      (sym
+      (at-event (a .head) (a .edges .now) (a .grain) (a .symbols .now) (a .stamps .now) (a .depth) (a .last .0) _ (a .from) _
+      (s .pre .1)
+      (c .before .before .before .before .before .before .before .before .before .before .before .before .before .before .if1 .left)
+      (omega (arith, c .before .before .before .before .before .before .before .before .before .before .before .before .before .shared-slice-known4 .given (a .depth)))
+      (c .before .before .before .before .before .before .before .before .before .before .before .before .since .ensures)
+      (c .before .before .before .before .before .before .before .before .before .before .before .after-delay .ensures))))
+
+  add-e : lts.Need-add-e (claims t) (here t) own.Post Inv-loop μ-loop
+  add-e c = search needs
+
+  loop-less : lts.Need-loop-less (claims t) (here t) own.Post Inv-loop μ-loop
+  loop-less c = search needs
+
+  loop-again : lts.Need-loop-again (claims t) (here t) own.Post Inv-loop μ-loop
+  loop-again c =
+      let a = c .before .before .before .before .before .before .before .before .before .before .before .before .before .before .args in
+      let l = c .before .before .before .before .loop in
+      let now-is = c .before .before .before .before .before .before .before .after-delay .result in
+      let test = c .before .before .before .loop-test .taken in
+      let can = c .before .can-take .ensures in (
+        l .inv .0,
+        ⊎-elim
+            (λ w.
+            trying-stuck (a .head) (a .edges .now) (a .grain) (a .symbols .now) (a .stamps .now) (a .depth) now-is (l .inv .1) test (w .1 .result) (w .1 .ensures) _ (w .2 .result) can (w .0 .taken) (w .2 .ensures) (w .3 .left))
+            (λ w.
+            trying-other (a .head) (a .edges .now) (a .grain) (a .symbols .now) (a .stamps .now) (a .depth) now-is (l .inv .1) test _ can (w .left))
+            (c .if2 .came),
+      )
+
+  no-branch-requires : lts.Need-no-branch-requires (claims t) (here t) own.Post Inv-loop μ-loop
+  no-branch-requires c κs = search needs
+
+  returns-3 : lts.Need-returns-3 (claims t) (here t) own.Post Inv-loop μ-loop
+  returns-3 c =
+      let s = c .before .before .before .before .before .before .before .before .before .before .before .before in
+      let a = s .args in
+      let none =
+      trying-none (a .head) (a .edges .now) (a .grain) (a .symbols .now) (a .stamps .now) (a .depth) _
+      (c .before .before .loop .inv .1)
+      (c .before .loop-test .left) in
+      c .no-branch .ensures
+      ∙ (nowhere (a .depth) noPath (search needs) refl
+      ∙ ap (λ (p : Path). placed (a .depth) p)
+      (sym none
+      ∙ sym
+      (at-event (a .head) (a .edges .now) (a .grain) (a .symbols .now) (a .stamps .now) (a .depth) (a .last .0) _ (a .from) _
+      (s .pre .1)
+      (c .before .before .before .before .before .before .before .before .if1 .left)
+      (omega (arith, c .before .before .before .before .before .before .before .shared-slice-known4 .given (a .depth)))
+      (c .before .before .before .before .before .before .since .ensures)
+      (c .before .before .before .before .before .after-delay .ensures))))
+
+pub +least-from-spec : {M : Type 1} → statement M
++least-from-spec = close μ λ t. lts.spec (claims t)
+    (here t)
+    own.Post
+    Inv-loop
+    μ-loop
+    (ended-requires t)
+    (returns t)
+    (mul-t16 t)
+    (shared-slice-read-t19 t)
+    (since-requires t)
+    (after-delay-requires t)
+    (wide32-requires t)
+    (cast-count t)
+    (loop-holds t)
+    (mul-can-take t)
+    (shared-slice-read-can-take t)
+    (can-take-requires t)
+    (after-edge-requires t)
+    (add-least-from t)
+    (least-from-requires t)
+    (with-edge-requires t)
+    (returns-2 t)
+    (add-e t)
+    (loop-less t)
+    (loop-again t)
+    (no-branch-requires t)
+    (returns-3 t)

@@ -1,0 +1,186 @@
+-- The least run by its start: the initial locations passed led to no accepting run. What the whole runner answers.
+use mathlib.Core.Path.{_≡_, refl, sym, _∙_, ap}
+use mathlib.Core.Bool.{Bool, true, false}
+use mathlib.Core.List.{List, [], _∷_}
+use Prim.Native.Nat.{ℕ, suc, _+_, _-_, _≤_, _<_}
+use native.Mathlib.Omega.{arith}
+use native.Mathlib.Numerals.{add-one}
+use borrow.Author.Tests.{ne-eqb}
+use Rattle.model.specs.declared.Head.{Head}
+use Rattle.model.specs.declared.Answer.{Answer}
+use Rattle.model.specs.declared.Branch.{Branch}
+use Rattle.model.specs.Basics.{pick, zeros, bit, bitsFrom, Refusal, fine}
+use Rattle.model.specs.Words.{mostBranchEvents, eventsOf, wordRefusal}
+use Rattle.model.specs.Runs.{startAges, Path, path, noPath, leastFrom, leastStart, leastRun}
+use Rattle.model.specs.Layout.{ruleIn, ruleRefusal}
+use Rattle.model.specs.Promises.{ChecksRule, ChecksWord, branchOf, RunsBranches}
+use Rattle.model.proofs.Logic.{no-way, by-test}
+use Rattle.model.proofs.Inputs.{rule-first, then-word, Checked, checked}
+use Rattle.model.proofs.Ages.{zeros-most, bits-more, bits-skip}
+use Rattle.ages.specs.declared.Configuration.{Configuration}
+use Rattle.ages.specs.Ages.{numbersOf}
+use Rattle.ages.proofs.Moves.{start-ages}
+use Rattle.branch.specs.Branches.{placed, leastAt, begun, leastOf, Ready, Begins}
+
+-- before the first event, all ages 0
+pub start-ready :
+    (head : Head) (symbols stamps : List ℕ) (from : Configuration) → Begins head symbols stamps
+    → numbersOf (from .ages .of) ≡ zeros 4
+    → Ready head symbols stamps 0 0 from
+start-ready head symbols stamps from b z = record {
+  depth-in = omega arith;
+  counts-equal = b .counts-equal;
+  events-most = b .events-most;
+  edges-most = b .edges-most;
+  stamps-ordered = b .stamps-ordered;
+  ages-most = rw (start-ages (head .clocks) (from .ages) z (b .clocks-most)) (zeros-most 0 (head .clocks));
+}
+
+module _ (head : Head) (edges : List ℕ) (d : ℕ) (symbols stamps : List ℕ) where
+  abbrev runFrom : ℕ → Path
+  runFrom l = leastFrom (ruleIn head edges) d (eventsOf symbols stamps) 0 l (zeros (head .clocks))
+
+  -- the initial locations from l on are left
+  abbrev pub startFrom : ℕ → Path
+  startFrom l = leastStart (ruleIn head edges) d (eventsOf symbols stamps) (bitsFrom (32 - l) l (head .starts))
+
+  pub record Starting (starts l : ℕ) : Type 0 where
+    pub turns : l ≤ 32
+    pub starts-are : starts ≡ head .starts
+    pub rest-is : startFrom l ≡ leastOf head edges d symbols stamps
+
+  pub starting : (starts : ℕ) → starts ≡ head .starts → Starting starts 0
+  unfolding leastRun ruleIn
+  starting starts e = record { turns = omega arith; starts-are = e; rest-is = refl }
+
+  module _ {starts l : ℕ} (inv : Starting starts l) (h : l < 32) where
+    on-to : startFrom l ≡ startFrom (l + 1) → Starting starts (l + 1)
+    on-to e = record { turns = omega arith; starts-are = inv .starts-are; rest-is = sym e ∙ inv .rest-is }
+
+    left : 32 - l ≡ suc (32 - (l + 1))
+    left = omega arith
+
+    -- not an initial location
+    pub starting-other : (r : Bool) (w : ℕ) → w ≡ l → r ≡ bit w starts → r ≡ false → Starting starts (l + 1)
+    starting-other r w e t f =
+        let unset : bit l (head .starts) ≡ false = rw (e, inv .starts-are) at (sym t ∙ f) in
+        on-to (rw (left, bits-skip (32 - (l + 1)) l (head .starts) unset, add-one l))
+
+    module _
+        (r : Bool) (w : ℕ) (from : Configuration) (b : Begins head symbols stamps) (e : w ≡ l) (t : r ≡ bit w starts)
+        (set : r ≡ true) (at : from .location ≡ l) (z : numbersOf (from .ages .of) ≡ zeros 4)
+      where
+        is-start : bit l (head .starts) ≡ true
+        is-start = rw (e, inv .starts-are) at (sym t ∙ set)
+
+        run-is : leastAt head edges d symbols stamps 0 0 from ≡ runFrom l
+        run-is = rw (at, start-ages (head .clocks) (from .ages) z (b .clocks-most))
+
+        start-step : startFrom l ≡ pick (runFrom l .found) (path true l (runFrom l .taken)) (startFrom (l + 1))
+        unfolding leastStart ruleIn
+        start-step = rw (left, bits-more (32 - (l + 1)) l (head .starts) is-start, add-one l)
+
+        pub starting-stuck :
+            (run : Branch) → run ≡ placed 0 (leastAt head edges d symbols stamps 0 0 from) → run .found ≡ false
+            → Starting starts (l + 1)
+        starting-stuck run p f =
+            let none : runFrom l .found ≡ false =
+            ap (λ (q : Path). q .found) (sym run-is) ∙ (sym (ap (λ (x : Branch). x .found) p) ∙ f) in
+            on-to (start-step ∙ rw none)
+
+        pub starting-found :
+            (run : Branch) → run ≡ placed 0 (leastAt head edges d symbols stamps 0 0 from) → run .found ≡ true
+            → record { number = run .number; place = run .place; found = run .found; start = l; edges = run .edges }
+            ≡ begun (leastOf head edges d symbols stamps)
+        starting-found run p f =
+            let q : run ≡ placed 0 (runFrom l) = p ∙ ap (λ (x : Path). placed 0 x) run-is in
+            let found : runFrom l .found ≡ true = sym (ap (λ (x : Branch). x .found) q) ∙ f in
+            let whole : leastOf head edges d symbols stamps ≡ path true l (runFrom l .taken) =
+            sym (inv .rest-is) ∙ (start-step ∙ rw found) in
+            rw (q, whole, found)
+
+  pub starting-none : {starts l : ℕ} → Starting starts l → 32 ≤ l → leastOf head edges d symbols stamps ≡ noPath
+  unfolding leastStart bitsFrom
+  starting-none {l = l} inv h = let z : 32 - l ≡ 0 = omega arith in sym (inv .rest-is) ∙ rw z
+
+-- A run that is not found is no run.
+not-found :
+    (head : Head) (edges : List ℕ) (d : ℕ) (symbols stamps ls : List ℕ)
+    → leastStart (ruleIn head edges) d (eventsOf symbols stamps) ls .found ≡ false
+    → leastStart (ruleIn head edges) d (eventsOf symbols stamps) ls ≡ noPath
+unfolding leastStart
+not-found head edges d symbols stamps [] h = refl
+not-found head edges d symbols stamps (l ∷ ls) h =
+    by-test (leastFrom (ruleIn head edges) d (eventsOf symbols stamps) 0 l (startAges (ruleIn head edges)) .found)
+    (λ e. no-way (sym (rw e at h)))
+    (λ e. rw e (not-found head edges d symbols stamps ls (rw e at h)))
+
+-- What the runner answers: the refusal with all else zero, or the least run.
+pub refused-is :
+    (f : Refusal) (p : Path) → (f .number ≡ 0 → ⊥)
+    → record { number = f .number; place = f .place; found = false; start = 0; edges = zeros 12 } ≡ branchOf f p
+refused-is f p n = rw (ne-eqb (f .number) 0 n)
+
+begun-is : (p : Path) → (p .found ≡ false → p ≡ noPath) → begun p ≡ branchOf fine p
+begun-is p none = by-test (p .found) (λ e. rw e) (λ e. rw (none e))
+
+module _ (head : Head) (edges : List ℕ) (d : ℕ) (symbols stamps : List ℕ) where
+  abbrev word : Refusal
+  word = wordRefusal (head .symbols) d mostBranchEvents symbols stamps
+
+  pub rule-refuses :
+      (a : Answer) (r : Branch) → ChecksRule head edges a → (a .number ≡ 0 → ⊥)
+      → r ≡ record { number = a .number; place = a .place; found = false; start = 0; edges = zeros 12 }
+      → RunsBranches head edges d symbols stamps r
+  rule-refuses a r c n e =
+      let f : Refusal = ruleRefusal head edges in
+      let m : f .number ≡ 0 → ⊥ = λ z. n (ap (λ (x : Answer). x .number) (c .answer-is) ∙ z) in
+      record {
+        answer-is =
+            e
+            ∙ (rw (c .answer-is, rule-first head edges d mostBranchEvents symbols stamps m)
+            (refused-is f (leastOf head edges d symbols stamps) m));
+      }
+
+  module _ (a b : Answer) (c : ChecksRule head edges a) (w : ChecksWord (head .symbols) d 12 symbols stamps b) (z : a .number ≡ 0) where
+    rule-passes : ruleRefusal head edges .number ≡ 0
+    rule-passes = sym (ap (λ (x : Answer). x .number) (c .answer-is)) ∙ z
+
+    pub word-refuses :
+        (r : Branch) → (b .number ≡ 0 → ⊥)
+        → r ≡ record { number = b .number; place = b .place; found = false; start = 0; edges = zeros 12 }
+        → RunsBranches head edges d symbols stamps r
+    word-refuses r n e =
+        let m : word .number ≡ 0 → ⊥ = λ q. n (ap (λ (x : Answer). x .number) (w .answer-is) ∙ q) in
+        record {
+          answer-is =
+              e
+              ∙ (rw (w .answer-is, then-word head edges d mostBranchEvents symbols stamps rule-passes)
+              (refused-is word (leastOf head edges d symbols stamps) m));
+        }
+
+    module _ (y : b .number ≡ 0) where
+      both-pass : Checked head edges d mostBranchEvents symbols stamps
+      both-pass =
+          checked head edges d mostBranchEvents symbols stamps rule-passes
+          (sym (ap (λ (x : Answer). x .number) (w .answer-is)) ∙ y)
+
+      pub begins : Begins head symbols stamps
+      begins = record {
+        clocks-most = both-pass .clocks-most;
+        edges-most = both-pass .count-most;
+        counts-equal = both-pass .keeps .lengths-equal;
+        events-most = both-pass .keeps .events-most;
+        stamps-ordered = both-pass .keeps .stamps-ordered;
+      }
+
+      pub run-is-least :
+          (r : Branch) → r ≡ begun (leastOf head edges d symbols stamps) → RunsBranches head edges d symbols stamps r
+      unfolding leastRun
+      run-is-least r e = record {
+        answer-is =
+            e
+            ∙ rw (both-pass .passes-both)
+            (begun-is (leastOf head edges d symbols stamps)
+            (not-found head edges d symbols stamps (ruleIn head edges .initial)));
+      }

@@ -1,0 +1,72 @@
+-- `branch::run_branches` meets its contract: the rule is checked, then the word, then the least run is looked for.
+use Rattle.branch.proofs.Starts.{rule-refuses, word-refuses, begins, run-is-least}
+use borrow.Author.Needs.{needs}
+use Rattle.branch.proofs.run_branches.Statement.{statement}
+use Rattle.branch.proofs.run_branches.Tie as tie
+
+check-rule-requires : tie.Need-check-rule-requires
+check-rule-requires c κs = search needs
+
+refused-requires : tie.Need-refused-requires
+refused-requires c κs = search needs
+
+returns : tie.Need-returns
+returns c =
+    let a = c .before .before .before .before .before .before .before .args in
+    let rule = c .before .before .before .check-rule in
+    rule-refuses (a .head) (a .edges .now) (a .grain) (a .symbols .now) (a .stamps .now) (rule .result) _ (rule .ensures)
+    (c .before .if1 .taken)
+    (c .refused .ensures)
+
+check-word-requires : tie.Need-check-word-requires
+check-word-requires c κs = search needs
+
+refused-requires-2 : tie.Need-refused-requires-2
+refused-requires-2 c κs = search needs
+
+returns-2 : tie.Need-returns-2
+returns-2 c =
+    let a = c .before .before .before .before .before .before .before .before .before .before .args in
+    let rule = c .before .before .before .before .before .before .check-rule in
+    let word = c .before .before .before .check-word in
+    word-refuses (a .head) (a .edges .now) (a .grain) (a .symbols .now) (a .stamps .now) (rule .result) (word .result) (rule .ensures)
+    (word .ensures)
+    (c .before .before .before .before .if1 .left)
+    _
+    (c .before .if2 .taken)
+    (c .refused2 .ensures)
+
+least-start-requires : tie.Need-least-start-requires
+least-start-requires c κs =
+    let a = c .before .before .before .before .before .before .before .before .before .args in
+    let rule = c .before .before .before .before .before .check-rule in
+    let word = c .before .before .check-word in
+    begins (a .head) (a .edges .now) (a .grain) (a .symbols .now) (a .stamps .now) (rule .result) (word .result) (rule .ensures)
+    (word .ensures)
+    (c .before .before .before .if1 .left)
+    (c .if2 .left)
+
+returns-3 : tie.Need-returns-3
+returns-3 c =
+    let a = c .before .before .before .before .before .before .before .before .before .before .args in
+    let rule = c .before .before .before .before .before .before .check-rule in
+    let word = c .before .before .before .check-word in
+    run-is-least (a .head) (a .edges .now) (a .grain) (a .symbols .now) (a .stamps .now) (rule .result) (word .result) (rule .ensures)
+    (word .ensures)
+    (c .before .before .before .before .if1 .left)
+    (c .before .if2 .left)
+    _
+    (c .least-start .ensures)
+
+pub run-branches-spec : {M : Type 1} → statement M
+run-branches-spec =
+    tie.close
+    (tie.spec
+    check-rule-requires
+    refused-requires
+    returns
+    check-word-requires
+    refused-requires-2
+    returns-2
+    least-start-requires
+    returns-3)

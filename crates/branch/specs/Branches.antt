@@ -1,0 +1,62 @@
+-- A branch record as a run from some event on, and what must hold there.
+use mathlib.Core.Path.{_≡_}
+use mathlib.Core.List.{List, _++_}
+use Prim.Native.Nat.{ℕ, _-_, _≤_}
+use lib.ListN.{length, drop}
+use Rattle.model.specs.declared.Head.{Head}
+use Rattle.model.specs.declared.Branch.{Branch}
+use Rattle.model.specs.Basics.{zeros, filled}
+use Rattle.model.specs.Words.{mostBranchEvents, eventsOf}
+use Rattle.model.specs.Runs.{Path, leastFrom, leastRun}
+use Rattle.model.specs.Layout.{ruleIn}
+use Rattle.model.proofs.Words.{Ordered}
+use Rattle.model.proofs.Ages.{AtMost}
+use Rattle.ages.specs.declared.Configuration.{Configuration}
+use Rattle.ages.specs.Ages.{agesOf}
+
+-- the run p, its edges from place `depth` on, its start not known yet
+abbrev pub placed : ℕ → Path → Branch
+placed depth p = record {
+  number = 0;
+  place = 0;
+  found = p .found;
+  start = 0;
+  edges = zeros depth ++ filled (mostBranchEvents - depth) (p .taken);
+}
+
+-- the least accepting run from a configuration, over the events from `depth` on, after the stamp `last`
+abbrev pub leastAt : Head → List ℕ → ℕ → List ℕ → List ℕ → ℕ → ℕ → Configuration → Path
+leastAt head edges d symbols stamps depth last from =
+    leastFrom (ruleIn head edges) d (eventsOf (drop depth symbols) (drop depth stamps)) last (from .location)
+    (agesOf (head .clocks) (from .ages))
+
+-- the whole run: a start location and the edges from place 0 on
+abbrev pub begun : Path → Branch
+begun p = record {
+  number = 0;
+  place = 0;
+  found = p .found;
+  start = p .start;
+  edges = filled mostBranchEvents (p .taken);
+}
+
+-- the least accepting run over the whole word
+abbrev pub leastOf : Head → List ℕ → ℕ → List ℕ → List ℕ → Path
+leastOf head edges d symbols stamps = leastRun (ruleIn head edges) d (eventsOf symbols stamps)
+
+-- at most 12 events, their stamps in order, ages of no more than the stamp before
+pub record Ready (head : Head) (symbols stamps : List ℕ) (depth last : ℕ) (from : Configuration) : Type 0 where
+  pub depth-in : depth ≤ length symbols
+  pub counts-equal : length symbols ≡ length stamps
+  pub events-most : length symbols ≤ mostBranchEvents
+  pub edges-most : head .count ≤ 256
+  pub stamps-ordered : Ordered last (eventsOf (drop depth symbols) (drop depth stamps))
+  pub ages-most : AtMost last (agesOf (head .clocks) (from .ages))
+
+-- the same before the first event, with at most 4 clocks
+pub record Begins (head : Head) (symbols stamps : List ℕ) : Type 0 where
+  pub clocks-most : head .clocks ≤ 4
+  pub edges-most : head .count ≤ 256
+  pub counts-equal : length symbols ≡ length stamps
+  pub events-most : length symbols ≤ mostBranchEvents
+  pub stamps-ordered : Ordered 0 (eventsOf symbols stamps)

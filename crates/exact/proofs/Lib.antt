@@ -1,0 +1,5 @@
+pub mod Banks
+pub mod Adding
+pub mod Spreading
+pub mod Parts
+pub mod Moving

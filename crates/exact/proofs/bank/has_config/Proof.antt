@@ -1,0 +1,89 @@
+-- `exact::bank::has_config` meets its contract: the configurations passed are others.
+use mathlib.Core.Path.{_≡_}
+use Prim.Native.Nat.{_+_, _-_, _*_, _≤_}
+use native.Mathlib.Omega.{arith}
+use lib.ListN.{length}
+use Rattle.ages.specs.Ages.{configOf}
+use Rattle.exact.proofs.Adding.{Looking, looking, looking-next, look-found, look-none, within-bank}
+use borrow.Author.Needs.{needs}
+use Rattle.exact.proofs.bank.has_config.Statement.{statement}
+use Rattle.exact.proofs.bank.has_config.Tie as tie
+use Rattle.exact.proofs.bank.has_config.Reads as reads
+use Rattle.exact.proofs.bank.has_config.Lts as lts
+use Rattle.ages.proofs.same_configuration.Reads as same-configuration-reads
+use Rattle.exact.proofs.bank.load.Reads as load-reads
+
+abbrev Inv-loop : tie.InvT-loop
+Inv-loop bank clocks n c width at₀ i₀ at i =
+    (clocks ≤ 4) × (width ≡ clocks + 1) × (n * (clocks + 1) ≤ length bank)
+    × Looking clocks n i at (configOf clocks c) bank
+
+abbrev μ-loop : tie.MeasureT-loop
+μ-loop bank clocks n c width at₀ i₀ at i = n - i
+
+add-width : tie.Need-add-width Inv-loop μ-loop
+add-width c = search needs
+
+loop-holds : tie.Need-loop-holds Inv-loop μ-loop
+loop-holds c = (search needs, search needs, search needs, looking _ _ _ _)
+
+load-requires : tie.Need-load-requires Inv-loop μ-loop
+load-requires c κs =
+    let a = c .before .before .before .args in
+    let l = c .before .loop in
+    omega
+    (arith, within-bank (a .clocks) (a .n) (l .i) (l .at) (length (a .bank .now)) (c .loop-test .taken) (l .inv .3 .place-is) (l .inv .2))
+
+same-configuration-requires : tie.Need-same-configuration-requires Inv-loop μ-loop
+same-configuration-requires c κs = search needs
+
+returns : tie.Need-returns Inv-loop μ-loop
+returns c =
+    let l = c .before .before .before .before .loop in
+    look-found (l .inv .3) (c .before .before .before .loop-test .taken) _ (c .before .before .load .ensures) (l .inv .0) _
+    (c .before .same-configuration .ensures)
+    (c .if1 .taken)
+
+add-at : tie.Need-add-at Inv-loop μ-loop
+add-at c =
+    let a = c .before .before .before .before .before .before .args in
+    let l = c .before .before .before .before .loop in
+    omega
+    (arith, within-bank (a .clocks) (a .n) (l .i) (l .at) (length (a .bank .now)) (c .before .before .before .loop-test .taken) (l .inv .3 .place-is) (l .inv .2))
+
+add-i : tie.Need-add-i Inv-loop μ-loop
+add-i c = search needs
+
+loop-less : tie.Need-loop-less Inv-loop μ-loop
+loop-less c = search needs
+
+loop-again : tie.Need-loop-again Inv-loop μ-loop
+loop-again c =
+    let l = c .before .before .before .before .loop in (
+      l .inv .0,
+      l .inv .1,
+      l .inv .2,
+      looking-next (l .inv .3) (c .before .before .before .loop-test .taken) _ (c .before .before .load .ensures) (l .inv .0) _
+          (c .before .same-configuration .ensures)
+          (c .if1 .left),
+    )
+
+returns-2 : tie.Need-returns-2 Inv-loop μ-loop
+returns-2 c = look-none (c .before .loop .inv .3) (c .loop-test .left)
+
+pub has-config-spec : {M : Type 1} → statement M
+has-config-spec =
+    tie.close
+    (tie.spec
+    Inv-loop
+    μ-loop
+    add-width
+    loop-holds
+    load-requires
+    same-configuration-requires
+    returns
+    add-at
+    add-i
+    loop-less
+    loop-again
+    returns-2)

@@ -1,0 +1,23 @@
+-- `exact::bank::number_in` meets its contract: past the end the definitions read 0.
+use mathlib.Core.Path.{sym}
+use lib.ListN.{List·getD-eq-default}
+use borrow.Author.Needs.{needs}
+use Rattle.exact.proofs.bank.number_in.Statement.{statement}
+use Rattle.exact.proofs.bank.number_in.Tie as tie
+use Rattle.exact.proofs.bank.number_in.Reads as reads
+use Rattle.exact.proofs.bank.number_in.Lts as lts
+
+returns : tie.Need-returns
+returns c = sym (List·getD-eq-default (c .before .args .bank .now) 0 (c .if1 .taken))
+
+mul-result : tie.Need-mul-result
+mul-result c = search needs
+
+shared-slice-read-result : tie.Need-shared-slice-read-result
+shared-slice-read-result c = search needs
+
+returns-2 : tie.Need-returns-2
+returns-2 c = search needs
+
+pub number-in-spec : {M : Type 1} → statement M
+number-in-spec = tie.close (tie.spec returns mul-result shared-slice-read-result returns-2)

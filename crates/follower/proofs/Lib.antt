@@ -1,0 +1,3 @@
+pub mod Stray
+pub mod Checks
+pub mod Moves

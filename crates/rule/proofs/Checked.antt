@@ -1,0 +1,187 @@
+-- 21 is what the direct test finds, and what a call that passes has shown: the rule is valid, and head record and edge
+-- table are what that rule becomes.
+use mathlib.Core.Path.{_≡_, refl, _∙_, ap}
+use mathlib.Core.Bool.{Bool, true, false, _&&_, not}
+use mathlib.Core.List.{List}
+use Prim.Native.Nat.{ℕ, _-_, _^_, _≤_, _<_}
+use native.Mathlib.Omega.{arith}
+use lib.Dec.{ltb, leb}
+use lib.ListN.{length}
+use borrow.Author.Tests.{le-leb, leb-true, ltb-true, ltb-false, eq-eqb, not-false, lt-ltb, le-ltb}
+use Rattle.model.specs.declared.Head.{Head}
+use Rattle.model.specs.declared.Answer.{Answer}
+use Rattle.model.specs.Basics.{filled, same, maskOf, bitsFrom, Refusal, refusal, fine, refuse, _⨾_}
+use Rattle.model.specs.Rules.{Edge, rule, Rule, largestOf, cm, pairCount, mostPairs, mostEdges, sizesOk, rising, edgesOk, validRule}
+use Rattle.model.specs.Layout.{edgesNumbers, edgeNeed, edgeTable, edgesIn, ruleIn, sameMasks, isReadable, ruleRefusal}
+use Rattle.model.specs.Promises.{ChecksRule}
+use Rattle.model.proofs.Logic.{same-truth, and-left, and-right, same-equal, larger-most}
+use Rattle.model.proofs.Refusals.{refused-false, first-passes, then-passes, Settled, refuse-settled, then-settled}
+use Rattle.model.proofs.Valid.{Sizes, sizes-of}
+use Rattle.model.proofs.TopMost.{edges-top}
+use Rattle.model.proofs.MaskSets.{mask-below, bits-rise, mask-again}
+use Rattle.model.proofs.EdgeTable.{edges-length}
+use Rattle.edges.specs.Powers.{smallPairs}
+use Rattle.rule.specs.Checks.{headGood, edgesGood, pairsGood}
+use Rattle.rule.proofs.Unused.{edges-same}
+
+-- a good head record, as plain facts
+pub record Good-head (h : Head) : Type 0 where
+  pub sizes : Sizes (h .locations) (h .symbols) (h .clocks)
+  pub ceiling-most : h .ceiling ≤ 31
+  pub count-most : h .count ≤ mostEdges
+
+pub good-head : (h : Head) → headGood h ≡ true → Good-head h
+unfolding headGood
+good-head h q =
+    let a : Bool = sizesOk (h .locations) (h .symbols) (h .clocks) in
+    let b : Bool = ltb (h .starts) (2 ^ h .locations) in
+    let c : Bool = ltb (h .ends) (2 ^ h .locations) in
+    let d : Bool = leb (h .ceiling) 31 in
+    let e : Bool = leb (h .count) mostEdges in
+    let q4 : (a && b && c && d) ≡ true = and-left (a && b && c && d) e q in
+    let q3 : (a && b && c) ≡ true = and-left (a && b && c) d q4 in
+    record {
+      sizes = sizes-of (h .locations) (h .symbols) (h .clocks) (and-left a b (and-left (a && b) c q3));
+      ceiling-most = leb-true (h .ceiling) 31 (and-right (a && b && c) d q4);
+      count-most = leb-true (h .count) mostEdges (and-right (a && b && c && d) e q);
+    }
+
+-- the test of a mask: its bits rise below l exactly if it is below 2 ^ l
+mask-rises : (l mask : ℕ) → mask < 2 ^ 32 → rising 0 l (bitsFrom 32 0 mask) ≡ ltb mask (2 ^ l)
+mask-rises l mask h =
+    same-truth (rising 0 l (bitsFrom 32 0 mask)) (ltb mask (2 ^ l))
+    (λ r. lt-ltb mask (2 ^ l) (omega (arith, mask-below l (bitsFrom 32 0 mask) r, mask-again mask h)))
+    (λ b. bits-rise 32 0 l mask (ltb-true mask (2 ^ l) b))
+
+-- the tests in the code's order and in the definition's
+reorder : (x f g m k : Bool) → (x ≡ true → (f && m) ≡ k) → (x && f && g && true && m) ≡ (x && k && g)
+reorder false f g m k e = refl
+reorder true f g m k e = rw (← e refl) (go f g m)
+  where
+    go : (f g m : Bool) → (f && g && true && m) ≡ (f && m && g)
+    go false g m = refl
+    go true false false = refl
+    go true false true = refl
+    go true true false = refl
+    go true true true = refl
+
+pub readable-is :
+    (h : Head) (t : List ℕ) → h .starts < 2 ^ 32 → h .ends < 2 ^ 32 → edgeNeed ≤ length t
+    → isReadable h t ≡ (headGood h && edgesGood h (h .count) t && pairsGood h t)
+unfolding headGood ruleIn validRule edgeTable isReadable
+readable-is h t p q long =
+    let x : Bool =
+    sizesOk (h .locations) (h .symbols) (h .clocks) && ltb (h .starts) (2 ^ h .locations)
+    && ltb (h .ends) (2 ^ h .locations)
+    && leb (h .ceiling) 31 in
+    rw (
+      mask-rises (h .locations) (h .starts) p,
+      mask-rises (h .locations) (h .ends) q,
+      edges-length (h .count) t,
+      eq-eqb (maskOf (bitsFrom 32 0 (h .starts))) (h .starts) (mask-again (h .starts) p),
+      eq-eqb (maskOf (bitsFrom 32 0 (h .ends))) (h .ends) (mask-again (h .ends) q),
+    )
+    (reorder (x && leb (h .count) mostEdges) (edgesOk (ruleIn h t) (edgesIn (h .count) t))
+    (leb (pairCount (ruleIn h t)) mostPairs) (same (edgeTable (length t) (ruleIn h t)) t)
+    (edgesGood h (h .count) t)
+    (λ e. let few : h .count ≤ 256 = leb-true (h .count) mostEdges (and-right x (leb (h .count) mostEdges) e) in
+    edges-same h (bitsFrom 32 0 (h .starts)) (bitsFrom 32 0 (h .ends)) (h .ceiling) (edgesIn (h .count) t)
+    (h .count) t
+    (omega arith)))
+
+-- N, where head record and edge table are good: sizes in range, and cm at most 30
+good-top :
+    (h : Head) (t : List ℕ) → Good-head h → edgeNeed ≤ length t → edgesGood h (h .count) t ≡ true
+    → cm (ruleIn h t) ≤ 30
+unfolding cm ruleIn
+good-top h t good long q =
+    let i : List ℕ = bitsFrom 32 0 (h .starts) in
+    let f : List ℕ = bitsFrom 32 0 (h .ends) in
+    let es : List Edge = edgesIn (h .count) t in
+    let r : Rule = rule (h .locations) (h .symbols) (h .clocks) i f (h .ceiling) es in
+    let both = edges-same h i f (h .ceiling) es (h .count) t (omega (arith, good .count-most)) ∙ q in
+    larger-most (largestOf es) (h .ceiling - 1) 30
+    (edges-top r es (and-left (edgesOk r es) (same (filled (length t) (edgesNumbers es)) t) both))
+    (omega (arith, good .ceiling-most))
+
+pub pairs-good :
+    (h : Head) (t : List ℕ) (p : ℕ) → headGood h ≡ true → edgeNeed ≤ length t → edgesGood h (h .count) t ≡ true
+    → p ≡ smallPairs h t
+    → leb p 65536 ≡ pairsGood h t
+pairs-good h t p q long edges e =
+    let good = good-head h q in
+    rw (
+      e,
+      le-leb (h .locations) 32 (good .sizes .locations-most),
+      le-leb (h .clocks) 4 (good .sizes .clocks-most),
+      le-leb (cm (ruleIn h t)) 30 (good-top h t good long edges),
+    )
+
+-- What a call that passes has shown.
+pub record Checked (h : Head) (t : List ℕ) : Type 0 where
+  pub readable : isReadable h t ≡ true
+  pub valid : validRule (ruleIn h t) ≡ true
+  pub long : edgeNeed ≤ length t
+  pub table-is : edgeTable (length t) (ruleIn h t) ≡ t
+
+readable-checked : (h : Head) (t : List ℕ) → isReadable h t ≡ true → edgeNeed ≤ length t → Checked h t
+unfolding isReadable
+readable-checked h t q long =
+    let r : Rule = ruleIn h t in
+    let a : Bool = validRule r in
+    let b : Bool = sameMasks r h in
+    let c : Bool = same (edgeTable (length t) r) t in
+    record {
+      readable = q;
+      valid = and-left a b (and-left (a && b) c q);
+      long = long;
+      table-is = same-equal (edgeTable (length t) r) t (and-right (a && b) c q);
+    }
+
+-- the refusal that a call answers
+pub refusal-is :
+    {h : Head} {t : List ℕ} {answer : Answer} → ChecksRule h t answer
+    → ruleRefusal h t ≡ refusal (answer .number) (answer .place)
+refusal-is {h} {t} {answer} q = rw (q .answer-is)
+
+pub passed-checked :
+    {h : Head} {t : List ℕ} {answer : Answer} → ChecksRule h t answer → answer .number ≡ 0 → Checked h t
+unfolding ruleRefusal
+passed-checked {h} {t} {answer} q e =
+    let f : Refusal = refuse (ltb (length t) edgeNeed) 20 0 in
+    let g : Refusal = refuse (not (isReadable h t)) 21 0 in
+    let z : (f ⨾ g) .number ≡ 0 = ap (λ (x : Refusal). x .number) (refusal-is q) ∙ e in
+    readable-checked h t
+    (not-false (isReadable h t) (refused-false (not (isReadable h t)) 20 0 (then-passes f g z)))
+    (ltb-false (length t) edgeNeed (refused-false (ltb (length t) edgeNeed) 19 0 (first-passes f g z)))
+
+rule-settled : (h : Head) (t : List ℕ) → Settled (ruleRefusal h t)
+unfolding ruleRefusal
+rule-settled h t =
+    then-settled (refuse (ltb (length t) edgeNeed) 20 0) (refuse (not (isReadable h t)) 21 0)
+    (refuse-settled (ltb (length t) edgeNeed) 19 0)
+    (refuse-settled (not (isReadable h t)) 20 0)
+
+pub passed-fine :
+    {h : Head} {t : List ℕ} {answer : Answer} → ChecksRule h t answer → answer .number ≡ 0
+    → ruleRefusal h t ≡ fine
+passed-fine {h} {t} q e = rule-settled h t (ap (λ (x : Refusal). x .number) (refusal-is q) ∙ e)
+
+-- the three answers
+pub answers-short :
+    (h : Head) (t : List ℕ) → length t < edgeNeed
+    → ChecksRule h t (record { number = 20; place = 0; value = 0 })
+unfolding ruleRefusal
+answers-short h t q = record { answer-is = rw (lt-ltb (length t) edgeNeed q) }
+
+pub answers-pass :
+    (h : Head) (t : List ℕ) → edgeNeed ≤ length t → isReadable h t ≡ true
+    → ChecksRule h t (record { number = 0; place = 0; value = 0 })
+unfolding ruleRefusal
+answers-pass h t q e = record { answer-is = rw (le-ltb (length t) edgeNeed q, e) }
+
+pub answers-not :
+    (h : Head) (t : List ℕ) → edgeNeed ≤ length t → isReadable h t ≡ false
+    → ChecksRule h t (record { number = 21; place = 0; value = 0 })
+unfolding ruleRefusal
+answers-not h t q e = record { answer-is = rw (le-ltb (length t) edgeNeed q, e) }

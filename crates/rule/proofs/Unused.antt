@@ -1,0 +1,160 @@
+-- The edge table that its own rule becomes is the lent table exactly if every unused place is zero: the places of the
+-- atoms that an edge does not have, and all places past the last edge.
+use mathlib.Core.Path.{_≡_, refl, sym, _∙_, ap, ap₂}
+use mathlib.Core.Bool.{Bool, true, false, _&&_}
+use mathlib.Core.List.{List, [], _∷_, _++_, append-assoc}
+use Prim.Native.Nat.{ℕ, zero, suc, _+_, _-_, _*_, _≤_}
+use native.Mathlib.Omega.{arith}
+use lib.Dec.{eqb, leb}
+use lib.ListN.{length, getD, take, drop, length-append, length-drop, take-append-drop}
+use lib.Seq.{length-take-le, take-add}
+use borrow.Author.Tests.{eq-eqb, eqb-true, leb-true}
+use Rattle.model.specs.Basics.{same, zeros, filled}
+use Rattle.model.specs.declared.Head.{Head}
+use Rattle.model.specs.Rules.{Edge, rule, mostAtoms, atomsOk, integerReset, edgesOk}
+use Rattle.model.specs.Files.{atomNumbers}
+use Rattle.model.specs.Layout.{edgeFields, edgeWidth, atomsIn, edgeIn, edgesIn, edgeNumbers, edgesNumbers}
+use Rattle.model.proofs.Logic.{same-truth, same-self}
+use Rattle.model.proofs.EdgeTable.{atoms-length}
+use Rattle.model.proofs.EdgesWritten.{edge-numbers-length}
+use Rattle.rule.specs.Checks.{allZero, fieldsGood, edgeGood, edgesGood}
+
+-- two lists in two parts each
+same-parts :
+    (a c b d : List ℕ) → length a ≡ length c → same (a ++ b) (c ++ d) ≡ (same a c && same b d)
+same-parts [] [] b d h = refl
+same-parts [] (y ∷ c) b d h = absurd (omega arith)
+same-parts (x ∷ a) [] b d h = absurd (omega arith)
+same-parts (x ∷ a) (y ∷ c) b d h = go (eqb x y) (same-parts a c b d (omega arith))
+  where
+    go :
+        (t : Bool) → same (a ++ b) (c ++ d) ≡ (same a c && same b d)
+        → (t && same (a ++ b) (c ++ d)) ≡ (t && same a c && same b d)
+    go true e = e
+    go false e = refl
+
+eqb-turned : (x y : ℕ) → eqb x y ≡ eqb y x
+eqb-turned x y =
+    same-truth (eqb x y) (eqb y x) (λ e. eq-eqb y x (sym (eqb-true x y e)))
+    (λ e. eq-eqb x y (sym (eqb-true y x e)))
+
+same-zeros : (xs : List ℕ) → same (zeros (length xs)) xs ≡ allZero xs
+same-zeros [] = refl
+same-zeros (x ∷ xs) = ap₂ _&&_ (eqb-turned 0 x) (same-zeros xs)
+
+-- the numbers of the atoms that were read are the numbers that stand there
+atom-numbers : (n : ℕ) (t : List ℕ) → 3 * n ≤ length t → atomNumbers (atomsIn n t) ≡ take (3 * n) t
+atom-numbers zero t h = refl
+atom-numbers (suc n) [] h = absurd (omega arith)
+atom-numbers (suc n) (x ∷ []) h = absurd (omega arith)
+atom-numbers (suc n) (x ∷ y ∷ []) h = absurd (omega arith)
+atom-numbers (suc n) (x ∷ y ∷ z ∷ t) h =
+    let e : 3 * suc n ≡ suc (suc (suc (3 * n))) = omega arith in
+    rw e (ap (λ (l : List ℕ). x ∷ y ∷ z ∷ l) (atom-numbers n t (omega arith)))
+
+-- the places of an edge's atoms: those that it has, then zeros
+atoms-same :
+    (n : ℕ) (t : List ℕ) → 24 ≤ length t → n ≤ 8
+    → same (filled 24 (atomNumbers (atomsIn n t))) (take 24 t) ≡ allZero (take (24 - 3 * n) (drop (3 * n) t))
+atoms-same n t h m =
+    let numbers : atomNumbers (atomsIn n t) ≡ take (3 * n) t = atom-numbers n t (omega arith) in
+    let long : length (take (3 * n) t) ≡ 3 * n = length-take-le (3 * n) t (omega arith) in
+    let past : length (take (24 - 3 * n) (drop (3 * n) t)) ≡ 24 - 3 * n =
+    length-take-le (24 - 3 * n) (drop (3 * n) t) (rw (length-drop (3 * n) t) (omega arith)) in
+    let e : 24 ≡ 3 * n + (24 - 3 * n) = omega arith in
+    let split : take 24 t ≡ take (3 * n) t ++ take (24 - 3 * n) (drop (3 * n) t) =
+    ap (λ (k : ℕ). take k t) e ∙ take-add (3 * n) (24 - 3 * n) t in
+    rw (
+      numbers,
+      long,
+      split,
+      same-parts (take (3 * n) t) (take (3 * n) t) (zeros (24 - 3 * n))
+          (take (24 - 3 * n) (drop (3 * n) t)) refl,
+      same-self (take (3 * n) t),
+    )
+    (ap (λ (k : ℕ). same (zeros k) (take (24 - 3 * n) (drop (3 * n) t))) (sym past)
+    ∙ same-zeros (take (24 - 3 * n) (drop (3 * n) t)))
+
+-- one edge
+pub edge-same :
+    (t : List ℕ) → 29 ≤ length t → getD t 4 0 ≤ 8
+    → same (edgeNumbers (edgeIn t)) (take edgeWidth t)
+    ≡ allZero (take (edgeWidth - (edgeFields + 3 * getD t 4 0)) (drop (edgeFields + 3 * getD t 4 0) t))
+edge-same [] h m = absurd (omega arith)
+edge-same (a ∷ []) h m = absurd (omega arith)
+edge-same (a ∷ b ∷ []) h m = absurd (omega arith)
+edge-same (a ∷ b ∷ c ∷ []) h m = absurd (omega arith)
+edge-same (a ∷ b ∷ c ∷ d ∷ []) h m = absurd (omega arith)
+edge-same (a ∷ b ∷ c ∷ d ∷ n ∷ t) h m =
+    let fields : edgeFields + 3 * n ≡ suc (suc (suc (suc (suc (3 * n))))) = omega arith in
+    let past : edgeWidth - (edgeFields + 3 * n) ≡ 24 - 3 * n = omega arith in
+    rw (
+      past,
+      fields,
+      eq-eqb a a refl,
+      eq-eqb b b refl,
+      eq-eqb c c refl,
+      eq-eqb d d refl,
+      atoms-length n t,
+      eq-eqb n n refl,
+    )
+    (atoms-same n t (omega arith) m)
+
+-- the first edge, and the rest
+table-parts :
+    (xs ys t : List ℕ) → length xs ≡ 29 → 29 ≤ length t
+    → same (filled (length t) (xs ++ ys)) t
+    ≡ (same xs (take 29 t) && same (filled (length (drop 29 t)) ys) (drop 29 t))
+table-parts xs ys t e h =
+    let left : length t - length (xs ++ ys) ≡ length (drop 29 t) - length ys =
+    rw (length-append xs ys, length-drop 29 t, e) (omega arith) in
+    let front : length xs ≡ length (take 29 t) = e ∙ sym (length-take-le 29 t h) in
+    ap (λ (l : List ℕ). same (filled (length t) (xs ++ ys)) l) (sym (take-append-drop 29 t))
+    ∙ (rw (left, append-assoc xs ys (zeros (length (drop 29 t) - length ys)))
+    (same-parts xs (take 29 t) (ys ++ zeros (length (drop 29 t) - length ys)) (drop 29 t) front))
+
+swapped : (q s w : Bool) → (q && (s && w)) ≡ (s && (q && w))
+swapped true s w = refl
+swapped false true w = refl
+swapped false false w = refl
+
+-- the tests in the code's order and in the definition's
+regroup :
+    (f a p m q s w g z : Bool) → (m ≡ true → z ≡ (s && w)) → (q && w) ≡ g
+    → ((f && a && p && m && q) && z) ≡ ((f && m && a && p && s) && g)
+regroup false a p m q s w g z split e = refl
+regroup true false p false q s w g z split e = refl
+regroup true true false false q s w g z split e = refl
+regroup true true true false q s w g z split e = refl
+regroup true false p true q s w g z split e = refl
+regroup true true false true q s w g z split e = refl
+regroup true true true true q s w g z split e = rw (split refl, ← e) (swapped q s w)
+
+-- all edges, then the places past them
+pub edges-same :
+    (h : Head) (i f : List ℕ) (c : ℕ) (es : List Edge) (n : ℕ) (t : List ℕ) → 29 * n ≤ length t
+    → (edgesOk (rule (h .locations) (h .symbols) (h .clocks) i f c es) (edgesIn n t)
+    && same (filled (length t) (edgesNumbers (edgesIn n t))) t)
+    ≡ edgesGood h n t
+unfolding edgesNumbers edgeGood edgesGood
+edges-same h i f c es zero t b = let z : length t - 0 ≡ length t = omega arith in rw z (same-zeros t)
+edges-same h i f c es (suc n) t b =
+    let e : Edge = edgeIn t in
+    let few : leb (length (e .atoms)) mostAtoms ≡ leb (getD t 4 0) mostAtoms =
+    ap (λ (k : ℕ). leb k mostAtoms) (atoms-length (getD t 4 0) (drop edgeFields t)) in
+    let fields : Bool = fieldsGood h t in
+    let atoms : Bool = atomsOk (h .clocks) (e .atoms) in
+    let unused : Bool =
+    allZero (take (edgeWidth - (edgeFields + 3 * getD t 4 0)) (drop (edgeFields + 3 * getD t 4 0) t)) in
+    let rest : List Edge = edgesIn n (drop edgeWidth t) in
+    let rest-good : Bool = edgesOk (rule (h .locations) (h .symbols) (h .clocks) i f c es) rest in
+    let rest-same : Bool = same (filled (length (drop 29 t)) (edgesNumbers rest)) (drop 29 t) in
+    regroup fields atoms (integerReset e) (leb (length (e .atoms)) mostAtoms) rest-good unused rest-same
+    (edgesGood h n (drop edgeWidth t)) (same (filled (length t) (edgeNumbers e ++ edgesNumbers rest)) t)
+    (λ q.
+    let m : length (e .atoms) ≤ 8 = leb-true (length (e .atoms)) 8 q in
+    table-parts (edgeNumbers e) (edgesNumbers rest) t (edge-numbers-length e m) (omega arith)
+    ∙ ap (λ (x : Bool). x && rest-same) (edge-same t (omega arith) (leb-true (getD t 4 0) 8 (sym few ∙ q))))
+    (edges-same h i f c es n (drop edgeWidth t) (rw (length-drop 29 t) (omega arith)))
+    ∙ ap (λ (x : Bool). (fields && x && atoms && integerReset e && unused) && edgesGood h n (drop edgeWidth t))
+    few

@@ -1,0 +1,105 @@
+-- `rule::edges_ok` meets its contract: the edges passed are good, so that the rest decides.
+use Prim.Native.Nat.{_-_}
+use borrow.Author.Needs.{needs}
+use Rattle.rule.proofs.Laws.{Edges, edges-start, edges-fail, edges-next, edges-end}
+use Rattle.rule.proofs.edges_ok.Statement.{statement}
+use Rattle.rule.proofs.edges_ok.Tie as tie
+
+abbrev Inv-loop : tie.InvT-loop
+Inv-loop head edges count e₀ e = Edges head count e edges
+
+abbrev μ-loop : tie.MeasureT-loop
+μ-loop head edges count e₀ e = count - e
+
+wide32-requires : tie.Need-wide32-requires Inv-loop μ-loop
+wide32-requires c κs = search needs
+
+loop-holds : tie.Need-loop-holds Inv-loop μ-loop
+loop-holds c = edges-start _ _ _
+
+mul-at : tie.Need-mul-at Inv-loop μ-loop
+mul-at c = search needs
+
+mul-edge-ok : tie.Need-mul-edge-ok Inv-loop μ-loop
+mul-edge-ok c = search needs
+
+sub-edge-ok : tie.Need-sub-edge-ok Inv-loop μ-loop
+sub-edge-ok c = search needs
+
+part-edge-ok-start : tie.Need-part-edge-ok-start Inv-loop μ-loop
+part-edge-ok-start c = search needs
+
+part-edge-ok-end : tie.Need-part-edge-ok-end Inv-loop μ-loop
+part-edge-ok-end c = search needs
+
+edge-ok-requires : tie.Need-edge-ok-requires Inv-loop μ-loop
+edge-ok-requires c κs = search needs
+
+returns : tie.Need-returns Inv-loop μ-loop
+returns c =
+    let edge-ok = c .before .edge-ok in
+    let l = c .before .before .before .before .loop in
+    let wide32 = c .before .before .before .before .before .wide32 in
+    edges-fail (l .inv) (search needs) (edge-ok .ensures) (c .if1 .taken) (wide32 .ensures .0)
+
+add-e : tie.Need-add-e Inv-loop μ-loop
+add-e c = search needs
+
+loop-less : tie.Need-loop-less Inv-loop μ-loop
+loop-less c = search needs
+
+loop-again : tie.Need-loop-again Inv-loop μ-loop
+loop-again c =
+    let edge-ok = c .before .edge-ok in
+    let l = c .before .before .before .before .loop in
+    edges-next (l .inv) (search needs) (edge-ok .ensures) (c .if1 .left)
+
+mul-past : tie.Need-mul-past Inv-loop μ-loop
+mul-past c = search needs
+
+mul-all-zero : tie.Need-mul-all-zero Inv-loop μ-loop
+mul-all-zero c = search needs
+
+sub-all-zero : tie.Need-sub-all-zero Inv-loop μ-loop
+sub-all-zero c = search needs
+
+part-all-zero-start : tie.Need-part-all-zero-start Inv-loop μ-loop
+part-all-zero-start c = search needs
+
+part-all-zero-end : tie.Need-part-all-zero-end Inv-loop μ-loop
+part-all-zero-end c = search needs
+
+all-zero-requires : tie.Need-all-zero-requires Inv-loop μ-loop
+all-zero-requires c κs = search needs
+
+returns-2 : tie.Need-returns-2 Inv-loop μ-loop
+returns-2 c =
+    let l = c .before .before .before .loop in
+    let wide32 = c .before .before .before .before .wide32 in
+    edges-end (l .inv) (search needs) (c .all-zero .ensures) (wide32 .ensures .0)
+
+pub edges-ok-spec : {M : Type 1} → statement M
+edges-ok-spec =
+    tie.close
+    (tie.spec
+    Inv-loop
+    μ-loop
+    wide32-requires
+    loop-holds
+    mul-at
+    mul-edge-ok
+    sub-edge-ok
+    part-edge-ok-start
+    part-edge-ok-end
+    edge-ok-requires
+    returns
+    add-e
+    loop-less
+    loop-again
+    mul-past
+    mul-all-zero
+    sub-all-zero
+    part-all-zero-start
+    part-all-zero-end
+    all-zero-requires
+    returns-2)

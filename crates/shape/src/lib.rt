@@ -1,0 +1,152 @@
+// The check of a built record and its tables: every condition of 25, over tables that may hold any numbers.
+ghost use mathlib.Core.Path.{_≡_};
+ghost use Prim.Native.Nat.{ℕ, _*_, _^_, _≤_, _<_};
+ghost use lib.ListN.{length};
+ghost use Rattle.model.specs.Basics.{within, allBelow};
+ghost use Rattle.model.specs.Construction.{intervalCount};
+ghost use Rattle.model.specs.Tables.{tables};
+ghost use Rattle.model.specs.Walks.{builtPairs, builtSizesOk, cellNeed, longEnough, rowsChain, cellsOk, inShape};
+ghost use Rattle.model.specs.Promises.{ChecksTable};
+ghost use Rattle.shape.specs.Ranges.{InRange, sizesInRange};
+use edges::power;
+use edges::wide32;
+use model::Answer;
+use model::Built;
+
+pub(crate) fn within(least: u32, most: u32, x: u32) -> bool
+    ensures { λ r. ⌜ r ≡ within least most x ⌝ }
+{
+    least <= x && x <= most
+}
+
+// N, the number of pairs of a location and bases.
+pub(crate) fn pair_count(built: Built) -> usize
+    requires { ⌜ InRange built ⌝ }
+    ensures { λ r. ⌜ r ≡ builtPairs built ⌝ }
+{
+    wide32(built.locations) * power(wide32(built.top) + 2, wide32(built.clocks))
+}
+
+// L, S and K in their ranges, cm at most 30.
+pub(crate) fn in_range(built: Built) -> bool
+    ensures { λ r. ⌜ r ≡ sizesInRange built ⌝ }
+{
+    within(1, 32, built.locations)
+        && within(1, 16, built.symbols)
+        && within(1, 4, built.clocks)
+        && built.top <= 30
+}
+
+// Sizes in range, N at most 65,536, R from 1 to 4,096.
+pub(crate) fn sizes_ok(built: Built) -> bool
+    ensures { λ r. ⌜ r ≡ builtSizesOk built ⌝ }
+{
+    in_range(built) && pair_count(built) <= 65536 && within(1, 4096, built.rows)
+}
+
+// R · S · W, the cells that the rows need.
+pub(crate) fn cell_need(built: Built) -> usize
+    requires { ⌜ InRange built ⌝ }
+    ensures { λ r. ⌜ r ≡ cellNeed built ⌝ }
+{
+    wide32(built.rows) * (wide32(built.symbols) * (2 * wide32(built.top) + 2))
+}
+
+// Tables no shorter than R and P need.
+pub(crate) fn long_enough(built: Built, cells: &[u32], rows: &[u32], pool: &[u32]) -> bool
+    requires { ⌜ InRange built ⌝ }
+    ensures { λ r. ⌜ r ≡ longEnough (tables built (now (cells .entry)) (now (rows .entry)) (now (pool .entry))) ⌝ }
+{
+    cell_need(built) <= cells.len()
+        && 2 * wide32(built.rows) <= rows.len()
+        && wide32(built.total) <= pool.len()
+}
+
+// A row starts where the one before it ends, row 0 at 0; the lengths add up to P.
+pub(crate) fn rows_chain(count: usize, total: usize, rows: &[u32]) -> bool
+    requires { ⌜ (count < 2 ^ 32) × (2 * count ≤ length (now rows)) ⌝ }
+    ensures { λ r. ⌜ r ≡ rowsChain count 0 (now (rows .entry)) total ⌝ }
+{
+    let mut end: usize = 0;
+    let mut i: usize = 0;
+    while i < count {
+        let start = wide32(rows[2 * i]);
+        if start != end {
+            return false;
+        }
+        end += wide32(rows[2 * i + 1]);
+        i += 1;
+    }
+    end == total
+}
+
+pub(crate) fn codes_below(limit: usize, codes: &[u32]) -> bool
+    ensures { λ r. ⌜ r ≡ allBelow limit (now (codes .entry)) ⌝ }
+{
+    let mut i: usize = 0;
+    while i < codes.len() {
+        if limit <= wide32(codes[i]) {
+            return false;
+        }
+        i += 1;
+    }
+    true
+}
+
+// Every cell's row below R, no timer reset at an odd interval number.
+// W is even, so an interval number is odd where the cell's place is.
+pub(crate) fn cells_ok(rows: usize, cells: &[u32]) -> bool
+    ensures { λ r. ⌜ ((cm : ℕ) → r ≡ cellsOk 0 (intervalCount cm) rows (now (cells .entry))) ⌝ }
+{
+    let mut at: usize = 0;
+    while at < cells.len() {
+        let cell = wide32(cells[at]);
+        if rows <= cell / 2 {
+            return false;
+        }
+        if cell % 2 == 1 && at % 2 == 1 {
+            return false;
+        }
+        at += 1;
+    }
+    true
+}
+
+pub(crate) fn in_shape(built: Built, cells: &[u32], rows: &[u32], pool: &[u32]) -> bool
+    ensures { λ r. ⌜ r ≡ inShape (tables built (now (cells .entry)) (now (rows .entry)) (now (pool .entry))) ⌝ }
+{
+    if !sizes_ok(built) {
+        return false;
+    }
+    if !long_enough(built, cells, rows, pool) {
+        return false;
+    }
+    let count = wide32(built.rows);
+    let total = wide32(built.total);
+    if !rows_chain(count, total, rows) {
+        return false;
+    }
+    if !codes_below(pair_count(built), &pool[..total]) {
+        return false;
+    }
+    let need = cell_need(built);
+    cells_ok(count, &cells[..need])
+}
+
+// 25, the built record or its tables out of shape.
+pub fn check_table(built: Built, cells: &[u32], rows: &[u32], pool: &[u32]) -> Answer
+    ensures { λ r. ⌜ ChecksTable built (now (cells .entry)) (now (rows .entry)) (now (pool .entry)) r ⌝ }
+{
+    if in_shape(built, cells, rows, pool) {
+        return Answer {
+            number: 0,
+            place: 0,
+            value: 0,
+        };
+    }
+    Answer {
+        number: 25,
+        place: 0,
+        value: 0,
+    }
+}
