@@ -1,0 +1,72 @@
+-- A cell is made of the row that a row leads to, found or added, and of whether the timer is reset; and the cells of a
+-- symbol, of a row and of all rows one after another, each with the number that its next row keeps.
+use mathlib.Core.Path.{_≡_, refl, sym, _∙_, ap, ap₂, subst}
+use mathlib.Core.Bool.{Bool, true, false}
+use mathlib.Core.List.{List, [], _∷_, _++_, append-assoc, append-nil}
+use Prim.Native.Nat.{ℕ, zero, suc, _+_, _-_, _*_, _≤_, _<_}
+use native.Mathlib.Omega.{arith}
+use lib.ListN.{length, getD, take, drop}
+use Rattle.model.specs.Basics.{oneIf, zeros}
+use Rattle.model.specs.Rules.{Rule}
+use Rattle.model.specs.Construction.{rowResets, nextRow, rowAt, numberOf, withRow, mostRows, cellOf}
+use Rattle.model.specs.Tables.{rowWidth}
+use Rattle.pairs.specs.declared.Input.{Input}
+use Rattle.construct.specs.declared.Marked.{Marked}
+use Rattle.construct.specs.declared.Progress.{Progress}
+use Rattle.construct.specs.declared.Placed.{Placed}
+use Rattle.construct.specs.declared.Filled.{Filled}
+use Rattle.construct.specs.Marks.{codesIn, MarksAre, NextMarked}
+use Rattle.construct.specs.Rows.{rowIn, rowsHeld, rowsIn, Within, Held, Grown, Numbered, MarksNumbered}
+use Rattle.construct.specs.Cells.{CellMade}
+use Rattle.construct.proofs.RowTables.{row-within}
+
+-- the cell's two parts
+pub cell-reset : (row : ℕ) (timer : Bool) (cell : ℕ) → timer ≡ true → cell ≡ 2 * row + 1 → cell ≡ 2 * row + oneIf timer
+cell-reset row timer cell t e = e ∙ rw t
+
+pub cell-kept : (row : ℕ) (timer : Bool) (cell : ℕ) → timer ≡ false → cell ≡ 2 * row → cell ≡ 2 * row + oneIf timer
+cell-kept row timer cell t e = e ∙ (rw t (omega arith))
+
+-- the row with a number, by its two numbers
+held-at : (n i k : ℕ) (rows pool : List ℕ) → k < n → rowAt (rowsHeld n i rows pool) k ≡ rowIn rows pool (i + k)
+held-at zero i k rows pool h = absurd (omega arith)
+held-at (suc n) i zero rows pool h = let e : i + 0 ≡ i = omega arith in rw e
+held-at (suc n) i (suc k) rows pool h =
+    let e : suc i + k ≡ i + suc k = omega arith in
+    held-at n (suc i) k rows pool (omega arith) ∙ ap (rowIn rows pool) e
+
+module _
+    {rows pool : List ℕ} {p : Progress} (held : Held rows pool p) (row start n : ℕ) (below : row < p .rows)
+    (is-start : start ≡ getD rows (2 * row) 0) (is-length : n ≡ getD rows (2 * row + 1) 0) where
+  pub part-fits : start + n ≤ length pool
+  part-fits = omega (arith, row-within held .in-pool row below, is-start, is-length)
+
+  pub part-is : take (start + n - start) (drop start pool) ≡ rowAt (rowsIn (p .rows) rows pool) row
+  part-is =
+      let e : start + n - start ≡ n = omega arith in
+      let z : 0 + row ≡ row = omega arith in
+      rw (e, is-start, is-length) (sym (held-at (p .rows) 0 row rows pool below ∙ ap (rowIn rows pool) z))
+
+pub cell-made :
+    (r : Rule) (row : ℕ) (at : Input) (rs : List (List ℕ)) {room : ℕ} {x marks marks₁ marks′ rows′ pool′ : List ℕ}
+    (marked : Marked) (placed : Placed) (cell : ℕ)
+    → x ≡ rowAt rs row
+    → length marks₁ ≡ length marks
+    → NextMarked r at x marks₁ marked
+    → MarksNumbered room (withRow (codesIn marks₁) rs) (numberOf (codesIn marks₁) rs) marks₁ marks′ rows′ pool′ placed
+    → cell ≡ 2 * placed .row + oneIf (marked .timer)
+    → CellMade r row at rs room marks marks′ rows′ pool′ (record { cell = cell; progress = placed .progress })
+unfolding cellOf
+cell-made r row at rs {room} {x} {marks} {marks₁} {marks′} {rows′} {pool′} marked placed cell e long next put c =
+    let codes : codesIn marks₁ ≡ nextRow r (at .symbol) (at .interval) (rowAt rs row) =
+    next .marks-are .codes-are ∙ ap (nextRow r (at .symbol) (at .interval)) e in
+    record {
+      marks-zero = put .marks-zero ∙ ap zeros long;
+      grown =
+          subst (λ (l : List ℕ). Grown room (withRow l rs) rows′ pool′ (placed .progress)) codes (put .numbered .grown);
+      cell-is = λ z.
+          c
+          ∙ ap₂ (λ (n : ℕ) (b : Bool). 2 * n + oneIf b)
+          (put .numbered .row-is z ∙ ap (λ (l : List ℕ). numberOf l rs) codes)
+          (next .timer-is ∙ ap (rowResets r (at .symbol) (at .interval)) e);
+    }

@@ -1,0 +1,12 @@
+pub mod MarkLaws
+pub mod Gathering
+pub mod TargetMarks
+pub mod RowSearch
+pub mod RowTables
+pub mod NewRow
+pub mod PlacedMarks
+pub mod CellLaws
+pub mod Laying
+pub mod SymbolFilling
+pub mod RowFilling
+pub mod AllFilling

@@ -1,0 +1,252 @@
+-- A new row: it gets the next number, or it is the first that does not fit, whatever rows come after.
+use mathlib.Core.Path.{_≡_, refl, sym, _∙_, ap, ap₂}
+use mathlib.Core.List.{List, [], _∷_, _++_, append-assoc}
+use Prim.Native.Nat.{ℕ, zero, suc, _+_, _-_, _*_, _≤_, _<_}
+use native.Mathlib.Omega.{arith}
+use native.Mathlib.Numerals.{add-one}
+use lib.Dec.{ltb}
+use lib.ListN.{length, getD, set, take, drop, length-append, length-set}
+use borrow.Author.Tests.{ltb-true, ltb-false, lt-ltb, le-ltb}
+use Rattle.model.specs.Basics.{pick, zeros, filled, Refusal, refusal, fine}
+use Rattle.model.specs.Rules.{mostPairs}
+use Rattle.model.specs.Construction.{rowAt, numberOf, withRow, mostRows}
+use Rattle.model.specs.Tables.{rowWidth, rowNumbers, poolNumbers, fitRefusal}
+use Rattle.model.proofs.Logic.{by-test}
+use Rattle.model.proofs.TablePlaces.{row-numbers-length}
+use Rattle.model.proofs.TableRoom.{fit-23, fit-24, fit-on}
+use Rattle.model.proofs.RowNumbers.{number-most, with-present, with-new}
+use Rattle.construct.specs.declared.Found.{Found}
+use Rattle.construct.specs.declared.Found.the-variants.{At, Nothing}
+use Rattle.construct.specs.declared.Progress.{Progress}
+use Rattle.construct.specs.declared.Placed.{Placed}
+use Rattle.construct.specs.Rows.{rowsIn, foundIn, Within, Held, Unfit, Grown, Numbered}
+use Rattle.construct.proofs.RowSearch.{rows-length}
+use Rattle.construct.proofs.RowTables.{filled-length, filled-set, filled-lay, rows-append, pool-append, rows-again, row-within}
+
+-- rows that fit are passed
+fit-through :
+    (n room used pool : ℕ) (rs more : List (List ℕ)) → n + length rs ≤ room → used + length (poolNumbers rs) ≤ pool
+    → fitRefusal n room used pool (rs ++ more)
+    ≡ fitRefusal (n + length rs) room (used + length (poolNumbers rs)) pool more
+fit-through n room used pool [] more h g =
+    let a : n + 0 ≡ n = omega arith in
+    let b : used + 0 ≡ used = omega arith in
+    rw (a, b)
+fit-through n room used pool (x ∷ rs) more h g =
+    let k : length (x ++ poolNumbers rs) ≡ length x + length (poolNumbers rs) = length-append x (poolNumbers rs) in
+    let a : suc n + length rs ≡ n + suc (length rs) = omega arith in
+    let b : used + length x + length (poolNumbers rs) ≡ used + length (x ++ poolNumbers rs) = omega arith in
+    fit-on n room used pool x (rs ++ more) (omega arith) (omega arith)
+    ∙ (fit-through (suc n) room (used + length x) pool rs more (omega arith) (omega arith) ∙ rw (a, b))
+
+module _ {rows pool : List ℕ} {p : Progress} (held : Held rows pool p) where
+  abbrev so-far : List (List ℕ)
+  so-far = rowsIn (p .rows) rows pool
+
+  count-is : length (rowsIn (p .rows) rows pool) ≡ p .rows
+  count-is = rows-length (p .rows) 0 rows pool
+
+  -- the rows so far fit
+  pub passes-held :
+      (more : List (List ℕ))
+      → fitRefusal 0 (p .room) 0 (length pool) (rowsIn (p .rows) rows pool ++ more)
+      ≡ fitRefusal (p .rows) (p .room) (p .total) (length pool) more
+  passes-held more =
+      let a : 0 + length (rowsIn (p .rows) rows pool) ≡ p .rows = omega (arith, count-is) in
+      let b : 0 + length (poolNumbers (rowsIn (p .rows) rows pool)) ≡ p .total = omega (arith, held .total-is) in
+      fit-through 0 (p .room) 0 (length pool) (rowsIn (p .rows) rows pool) more
+      (omega (arith, a, held .in-room))
+      (omega (arith, b, held .in-pool))
+      ∙ ap₂ (λ (n u : ℕ). fitRefusal n (p .room) u (length pool) more) a b
+
+  first-unfit :
+      (x : List ℕ) (number : ℕ)
+      → ((more : List (List ℕ)) → fitRefusal (p .rows) (p .room) (p .total) (length pool) (x ∷ more) ≡ refusal number 0)
+      → (more : List (List ℕ))
+      → fitRefusal 0 (p .room) 0 (length pool) ((rowsIn (p .rows) rows pool ++ (x ∷ [])) ++ more) ≡ refusal number 0
+  first-unfit x number h more =
+      rw (append-assoc (rowsIn (p .rows) rows pool) (x ∷ []) more) (passes-held (x ∷ more) ∙ h more)
+
+  -- 23: no room for one more; 24: the pool is too short
+  pub no-room :
+      (x : List ℕ) → p .room ≤ p .rows
+      → Unfit (p .room) (length pool) 23 (rowsIn (p .rows) rows pool ++ (x ∷ []))
+  no-room x h = record {
+    least = omega arith;
+    refuses = first-unfit x 23 (λ more. fit-23 (p .rows) (p .room) (p .total) (length pool) x more h);
+  }
+
+  pub pool-short :
+      (x : List ℕ) → p .rows < p .room → length pool - p .total < length x
+      → Unfit (p .room) (length pool) 24 (rowsIn (p .rows) rows pool ++ (x ∷ []))
+  pool-short x h g = record {
+    least = omega arith;
+    refuses =
+        first-unfit x 24
+        (λ more. fit-24 (p .rows) (p .room) (p .total) (length pool) x more h (omega (arith, held .in-pool)));
+  }
+
+  -- the tables after one row more
+  module _ (x rows′ pool′ : List ℕ) (a b : ℕ) (has-room : p .rows < p .room) (in-pool : p .total + length x ≤ length pool)
+      (small : length x ≤ mostPairs) (is-a : a ≡ p .total) (is-b : b ≡ length x)
+      (rows-now : rows′ ≡ set (set rows (2 * p .rows) a) (2 * p .rows + 1) b)
+      (pool-now : pool′ ≡ take (p .total) pool ++ (x ++ drop (p .total + length x) pool)) where
+    abbrev then-are : List (List ℕ)
+    then-are = rowsIn (p .rows) rows pool ++ (x ∷ [])
+
+    numbers-long : length (rowNumbers 0 (rowsIn (p .rows) rows pool)) ≡ 2 * p .rows
+    numbers-long = row-numbers-length 0 (rowsIn (p .rows) rows pool) ∙ rw count-is
+
+    new-rows : rows′ ≡ filled (length rows) (rowNumbers 0 (rowsIn (p .rows) rows pool ++ (x ∷ [])))
+    new-rows =
+        let rs : List (List ℕ) = rowsIn (p .rows) rows pool in
+        let ns : List ℕ = rowNumbers 0 rs in
+        let fits : 2 * p .rows + 2 ≤ length rows = omega (arith, held .room-fits) in
+        let one : set rows (2 * p .rows) a ≡ filled (length rows) (ns ++ (a ∷ [])) =
+        ap₂ (λ (l : List ℕ) (k : ℕ). set l k a) (held .rows-are) (sym numbers-long)
+        ∙ filled-set (length rows) ns a (omega (arith, numbers-long)) in
+        let longer : length (ns ++ (a ∷ [])) ≡ 2 * p .rows + 1 =
+        length-append ns (a ∷ []) ∙ ap (λ (k : ℕ). k + 1) numbers-long in
+        let both : set (set rows (2 * p .rows) a) (2 * p .rows + 1) b ≡ filled (length rows) ((ns ++ (a ∷ [])) ++ (b ∷ [])) =
+        ap₂ (λ (l : List ℕ) (k : ℕ). set l k b) one (sym longer)
+        ∙ filled-set (length rows) (ns ++ (a ∷ [])) b (omega (arith, longer)) in
+        let same-numbers : (ns ++ (a ∷ [])) ++ (b ∷ []) ≡ rowNumbers 0 (rs ++ (x ∷ [])) =
+        append-assoc ns (a ∷ []) (b ∷ [])
+        ∙ (ap₂ (λ (u v : ℕ). ns ++ (u ∷ v ∷ [])) (is-a ∙ (held .total-is ∙ omega arith)) is-b ∙ sym (rows-append 0 rs x)) in
+        rows-now ∙ (both ∙ ap (filled (length rows)) same-numbers)
+
+    new-pool : pool′ ≡ filled (length pool) (poolNumbers (rowsIn (p .rows) rows pool ++ (x ∷ [])))
+    new-pool =
+        let rs : List (List ℕ) = rowsIn (p .rows) rows pool in
+        let e : p .total ≡ length (poolNumbers rs) = held .total-is in
+        pool-now
+        ∙ (ap₂ (λ (n : ℕ) (l : List ℕ). take n l ++ (x ++ drop (n + length x) l)) e (held .pool-is)
+        ∙ (filled-lay (length pool) (poolNumbers rs) x (omega (arith, in-pool, e)) ∙ ap (filled (length pool)) (sym (pool-append rs x))))
+
+    rows-long : length rows′ ≡ length rows
+    rows-long = ap length rows-now ∙ simp length-set
+
+    pool-long : length pool′ ≡ length pool
+    pool-long =
+        ap length new-pool
+        ∙ filled-length (length pool) (poolNumbers (rowsIn (p .rows) rows pool ++ (x ∷ [])))
+        (omega
+        (arith, ap length (pool-append (rowsIn (p .rows) rows pool) x), length-append (poolNumbers (rowsIn (p .rows) rows pool)) x, held .total-is, in-pool))
+
+    rows-then : rowsIn (p .rows + 1) rows′ pool′ ≡ rowsIn (p .rows) rows pool ++ (x ∷ [])
+    rows-then =
+        rows-again (rowsIn (p .rows) rows pool ++ (x ∷ [])) rows′ pool′ (p .rows + 1) (length rows) (length pool)
+        (sym (length-append (rowsIn (p .rows) rows pool) (x ∷ []) ∙ ap (λ (k : ℕ). k + 1) count-is))
+        new-rows
+        new-pool
+
+    pub row-added :
+        Numbered (p .room) (rowsIn (p .rows) rows pool ++ (x ∷ [])) (p .rows) rows′ pool′
+        (record {
+          row = p .rows;
+          progress = record { number = 0; rows = p .rows + 1; total = p .total + length x; room = p .room };
+        })
+    row-added = record {
+      grown = record {
+        held = λ e. record {
+        rows-are = rw (rows-then, rows-long) new-rows;
+        pool-is = rw (rows-then, pool-long) new-pool;
+        total-is =
+            rw rows-then
+            (omega
+            (arith, ap length (pool-append (rowsIn (p .rows) rows pool) x), length-append (poolNumbers (rowsIn (p .rows) rows pool)) x, held .total-is));
+        in-room = omega arith;
+        in-pool = rw pool-long in-pool;
+        total-most = omega (arith, held .total-most);
+        room-most = held .room-most;
+        room-fits = rw rows-long (held .room-fits);
+        going = refl;
+        };
+        rows-are = λ e. rows-then;
+        refused = λ e. absurd (e refl);
+        room-kept = refl;
+      };
+      row-is = λ e. refl;
+      row-below = omega (arith, held .room-most);
+    }
+
+-- a row that does not fit has no number
+pub unplaced :
+    {room number : ℕ} {after : List (List ℕ)} {rows pool : List ℕ} (n count total : ℕ)
+    → Unfit room (length pool) number after
+    → Numbered room after n rows pool
+    (record { row = 0; progress = record { number = number; rows = count; total = total; room = room } })
+unplaced n count total u = record {
+  grown = record {
+    held = λ e. absurd (omega (arith, u .least));
+    rows-are = λ e. absurd (omega (arith, u .least));
+    refused = λ e. u;
+    room-kept = refl;
+  };
+  row-is = λ e. absurd (omega (arith, u .least));
+  row-below = omega arith;
+}
+
+-- what the search found, as a number
+found-at :
+    (x : List ℕ) (rs : List (List ℕ)) (f : Found) (row : ℕ) → f ≡ foundIn x rs → f ≡ At row
+    → (numberOf x rs < length rs) × (row ≡ numberOf x rs)
+found-at x rs f row e g =
+    by-test (ltb (numberOf x rs) (length rs))
+    (λ t.
+    let k : At row ≡ At (numberOf x rs) = sym g ∙ (e ∙ rw t) in
+    (ltb-true (numberOf x rs) (length rs) t, cc))
+    (λ t.
+    let k : At row ≡ Nothing = sym g ∙ (e ∙ rw t) in
+    absurd (let z : _≡_ {A = ℕ} 0 1 = cc in omega arith))
+
+found-nothing :
+    (x : List ℕ) (rs : List (List ℕ)) (f : Found) → f ≡ foundIn x rs → f ≡ Nothing → length rs ≤ numberOf x rs
+found-nothing x rs f e g =
+    by-test (ltb (numberOf x rs) (length rs))
+    (λ t.
+    let k : Nothing ≡ At (numberOf x rs) = sym g ∙ (e ∙ rw t) in
+    absurd (let z : _≡_ {A = ℕ} 0 1 = cc in omega arith))
+    (λ t. ltb-false (numberOf x rs) (length rs) t)
+
+module _ {rows pool : List ℕ} {p : Progress} (held : Held rows pool p) (x : List ℕ) (f : Found)
+    (is-found : f ≡ foundIn x (rowsIn (p .rows) rows pool)) where
+  -- an equal row has a number: that one is used
+  pub placed-found :
+      (row : ℕ) → f ≡ At row
+      → Numbered (p .room) (withRow x (rowsIn (p .rows) rows pool)) (numberOf x (rowsIn (p .rows) rows pool)) rows pool
+      (record { row = row; progress = p })
+  placed-found row g =
+      let k = found-at x (rowsIn (p .rows) rows pool) f row is-found g in
+      record {
+        grown = record {
+          held = λ e. held;
+          rows-are = λ e. sym (with-present x (rowsIn (p .rows) rows pool) (k .0));
+          refused = λ e. absurd (e (held .going));
+          room-kept = refl;
+        };
+        row-is = λ e. k .1;
+        row-below = omega (arith, k .0, k .1, rows-length (p .rows) 0 rows pool, held .in-room, held .room-most);
+      }
+
+  -- none has: the next one is used
+  pub placed-new :
+      (rows′ pool′ : List ℕ) (answer : Placed) → f ≡ Nothing
+      → Numbered (p .room) (rowsIn (p .rows) rows pool ++ (x ∷ [])) (p .rows) rows′ pool′ answer
+      → Numbered (p .room) (withRow x (rowsIn (p .rows) rows pool)) (numberOf x (rowsIn (p .rows) rows pool)) rows′ pool′
+      answer
+  placed-new rows′ pool′ answer g added =
+      let rs : List (List ℕ) = rowsIn (p .rows) rows pool in
+      let new : length rs ≤ numberOf x rs = found-nothing x rs f is-found g in
+      let are : withRow x rs ≡ rs ++ (x ∷ []) = with-new x rs new in
+      let n : p .rows ≡ numberOf x rs = omega (arith, number-most 0 x rs, new, rows-length (p .rows) 0 rows pool) in
+      record {
+        grown = record {
+          held = added .grown .held;
+          rows-are = λ e. added .grown .rows-are e ∙ sym are;
+          refused = λ e. rw are (added .grown .refused e);
+          room-kept = added .grown .room-kept;
+        };
+        row-is = λ e. added .row-is e ∙ n;
+        row-below = added .row-below;
+      }

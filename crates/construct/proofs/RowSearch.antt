@@ -1,0 +1,115 @@
+-- The search among the rows: the rows still to come have the number that all have, while none passed is equal.
+use mathlib.Core.Path.{_≡_, refl, sym, _∙_, ap}
+use mathlib.Core.Bool.{Bool, true, false}
+use mathlib.Core.List.{List, [], _∷_}
+use Prim.Native.Nat.{ℕ, zero, suc, _+_, _-_, _*_, _≤_, _<_}
+use native.Mathlib.Omega.{arith}
+use native.Mathlib.Numerals.{add-one}
+use lib.Dec.{eqb, ltb}
+use lib.ListN.{length, getD, take, drop, length-take, length-drop}
+use lib.Seq.{ext-getD, getD-take, getD-drop}
+use borrow.Author.Tests.{lt-ltb, le-ltb}
+use Rattle.model.specs.Basics.{pick, same}
+use Rattle.model.specs.Construction.{numberFrom, numberOf}
+use Rattle.model.specs.Tables.{rowWidth}
+use Rattle.model.proofs.Logic.{by-test, same-equal, same-self}
+use Rattle.construct.specs.declared.Found.{Found}
+use Rattle.construct.specs.declared.Found.the-variants.{At, Nothing}
+use Rattle.construct.specs.Rows.{rowIn, rowsHeld, rowsIn, foundIn, Within}
+
+pub rows-length : (n i : ℕ) (rows pool : List ℕ) → length (rowsHeld n i rows pool) ≡ n
+rows-length zero i rows pool = refl
+rows-length (suc n) i rows pool = ap suc (rows-length n (suc i) rows pool)
+
+-- one row of the search
+number-here : (n : ℕ) (x y : List ℕ) (ys : List (List ℕ)) → x ≡ y → numberFrom n x (y ∷ ys) ≡ n
+number-here n x y ys e = let h : same x y ≡ true = rw e (same-self y) in cc
+
+other : (x y : List ℕ) → (x ≡ y → ⊥) → same x y ≡ false
+other x y n = by-test (same x y) (λ e. absurd (n (same-equal x y e))) (λ e. e)
+
+number-there :
+    (n : ℕ) (x y : List ℕ) (ys : List (List ℕ)) → (x ≡ y → ⊥) → numberFrom n x (y ∷ ys) ≡ numberFrom (suc n) x ys
+number-there n x y ys e = let h : same x y ≡ false = other x y e in cc
+
+pub record Searching (count row : ℕ) (rows pool codes : List ℕ) : Type 0 where
+  pub turns : row ≤ count
+  pub rest-is : numberFrom row codes (rowsHeld (count - row) row rows pool) ≡ numberOf codes (rowsIn count rows pool)
+
+pub searching : (count : ℕ) (rows pool codes : List ℕ) → Searching count 0 rows pool codes
+searching count rows pool codes =
+    let z : count - 0 ≡ count = omega arith in
+    record { turns = omega arith; rest-is = rw z }
+
+module _ {count row : ℕ} {rows pool codes : List ℕ} (inv : Searching count row rows pool codes) where
+  rows-rest :
+      row < count → rowsHeld (count - row) row rows pool ≡ rowIn rows pool row ∷ rowsHeld (count - (row + 1)) (row + 1) rows pool
+  rows-rest h = let a : count - row ≡ suc (count - (row + 1)) = omega arith in rw (a, add-one row)
+
+  pub search-next :
+      row < count → (codes ≡ rowIn rows pool row → ⊥) → Searching count (row + 1) rows pool codes
+  search-next h n = record {
+    turns = omega arith;
+    rest-is =
+        rw (add-one row)
+        (sym
+        (rw (rows-rest h, add-one row)
+        (number-there row codes (rowIn rows pool row) (rowsHeld (count - suc row) (suc row) rows pool) n))
+        ∙ inv .rest-is);
+  }
+
+  pub search-found :
+      row < count → codes ≡ rowIn rows pool row → At row ≡ foundIn codes (rowsIn count rows pool)
+  search-found h e =
+      let n : numberOf codes (rowsIn count rows pool) ≡ row =
+      sym (inv .rest-is)
+      ∙ (rw (rows-rest h)
+      (number-here row codes (rowIn rows pool row) (rowsHeld (count - (row + 1)) (row + 1) rows pool) e)) in
+      let l : row < length (rowsIn count rows pool) = rw (rows-length count 0 rows pool) h in
+      rw (n, lt-ltb row (length (rowsIn count rows pool)) l)
+
+  pub search-ends : count ≤ row → Nothing ≡ foundIn codes (rowsIn count rows pool)
+  search-ends h =
+      let z : count - row ≡ 0 = omega arith in
+      let n : row ≡ numberOf codes (rowsIn count rows pool) = rw z at (inv .rest-is) in
+      let l : length (rowsIn count rows pool) ≤ row = rw (rows-length count 0 rows pool) h in
+      rw (← n, le-ltb row (length (rowsIn count rows pool)) l)
+
+-- A part of the pool against codes.
+module _ (pool codes : List ℕ) (start n : ℕ) (fits : start + n ≤ length pool) where
+  part-length : length (take n (drop start pool)) ≡ n
+  part-length = simp (length-take, length-drop) (omega arith)
+
+  part-is :
+      n ≡ length codes → ((j : ℕ) → j < n → getD pool (start + j) 0 ≡ getD codes j 0) → codes ≡ take n (drop start pool)
+  part-is e all =
+      ext-getD 0 codes (take n (drop start pool)) (sym (part-length ∙ e))
+      (λ j h. let l : j < n = omega arith in rw (getD-take, getD-drop) (sym (all j l)))
+
+  part-differs :
+      (j : ℕ) → j < n → (getD pool (start + j) 0 ≡ getD codes j 0 → ⊥) → codes ≡ take n (drop start pool) → ⊥
+  part-differs j h d e = d (sym (ap (λ (l : List ℕ). getD l j 0) e ∙ rw (getD-take, getD-drop)))
+
+  part-longer : (n ≡ length codes → ⊥) → codes ≡ take n (drop start pool) → ⊥
+  part-longer d e = d (sym (ap length e ∙ part-length))
+
+-- The same of a row by its two numbers.
+module _
+    {count row : ℕ} {rows pool : List ℕ} (codes : List ℕ) (start n : ℕ) (within : Within count rows pool)
+    (h : row < count) (is-start : start ≡ getD rows (2 * row) 0) (is-length : n ≡ getD rows (2 * row + 1) 0) where
+  pub row-fits : start + n ≤ length pool
+  row-fits = omega (arith, within .in-pool row h, is-start, is-length)
+
+  row-part : rowIn rows pool row ≡ take n (drop start pool)
+  row-part = rw (is-start, is-length)
+
+  pub row-is :
+      n ≡ length codes → ((j : ℕ) → j < n → getD pool (start + j) 0 ≡ getD codes j 0) → codes ≡ rowIn rows pool row
+  row-is e all = part-is pool codes start n row-fits e all ∙ sym row-part
+
+  pub row-differs :
+      (j : ℕ) → j < n → (getD pool (start + j) 0 ≡ getD codes j 0 → ⊥) → codes ≡ rowIn rows pool row → ⊥
+  row-differs j l d e = part-differs pool codes start n row-fits j l d (e ∙ row-part)
+
+  pub row-longer : (n ≡ length codes → ⊥) → codes ≡ rowIn rows pool row → ⊥
+  row-longer d e = part-longer pool codes start n row-fits d (e ∙ row-part)

@@ -1,0 +1,73 @@
+-- Rows numbered so far, as the row table and the pool hold them, and the row that does not fit.
+use mathlib.Core.Path.{_≡_}
+use mathlib.Core.List.{List, [], _∷_, _++_}
+use Prim.Native.Nat.{ℕ, zero, suc, _+_, _*_, _≤_, _<_}
+use lib.Dec.{ltb}
+use lib.ListN.{length, getD, take, drop}
+use Rattle.model.specs.Basics.{pick, zeros, filled, Refusal, refusal}
+use Rattle.model.specs.Rules.{mostPairs}
+use Rattle.model.specs.Construction.{numberOf, withRow, mostRows}
+use Rattle.model.specs.Tables.{rowWidth, rowNumbers, poolNumbers, fitRefusal}
+use Rattle.construct.specs.declared.Found.{Found}
+use Rattle.construct.specs.declared.Found.the-variants.{At, Nothing}
+use Rattle.construct.specs.declared.Progress.{Progress}
+use Rattle.construct.specs.declared.Placed.{Placed}
+
+-- the codes of row n, by its start and its length in the pool
+abbrev pub rowIn : List ℕ → List ℕ → ℕ → List ℕ
+rowIn rows pool n = take (getD rows (rowWidth * n + 1) 0) (drop (getD rows (rowWidth * n) 0) pool)
+
+-- n rows from number i on
+abbrev pub rowsHeld : ℕ → ℕ → List ℕ → List ℕ → List (List ℕ)
+rowsHeld zero i rows pool = []
+rowsHeld (suc n) i rows pool = rowIn rows pool i ∷ rowsHeld n (suc i) rows pool
+
+-- the first n rows
+abbrev pub rowsIn : ℕ → List ℕ → List ℕ → List (List ℕ)
+rowsIn n rows pool = rowsHeld n 0 rows pool
+
+-- What the search among the rows answers: the number of an equal row, or nothing where none has one.
+abbrev pub foundIn : List ℕ → List (List ℕ) → Found
+foundIn x rows = pick (ltb (numberOf x rows) (length rows)) (At (numberOf x rows)) Nothing
+
+-- the rows lie in their tables
+pub record Within (count : ℕ) (rows pool : List ℕ) : Type 0 where
+  pub rows-long : rowWidth * count ≤ length rows
+  pub in-pool : (n : ℕ) → n < count → getD rows (rowWidth * n) 0 + getD rows (rowWidth * n + 1) 0 ≤ length pool
+
+-- The tables hold the rows numbered so far and zero past them, and there is room for what was put in.
+pub record Held (rows pool : List ℕ) (p : Progress) : Type 0 where
+  pub rows-are : rows ≡ filled (length rows) (rowNumbers 0 (rowsIn (p .rows) rows pool))
+  pub pool-is : pool ≡ filled (length pool) (poolNumbers (rowsIn (p .rows) rows pool))
+  pub total-is : p .total ≡ length (poolNumbers (rowsIn (p .rows) rows pool))
+  pub in-room : p .rows ≤ p .room
+  pub in-pool : p .total ≤ length pool
+  pub total-most : p .total ≤ mostPairs * p .rows
+  pub room-most : p .room ≤ mostRows
+  pub room-fits : rowWidth * p .room ≤ length rows
+  pub going : p .number ≡ 0
+
+-- 23 or 24: some row is the first that does not fit, whatever rows come after
+pub record Unfit (room pool number : ℕ) (rows : List (List ℕ)) : Type 0 where
+  pub least : 23 ≤ number
+  pub refuses : (more : List (List ℕ)) → fitRefusal 0 room 0 pool (rows ++ more) ≡ refusal number 0
+
+-- The rows are now these, and held; or some row of them does not fit.
+pub record Grown (room : ℕ) (after : List (List ℕ)) (rows′ pool′ : List ℕ) (p : Progress) : Type 0 where
+  pub held : p .number ≡ 0 → Held rows′ pool′ p
+  pub rows-are : p .number ≡ 0 → rowsIn (p .rows) rows′ pool′ ≡ after
+  pub refused : (p .number ≡ 0 → ⊥) → Unfit room (length pool′) (p .number) after
+  pub room-kept : p .room ≡ room
+
+-- a set of codes was given its number n
+pub record Numbered
+    (room : ℕ) (after : List (List ℕ)) (n : ℕ) (rows′ pool′ : List ℕ) (answer : Placed) : Type 0 where
+  pub grown : Grown room after rows′ pool′ (answer .progress)
+  pub row-is : answer .progress .number ≡ 0 → answer .row ≡ n
+  pub row-below : answer .row < mostRows
+
+-- the same of marks, which are then cleared
+pub record MarksNumbered
+    (room : ℕ) (after : List (List ℕ)) (n : ℕ) (marks marks′ rows′ pool′ : List ℕ) (answer : Placed) : Type 0 where
+  pub numbered : Numbered room after n rows′ pool′ answer
+  pub marks-zero : marks′ ≡ zeros (length marks)

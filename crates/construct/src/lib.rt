@@ -1,0 +1,44 @@
+// The table builder: rows as sets of codes, numbered by discovery, into the lent tables.
+mod cells;
+mod lent;
+mod marks;
+mod rows;
+
+// The marks of a row lie from `low` on and below `past`.
+pub struct Span {
+    pub low: usize,
+    pub past: usize,
+}
+
+// What the marks of a next row come with: whether the timer is reset, and where they lie.
+pub struct Marked {
+    pub timer: bool,
+    pub span: Span,
+}
+
+// Where a set of codes is found among the rows already numbered.
+pub enum Found {
+    At(usize),
+    Nothing,
+}
+
+// How far the rows are numbered: their count, how much of the pool they fill, and how many there is room for.
+// The number is 23 or 24 where the next did not fit, else 0.
+pub struct Progress {
+    pub number: u8,
+    pub rows: usize,
+    pub total: usize,
+    pub room: usize,
+}
+
+// A set of codes with its row number.
+pub struct Placed {
+    pub row: usize,
+    pub progress: Progress,
+}
+
+// A cell, and how far the rows are numbered with the row that it leads to.
+pub struct Filled {
+    pub cell: u32,
+    pub progress: Progress,
+}

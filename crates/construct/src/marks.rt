@@ -1,0 +1,116 @@
+// Sets of codes as marks in the scratch: one number for each code, zero where it is not in the set.
+ghost use mathlib.Core.Path.{_≡_};
+ghost use mathlib.Core.List.{[]};
+ghost use lib.ListN.{length};
+ghost use Rattle.model.specs.Basics.{zeros};
+ghost use Rattle.model.specs.Layout.{ruleIn, locationsIn};
+ghost use Rattle.model.specs.Construction.{withCode, pairTargets, rowTargets};
+ghost use Rattle.construct.specs.Marks.{codesIn, InSpan, CanMark, MarksAre, Gathered, startCodesBy, CanStart, Ready, NextMarked};
+use edges::wide32;
+use model::Head;
+use pairs::{Input, Scale};
+use pairs::codes::unpack;
+use pairs::guards::allows;
+use pairs::moves::target;
+use pairs::numbers::has;
+use pairs::resets::row_resets;
+use crate::{Marked, Span};
+use crate::lent::narrow32;
+
+// Marks a code.
+pub(crate) fn mark(marks: &mut [u32], span: Span, code: usize) -> Span
+    requires { ⌜ CanMark (now marks) span code ⌝ }
+    ensures { λ r. ⌜ MarksAre (withCode code (codesIn (now (marks .entry)))) (now (marks .exit)) r ⌝ }
+{
+    marks[code] = 1;
+    let mut low = span.low;
+    if code < low {
+        low = code;
+    }
+    let mut past = span.past;
+    if past <= code {
+        past = code + 1;
+    }
+    Span { low, past }
+}
+
+// Turns the marks into the codes, ascending, at the front of the same table; the rest is zero.
+pub(crate) fn gather(marks: &mut [u32], span: Span) -> usize
+    requires { ⌜ InSpan (now marks) span ⌝ }
+    ensures { λ r. ⌜ Gathered (codesIn (now (marks .entry))) (now (marks .entry)) (now (marks .exit)) r ⌝ }
+{
+    let past = span.past;
+    let mut count: usize = 0;
+    let mut code = span.low;
+    while code < past {
+        if marks[code] != 0 {
+            marks[code] = 0;
+            marks[count] = narrow32(code);
+            count += 1;
+        }
+        code += 1;
+    }
+    count
+}
+
+// Marks the start row: every initial location with bases 0.
+pub(crate) fn mark_starts(starts: u32, weight: u32, marks: &mut [u32]) -> Span
+    requires { ⌜ CanStart (now marks) starts weight ⌝ }
+    ensures { λ r. ⌜ MarksAre (startCodesBy weight (locationsIn starts)) (now (marks .exit)) r ⌝ }
+{
+    let mut span = Span { low: marks.len(), past: 0 };
+    let mut location: usize = 32;
+    while 0 < location {
+        location -= 1;
+        if has(starts, location) {
+            let code = location * wide32(weight);
+            span = mark(marks, span, code);
+        }
+    }
+    span
+}
+
+// Marks the targets of a code's pair by all edges that it allows.
+pub(crate) fn mark_pair(head: Head, edges: &[u16], scale: Scale, input: Input, timer: bool, code: u32, marks: &mut [u32], before: Span) -> Span
+    requires { ⌜ Ready (ruleIn head (now edges)) scale (now marks) ⌝ }
+    requires { ⌜ InSpan (now marks) before ⌝ }
+    ensures { λ r. ⌜ MarksAre (pairTargets (ruleIn head (now (edges .entry))) (input .symbol) (input .interval) timer code (ruleIn head (now (edges .entry)) .edges) (codesIn (now (marks .entry)))) (now (marks .exit)) r ⌝ }
+{
+    let pair = unpack(scale, code);
+    let mut span = before;
+    let mut e: u32 = 0;
+    while e < head.count {
+        if allows(edges, e, scale.top, input, pair) {
+            let to = target(edges, e, scale, input.interval, timer, pair);
+            span = mark(marks, span, to);
+        }
+        e += 1;
+    }
+    span
+}
+
+// Marks the targets of a row; no marks stand before.
+pub(crate) fn mark_row(head: Head, edges: &[u16], scale: Scale, input: Input, timer: bool, row: &[u32], marks: &mut [u32]) -> Span
+    requires { ⌜ Ready (ruleIn head (now edges)) scale (now marks) ⌝ }
+    requires { ⌜ now marks ≡ zeros (length (now marks)) ⌝ }
+    ensures { λ r. ⌜ MarksAre (rowTargets (ruleIn head (now (edges .entry))) (input .symbol) (input .interval) timer (now (row .entry)) []) (now (marks .exit)) r ⌝ }
+{
+    let mut span = Span { low: marks.len(), past: 0 };
+    let mut n: usize = 0;
+    while n < row.len() {
+        span = mark_pair(head, edges, scale, input, timer, row[n], marks, span);
+        n += 1;
+    }
+    span
+}
+
+// Marks the row that a row leads to, and says whether the timer is reset.
+pub(crate) fn mark_next(head: Head, edges: &[u16], scale: Scale, input: Input, row: &[u32], marks: &mut [u32]) -> Marked
+    requires { ⌜ Ready (ruleIn head (now edges)) scale (now marks) ⌝ }
+    requires { ⌜ now marks ≡ zeros (length (now marks)) ⌝ }
+    ensures { λ r. ⌜ NextMarked (ruleIn head (now (edges .entry))) input (now (row .entry)) (now (marks .exit)) r ⌝ }
+{
+    let timer = row_resets(edges, head.count, scale, input, row);
+    let span = mark_row(head, edges, scale, input, timer, row, marks);
+    Marked { timer, span }
+}

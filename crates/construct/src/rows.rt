@@ -1,0 +1,99 @@
+// Rows, numbered by discovery: a new set is looked for among the rows already numbered, code by code.
+ghost use mathlib.Core.Path.{_≡_};
+ghost use mathlib.Core.List.{_∷_, _++_, []};
+ghost use Prim.Native.Nat.{_+_, _≤_};
+ghost use lib.ListN.{length, take, drop};
+ghost use Rattle.model.specs.Rules.{mostPairs};
+ghost use Rattle.model.specs.Construction.{numberOf, withRow};
+ghost use Rattle.construct.specs.Marks.{codesIn, InSpan};
+ghost use Rattle.construct.specs.Rows.{rowsIn, foundIn, Within, Held, Numbered, MarksNumbered};
+use edges::wide32;
+use crate::{Found, Placed, Progress, Span};
+use crate::lent::{clear, narrow32};
+use crate::marks::gather;
+
+// The first row that holds exactly `codes`.
+pub(crate) fn find_row(rows: &[u32], pool: &[u32], count: usize, codes: &[u32]) -> Found
+    requires { ⌜ Within count (now rows) (now pool) ⌝ }
+    ensures { λ r. ⌜ r ≡ foundIn (now (codes .entry)) (rowsIn count (now (rows .entry)) (now (pool .entry))) ⌝ }
+{
+    let mut row: usize = 0;
+    loop {
+        if count <= row {
+            break Found::Nothing;
+        }
+        let start = wide32(rows[2 * row]);
+        let size = wide32(rows[2 * row + 1]);
+        if size == codes.len() {
+            let mut j: usize = 0;
+            'codes: while j < size {
+                if pool[start + j] != codes[j] {
+                    break 'codes;
+                }
+                j += 1;
+            }
+            if j == size {
+                break Found::At(row);
+            }
+        }
+        row += 1;
+    }
+}
+
+// Copies `codes` into the pool.
+pub(crate) fn copy_codes(codes: &[u32], pool: &mut [u32], at: usize)
+    requires { ⌜ at + length (now codes) ≤ length (now pool) ⌝ }
+    ensures { λ _. ⌜ now (pool .exit) ≡ take at (now (pool .entry)) ++ (now (codes .entry) ++ drop (at + length (now (codes .entry))) (now (pool .entry))) ⌝ }
+{
+    let mut j: usize = 0;
+    while j < codes.len() {
+        pool[at + j] = codes[j];
+        j += 1;
+    }
+}
+
+// Gives `codes` the next number: 23 where there is no room for it, else 24 where the pool is too short.
+pub(crate) fn add_row(codes: &[u32], rows: &mut [u32], pool: &mut [u32], p: Progress) -> Placed
+    requires { ⌜ Held (now rows) (now pool) p ⌝ }
+    requires { ⌜ length (now codes) ≤ mostPairs ⌝ }
+    ensures { λ r. ⌜ Numbered (p .room) (rowsIn (p .rows) (now (rows .entry)) (now (pool .entry)) ++ (now (codes .entry) ∷ [])) (p .rows) (now (rows .exit)) (now (pool .exit)) r ⌝ }
+{
+    let row = p.rows;
+    let total = p.total;
+    let room = p.room;
+    if room <= row {
+        return Placed { row: 0, progress: Progress { number: 23, rows: row, total, room } };
+    }
+    if pool.len() - total < codes.len() {
+        return Placed { row: 0, progress: Progress { number: 24, rows: row, total, room } };
+    }
+    rows[2 * row] = narrow32(total);
+    rows[2 * row + 1] = narrow32(codes.len());
+    copy_codes(codes, pool, total);
+    Placed { row, progress: Progress { number: 0, rows: row + 1, total: total + codes.len(), room } }
+}
+
+// The number of the row that holds `codes`: if an equal set has a number that one, else the next.
+pub(crate) fn place_row(codes: &[u32], rows: &mut [u32], pool: &mut [u32], p: Progress) -> Placed
+    requires { ⌜ Held (now rows) (now pool) p ⌝ }
+    requires { ⌜ length (now codes) ≤ mostPairs ⌝ }
+    ensures { λ r. ⌜ Numbered (p .room) (withRow (now (codes .entry)) (rowsIn (p .rows) (now (rows .entry)) (now (pool .entry)))) (numberOf (now (codes .entry)) (rowsIn (p .rows) (now (rows .entry)) (now (pool .entry)))) (now (rows .exit)) (now (pool .exit)) r ⌝ }
+{
+    let found = find_row(rows, pool, p.rows, codes);
+    let Found::At(row) = found else {
+        return add_row(codes, rows, pool, p);
+    };
+    Placed { row, progress: p }
+}
+
+// The number of the row that is marked; the marks are zero again.
+pub(crate) fn place_marks(marks: &mut [u32], span: Span, rows: &mut [u32], pool: &mut [u32], p: Progress) -> Placed
+    requires { ⌜ InSpan (now marks) span ⌝ }
+    requires { ⌜ Held (now rows) (now pool) p ⌝ }
+    ensures { λ r. ⌜ MarksNumbered (p .room) (withRow (codesIn (now (marks .entry))) (rowsIn (p .rows) (now (rows .entry)) (now (pool .entry)))) (numberOf (codesIn (now (marks .entry))) (rowsIn (p .rows) (now (rows .entry)) (now (pool .entry)))) (now (marks .entry)) (now (marks .exit)) (now (rows .exit)) (now (pool .exit)) r ⌝ }
+{
+    let count = gather(marks, span);
+    let placed = place_row(&marks[..count], rows, pool, p);
+    clear(&mut marks[..count]);
+    placed
+}

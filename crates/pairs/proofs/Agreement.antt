@@ -1,0 +1,100 @@
+-- For the scale of a rule, pairs and codes are the construction's: the pair of a code, the edges that it allows, their
+-- targets, and whether the timer is reset.
+use mathlib.Core.Path.{_≡_, refl, sym, _∙_, ap, ap₂}
+use mathlib.Core.Bool.{Bool, true, false, _&&_, _||_}
+use mathlib.Core.List.{List, [], _∷_}
+use Prim.Native.Nat.{ℕ, zero, suc, _+_, _*_, _^_, _≤_, _<_}
+use native.Mathlib.Omega.{arith}
+use lib.Dec.{eqb}
+use lib.ListN.{length, getD, take}
+use lib.Seq.{getD-take}
+use Rattle.model.specs.Basics.{pick, quotient, remainder, bit}
+use Rattle.model.specs.Rules.{Atom, Edge, Rule, cm, baseCount}
+use Rattle.model.specs.Runs.{zeroedFrom, zeroed}
+use Rattle.model.specs.Construction.{regionOf, regionRelated, regionsHold, digitsOf, digitsCode, codeOf, locationOf, basesOf, allows, pairResets, rowResets, advanced, targetOf}
+use Rattle.model.proofs.Logic.{In, here, there}
+use Rattle.model.proofs.Valid.{AtomIn, EdgeIn}
+use Rattle.pairs.specs.declared.Scale.{Scale}
+use Rattle.pairs.specs.declared.Pair.{Pair}
+use Rattle.pairs.specs.declared.Input.{Input}
+use Rattle.pairs.specs.Pairs.{Scaled, radix, unpacked, movedBases, pairAllows, pairTarget, pairResetsOn, pairResetsBy, rowResetsBy}
+
+-- the first k of n digits; bases are moved one by one
+digits-take : (k n m x : ℕ) → k ≤ n → take k (digitsOf n m x) ≡ digitsOf k m x
+digits-take zero n m x h = refl
+digits-take (suc k) zero m x h = absurd (omega arith)
+digits-take (suc k) (suc n) m x h =
+    ap (λ (l : List ℕ). remainder x m ∷ l) (digits-take k n m (quotient x m) (omega arith))
+
+take-zeroed : (k i mask : ℕ) (bs : List ℕ) → take k (zeroedFrom i mask bs) ≡ zeroedFrom i mask (take k bs)
+take-zeroed zero i mask bs = refl
+take-zeroed (suc k) i mask [] = refl
+take-zeroed (suc k) i mask (b ∷ bs) = ap (λ (l : List ℕ). pick (bit i mask) 0 b ∷ l) (take-zeroed k (suc i) mask bs)
+
+take-advanced : (k c i : ℕ) (bs : List ℕ) → take k (advanced c i bs) ≡ advanced c i (take k bs)
+take-advanced zero c i bs = refl
+take-advanced (suc k) c i [] = refl
+take-advanced (suc k) c i (b ∷ bs) = ap₂ _∷_ refl (take-advanced k c i bs)
+
+take-moved :
+    (k mask : ℕ) (timer : Bool) (c i : ℕ) (bs : List ℕ)
+    → take k (movedBases mask timer c i bs) ≡ movedBases mask timer c i (take k bs)
+take-moved k mask true c i bs = take-zeroed k 0 mask (advanced c i bs) ∙ ap (zeroed mask) (take-advanced k c i bs)
+take-moved k mask false c i bs = take-zeroed k 0 mask bs
+
+-- a guard looks only at the clocks of its atoms
+guard-take :
+    (k c i : ℕ) (bs : List ℕ) (xs : List Atom) → ((a : Atom) → In a xs → a .clock < k)
+    → regionsHold c i bs xs ≡ regionsHold c i (take k bs) xs
+guard-take k c i bs [] h = refl
+guard-take k c i bs (a ∷ xs) h =
+    ap₂ (λ (n : ℕ) (t : Bool). regionRelated (a .relation) (regionOf c n i) (a .constant) && t)
+    (sym (getD-take k bs (a .clock) 0 (h a (here refl)))) (guard-take k c i bs xs (λ b j. h b (there j)))
+
+module _ {r : Rule} {z : Scale} (scaled : Scaled r z) where
+  radix-is : radix z ≡ baseCount r
+  radix-is = ap (λ (c : ℕ). c + 2) (scaled .top-is)
+
+  pub location-is : (x : ℕ) → unpacked z x .location ≡ locationOf r x
+  unfolding locationOf
+  location-is x = ap (quotient x) (scaled .weight-is)
+
+  pub bases-are : (x : ℕ) → take (r .clocks) (unpacked z x .bases) ≡ basesOf r x
+  unfolding basesOf
+  bases-are x =
+      rw (radix-is, scaled .weight-is)
+      (digits-take (r .clocks) 4 (baseCount r) (remainder x (baseCount r ^ r .clocks)) (scaled .clocks-most))
+
+  pub allows-is :
+      (at : Input) (x : ℕ) (e : Edge) → EdgeIn r e
+      → pairAllows (z .top) at (unpacked z x) e ≡ allows r (at .symbol) (at .interval) x e
+  unfolding allows
+  allows-is at x e v =
+      let g : regionsHold (z .top) (at .interval) (unpacked z x .bases) (e .atoms) ≡ regionsHold (cm r) (at .interval) (basesOf r x) (e .atoms) =
+      guard-take (r .clocks) (z .top) (at .interval) (unpacked z x .bases) (e .atoms) (λ a i. v .atoms-in a i .clock-below)
+      ∙ ap₂ (λ (c : ℕ) (bs : List ℕ). regionsHold c (at .interval) bs (e .atoms)) (scaled .top-is) (bases-are x) in
+      ap₂ (λ (l : ℕ) (t : Bool). eqb (e .source) l && eqb (e .symbol) (at .symbol) && t) (location-is x) g
+
+  pub target-is :
+      (i : ℕ) (timer : Bool) (x : ℕ) (e : Edge) → pairTarget z i timer (unpacked z x) e ≡ targetOf r i timer x e
+  unfolding targetOf codeOf
+  target-is i timer x e =
+      let b : take (z .clocks) (movedBases (e .resets) timer (z .top) i (unpacked z x .bases)) ≡ movedBases (e .resets) timer (cm r) i (basesOf r x) =
+      ap (λ (k : ℕ). take k (movedBases (e .resets) timer (z .top) i (unpacked z x .bases))) (scaled .clocks-are)
+      ∙ (take-moved (r .clocks) (e .resets) timer (z .top) i (unpacked z x .bases)
+      ∙ ap₂ (λ (c : ℕ) (bs : List ℕ). movedBases (e .resets) timer c i bs) (scaled .top-is) (bases-are x)) in
+      ap₂ (λ (w n : ℕ). e .target * w + n) (scaled .weight-is) (ap₂ digitsCode radix-is b)
+
+  pair-resets-by :
+      (at : Input) (x : ℕ) (es : List Edge) → ((e : Edge) → In e es → EdgeIn r e)
+      → pairResetsBy (z .top) at (unpacked z x) es ≡ pairResets r (at .symbol) (at .interval) x es
+  pair-resets-by at x [] v = refl
+  pair-resets-by at x (e ∷ es) v =
+      rw (allows-is at x e (v e (here refl)), pair-resets-by at x es (λ f i. v f (there i)))
+
+  pub row-resets-is :
+      (at : Input) (xs : List ℕ) → ((e : Edge) → In e (r .edges) → EdgeIn r e)
+      → rowResetsBy z at (r .edges) xs ≡ rowResets r (at .symbol) (at .interval) xs
+  unfolding rowResets
+  row-resets-is at [] v = refl
+  row-resets-is at (x ∷ xs) v = rw (pair-resets-by at x (r .edges) v, row-resets-is at xs v)
