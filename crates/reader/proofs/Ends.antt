@@ -15,8 +15,7 @@ use Rattle.model.specs.Rules.{Rule, cm, pairCount, mostPairs}
 use Rattle.model.specs.Files.{noRule, Spelt, unspelt, endRefusal, atEnd, readRule}
 use Rattle.model.specs.Layout.{edgeNeed, headOf, noHead, edgesNumbers, edgeTable, ruleIn}
 use Rattle.model.specs.Promises.{tooShort, readRefusal, readingOf, edgesRead, ReadsRule}
-use Rattle.model.proofs.Valid.{sizes-of}
-use Rattle.model.proofs.ValidParts.{Parts}
+use Rattle.model.proofs.Valid.{Parts, sizes-of}
 use Rattle.model.proofs.TopMost.{parts-top}
 use Rattle.model.proofs.Readable.{table-spells}
 use Rattle.model.proofs.FileSteps.{recordLength, ruleAfter, readOn, read-all, read-ends, read-goes-on, read-refuses, read-settled}
@@ -101,10 +100,10 @@ module _ {file : List ℕ} {c : Cursor} {t : List ℕ} (inv : Reads file c t) wh
   reads-ends edges {x} h long q = record {
     answer-is = q .answer-is ∙ sym (ap readingBy (ends-spelt h));
     table-is = λ z.
-      let whole : readRule file .rule-is ≡ inv .rule =
-      ap (λ (y : Spelt). y .rule-is) (ends-spelt h)
-      ∙ end-rule (c .at) (inv .rule) (sym (ap (λ (y : Reading). y .number) (q .answer-is)) ∙ z) in
-      inv .state .table-is ∙ rw (long, whole);
+        let whole : readRule file .rule-is ≡ inv .rule =
+        ap (λ (y : Spelt). y .rule-is) (ends-spelt h)
+        ∙ end-rule (c .at) (inv .rule) (sym (ap (λ (y : Reading). y .number) (q .answer-is)) ∙ z) in
+        inv .state .table-is ∙ rw (long, whole);
   }
 
 pub reads-start :

@@ -114,52 +114,52 @@ module _
     (h : Head) (r : Rule) (h-is : h ≡ headOf r) (n : ℕ) (body : List ℕ) (l : ℕ) (l-is : l ≡ h .locations) (x : ℕ)
     (x-is : x ≡ numberAt 0 body)
   where
-  locations-known : l ≡ r .locations
-  locations-known = l-is ∙ ap (λ (y : Head). y .locations) h-is
+    locations-known : l ≡ r .locations
+    locations-known = l-is ∙ ap (λ (y : Head). y .locations) h-is
 
-  pub edge-source : l ≤ x → false ≡ edgeOk r (edgeFrom n body)
-  edge-source q = rw (le-ltb (numberAt 0 body) (r .locations) (omega (arith, locations-known)))
+    pub edge-source : l ≤ x → false ≡ edgeOk r (edgeFrom n body)
+    edge-source q = rw (le-ltb (numberAt 0 body) (r .locations) (omega (arith, locations-known)))
 
-  module _ (a : x < l) (y : ℕ) (y-is : y ≡ numberAt 1 body) where
-    source-in : ltb (numberAt 0 body) (r .locations) ≡ true
-    source-in = lt-ltb (numberAt 0 body) (r .locations) (omega (arith, locations-known))
+    module _ (a : x < l) (y : ℕ) (y-is : y ≡ numberAt 1 body) where
+      source-in : ltb (numberAt 0 body) (r .locations) ≡ true
+      source-in = lt-ltb (numberAt 0 body) (r .locations) (omega (arith, locations-known))
 
-    pub edge-target : l ≤ y → false ≡ edgeOk r (edgeFrom n body)
-    edge-target q = rw (source-in, le-ltb (numberAt 1 body) (r .locations) (omega (arith, locations-known)))
+      pub edge-target : l ≤ y → false ≡ edgeOk r (edgeFrom n body)
+      edge-target q = rw (source-in, le-ltb (numberAt 1 body) (r .locations) (omega (arith, locations-known)))
 
-    module _ (b : y < l) (m : ℕ) (m-is : m ≡ h .symbols) (z : ℕ) (z-is : z ≡ numberAt 2 body) where
-      target-in : ltb (numberAt 1 body) (r .locations) ≡ true
-      target-in = lt-ltb (numberAt 1 body) (r .locations) (omega (arith, locations-known))
+      module _ (b : y < l) (m : ℕ) (m-is : m ≡ h .symbols) (z : ℕ) (z-is : z ≡ numberAt 2 body) where
+        target-in : ltb (numberAt 1 body) (r .locations) ≡ true
+        target-in = lt-ltb (numberAt 1 body) (r .locations) (omega (arith, locations-known))
 
-      symbols-known : m ≡ r .symbols
-      symbols-known = m-is ∙ ap (λ (y : Head). y .symbols) h-is
+        symbols-known : m ≡ r .symbols
+        symbols-known = m-is ∙ ap (λ (y : Head). y .symbols) h-is
 
-      pub edge-symbol : m ≤ z → false ≡ edgeOk r (edgeFrom n body)
-      edge-symbol q =
-          rw (source-in, target-in, le-ltb (numberAt 2 body) (r .symbols) (omega (arith, symbols-known)))
+        pub edge-symbol : m ≤ z → false ≡ edgeOk r (edgeFrom n body)
+        edge-symbol q =
+            rw (source-in, target-in, le-ltb (numberAt 2 body) (r .symbols) (omega (arith, symbols-known)))
 
-      module _
-          (d : z < m) (k : ℕ) (k-is : k ≡ h .clocks) (w : ℕ) (w-is : w ≡ numberAt 3 body) {t : Bool}
-          (t-is : t ≡ ltb w (2 ^ k))
-        where
-        symbol-in : ltb (numberAt 2 body) (r .symbols) ≡ true
-        symbol-in = lt-ltb (numberAt 2 body) (r .symbols) (omega (arith, symbols-known))
+        module _
+            (d : z < m) (k : ℕ) (k-is : k ≡ h .clocks) (w : ℕ) (w-is : w ≡ numberAt 3 body) {t : Bool}
+            (t-is : t ≡ ltb w (2 ^ k))
+          where
+            symbol-in : ltb (numberAt 2 body) (r .symbols) ≡ true
+            symbol-in = lt-ltb (numberAt 2 body) (r .symbols) (omega (arith, symbols-known))
 
-        clocks-known : k ≡ r .clocks
-        clocks-known = k-is ∙ ap (λ (y : Head). y .clocks) h-is
+            clocks-known : k ≡ r .clocks
+            clocks-known = k-is ∙ ap (λ (y : Head). y .clocks) h-is
 
-        mask-known : t ≡ ltb (numberAt 3 body) (2 ^ r .clocks)
-        mask-known = t-is ∙ rw (w-is, clocks-known)
+            mask-known : t ≡ ltb (numberAt 3 body) (2 ^ r .clocks)
+            mask-known = t-is ∙ rw (w-is, clocks-known)
 
-        pub edge-mask : not t ≡ true → false ≡ edgeOk r (edgeFrom n body)
-        edge-mask q = rw (source-in, target-in, symbol-in, failed mask-known q)
+            pub edge-mask : not t ≡ true → false ≡ edgeOk r (edgeFrom n body)
+            edge-mask q = rw (source-in, target-in, symbol-in, failed mask-known q)
 
-        pub edge-atoms :
-            {u : Bool} → not t ≡ false
-            → u ≡ atomsOk k (atomsFrom ((n - 8) / 6) (take (length body - 8) (drop 8 body)))
-            → u ≡ edgeOk r (edgeFrom n body)
-        edge-atoms q e =
-            rw (source-in, target-in, symbol-in, passed mask-known q) (e ∙ rw (clocks-known, part-rest 8 body))
+            pub edge-atoms :
+                {u : Bool} → not t ≡ false
+                → u ≡ atomsOk k (atomsFrom ((n - 8) / 6) (take (length body - 8) (drop 8 body)))
+                → u ≡ edgeOk r (edgeFrom n body)
+            edge-atoms q e =
+                rw (source-in, target-in, symbol-in, passed mask-known q) (e ∙ rw (clocks-known, part-rest 8 body))
 
 -- 7: pinned resets
 module _ (kind n : ℕ) (body : List ℕ) (kind-is : kind ≡ 5) (x : ℕ) (x-is : x ≡ numberAt 3 body) where

@@ -211,12 +211,10 @@ pub(crate) fn has_equal(atoms: &[u8], count: usize) -> bool
 // The first of 3 to 7 that refuses a record whose body has a length of its kind; 0 for none.
 pub(crate) fn body_fault(cursor: Cursor, kind: usize, size: usize, body: &[u8]) -> u8
     requires { ⌜ Body kind size (now body) ⌝ }
-    ensures {
-        λ n. ⌜
-            ((r : Rule) → Holds r cursor
-            → bodyRefusal (cursor .at) (cursor .last) r kind size (now (body .entry)) ≡ numbered n (cursor .at))
-        ⌝
-    }
+    ensures { λ n. ⌜
+        ((r : Rule) → Holds r cursor
+        → bodyRefusal (cursor .at) (cursor .last) r kind size (now (body .entry)) ≡ numbered n (cursor .at))
+        ⌝ }
 {
     if out_of_order(cursor, kind, body) {
         return 3;
@@ -383,11 +381,9 @@ impl Cursor {
     // The record at the cursor: refused, or taken.
     pub(crate) fn step(self, file: &[u8], edges: &mut [u16]) -> Step
         requires { ⌜ (self .at < length (now file)) × Under-way self (now edges) ⌝ }
-        ensures {
-            λ x. ⌜
-                ((r : Rule) → State r self (now (edges .entry)) → StepIs (now (file .entry)) r self (now (edges .exit)) x)
-            ⌝
-        }
+        ensures { λ x. ⌜
+            ((r : Rule) → State r self (now (edges .entry)) → StepIs (now (file .entry)) r self (now (edges .exit)) x)
+            ⌝ }
     {
         let at = self.at;
         let rest = &file[at..];

@@ -60,9 +60,11 @@ has-equal-requires : tie.Need-has-equal-requires
 has-equal-requires c κs =
     let if1 = c .before .before .before .if1 in
     let a = c .before .before .before .before .before .args in
-    let asked = c .before .before .before .before .before .pre in
-    (omega (arith, asked .edge-most (if1 .left)), rw (part-rest 8 (a .body .now), length-drop 8 (a .body .now))
-    (omega (arith, asked .edge-least (if1 .left), asked .edge-most (if1 .left), asked .whole)))
+    let asked = c .before .before .before .before .before .pre in (
+      omega (arith, asked .edge-most (if1 .left)),
+      rw (part-rest 8 (a .body .now), length-drop 8 (a .body .now))
+          (omega (arith, asked .edge-least (if1 .left), asked .edge-most (if1 .left), asked .whole)),
+    )
 
 -- src/lib.rt:182:1
 returns-3 : tie.Need-returns-3

@@ -57,11 +57,13 @@ loop-again c =
     let if1 = c .before .before .before .before .before .before .before .if1 in
     let l = c .before .before .before .before .before .before .before .before .before .loop in
     let back = c .before .before .before .before .before .before .before .before .before in
-    let a = back .before .before .before .before .args in
-    (step .kept .1 .1 .0
-    ∙ l .inv .0, reads-next (l .inv .1) (if1 .taken)
-    (subst (λ (x : Step). StepIs (a .file .now) (l .inv .1 .rule) (l .cursor) (step .last .1 .1 .0) x)
-    (step2 .given .1) (step .ensures (l .inv .1 .rule) (l .inv .1 .state))))
+    let a = back .before .before .before .before .args in (
+      step .kept .1 .1 .0
+          ∙ l .inv .0,
+      reads-next (l .inv .1) (if1 .taken)
+          (subst (λ (x : Step). StepIs (a .file .now) (l .inv .1 .rule) (l .cursor) (step .last .1 .1 .0) x)
+          (step2 .given .1) (step .ensures (l .inv .1 .rule) (l .inv .1 .state))),
+    )
 
 -- src/lib.rt:482:27
 enum-known-step-2 : tie.Need-enum-known-step-2 Inv-loop μ-loop

@@ -76,7 +76,7 @@ part-copy-numbers-end-3 c =
     omega (
       arith,
       begun-long (a .size) (a .body .now) (a .edge .now) (copy-numbers .last .1 .0) (narrow16 .result)
-      (asked .size-most) (asked .zero) (copy-numbers .ensures) (narrow16 .ensures),
+          (asked .size-most) (asked .zero) (copy-numbers .ensures) (narrow16 .ensures),
     )
 
 -- src/lib.rt:283:5

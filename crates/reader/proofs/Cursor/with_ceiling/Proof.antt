@@ -19,9 +19,11 @@ narrow32-requires c κs = search needs
 -- src/lib.rt:340:5
 returns : tie.Need-returns
 returns c =
-    let a = c .before .before .args in
-    (record { at-is = refl; last-is = refl }, λ r h. ceiling-held (a .self) r h (a .number) _
-    (c .narrow32 .ensures))
+    let a = c .before .before .args in (
+      record { at-is = refl; last-is = refl },
+      λ r h. ceiling-held (a .self) r h (a .number) _
+          (c .narrow32 .ensures),
+    )
 
 pub with-ceiling-spec : {M : Type 1} → statement M
 with-ceiling-spec = tie.close (tie.spec add-narrow32 narrow32-requires returns)

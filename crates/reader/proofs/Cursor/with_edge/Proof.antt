@@ -58,9 +58,13 @@ returns c =
     let wide32 = c .before .before .before .before .before .wide32 in
     let a = c .before .before .before .before .before .before .before .before .before .args in
     let asked = c .before .before .before .before .before .before .before .before .before .pre in
-    record { stays = record { at-is = refl; last-is = refl }; holds = λ r h. edge-held (a .self) r h
-    (edgeFrom (a .size) (a .body .now)); table-is = edge-put (asked) _ (wide32 .ensures .0) _
-    (store-edge .ensures) }
+    record {
+      stays = record { at-is = refl; last-is = refl };
+      holds = λ r h. edge-held (a .self) r h
+          (edgeFrom (a .size) (a .body .now));
+      table-is = edge-put (asked) _ (wide32 .ensures .0) _
+          (store-edge .ensures);
+    }
 
 pub with-edge-spec : {M : Type 1} → statement M
 with-edge-spec =

@@ -41,10 +41,12 @@ returns c =
     let number-at2 = c .before .before .before .number-at2 in
     let narrow32 = c .before .before .before .before .narrow32 in
     let number-at = c .before .before .before .before .before .number-at in
-    let a = c .before .before .before .before .before .before .before .args in
-    (record { at-is = refl; last-is = refl }, sizes-held (a .self) (a .body .now) _ _ _
-    (narrow32 .ensures ∙ number-at .ensures .0) (narrow322 .ensures ∙ number-at2 .ensures .0)
-    (c .narrow323 .ensures ∙ number-at3 .ensures .0))
+    let a = c .before .before .before .before .before .before .before .args in (
+      record { at-is = refl; last-is = refl },
+      sizes-held (a .self) (a .body .now) _ _ _
+          (narrow32 .ensures ∙ number-at .ensures .0) (narrow322 .ensures ∙ number-at2 .ensures .0)
+          (c .narrow323 .ensures ∙ number-at3 .ensures .0),
+    )
 
 pub with-sizes-spec : {M : Type 1} → statement M
 with-sizes-spec =
