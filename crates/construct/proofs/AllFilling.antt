@@ -70,7 +70,7 @@ module _
     grown-is =
         subst
         (λ (k : ℕ).
-          Grown k (bySymbols (r .symbols) 0 r (rowAt (rowsIn (p .rows) rows pool) n) (rowsIn (p .rows) rows pool)) rows′ pool′ p′)
+        Grown k (bySymbols (r .symbols) 0 r (rowAt (rowsIn (p .rows) rows pool) n) (rowsIn (p .rows) rows pool)) rows′ pool′ p′)
         (inv .room-kept)
         (filled-row .grown)
 
@@ -100,7 +100,7 @@ module _
             unfit-extends (grown-is .refused e)
             (subst
             (λ (x : List (List ℕ)).
-              Extends (bySymbols (r .symbols) 0 r (rowAt (rowsIn (p .rows) rows pool) n) (rowsIn (p .rows) rows pool)) x)
+            Extends (bySymbols (r .symbols) 0 r (rowAt (rowsIn (p .rows) rows pool) n) (rowsIn (p .rows) rows pool)) x)
             (turn-is ∙ whole)
             (grows-extends
             (rows-grow (fuel - (n + 1)) (n + 1) r

@@ -149,18 +149,18 @@ module _ {rows pool : List ℕ} {p : Progress} (held : Held rows pool p) where
     row-added = record {
       grown = record {
         held = λ e. record {
-        rows-are = rw (rows-then, rows-long) new-rows;
-        pool-is = rw (rows-then, pool-long) new-pool;
-        total-is =
-            rw rows-then
-            (omega
-            (arith, ap length (pool-append (rowsIn (p .rows) rows pool) x), length-append (poolNumbers (rowsIn (p .rows) rows pool)) x, held .total-is));
-        in-room = omega arith;
-        in-pool = rw pool-long in-pool;
-        total-most = omega (arith, held .total-most);
-        room-most = held .room-most;
-        room-fits = rw rows-long (held .room-fits);
-        going = refl;
+          rows-are = rw (rows-then, rows-long) new-rows;
+          pool-is = rw (rows-then, pool-long) new-pool;
+          total-is =
+              rw rows-then
+              (omega
+              (arith, ap length (pool-append (rowsIn (p .rows) rows pool) x), length-append (poolNumbers (rowsIn (p .rows) rows pool)) x, held .total-is));
+          in-room = omega arith;
+          in-pool = rw pool-long in-pool;
+          total-most = omega (arith, held .total-most);
+          room-most = held .room-most;
+          room-fits = rw rows-long (held .room-fits);
+          going = refl;
         };
         rows-are = λ e. rows-then;
         refused = λ e. absurd (e refl);

@@ -193,7 +193,7 @@ module _ (h : Head) (t scratch cells rows pool : List ℕ) (passed : ruleRefusal
           rs
           ∙ ap
           (λ (n : ℕ).
-            fitRefusal 0 (rowRoom (ruleIn h t) (length cells) (length rows)) 0 n (rowsOf (ruleIn h t)))
+          fitRefusal 0 (rowRoom (ruleIn h t) (length cells) (length rows)) 0 n (rowsOf (ruleIn h t)))
           pool-long)
           ∙ passes-held held [])
 
@@ -252,7 +252,7 @@ module _ (h : Head) (t scratch cells rows pool : List ℕ) (passed : ruleRefusal
           (append-nil (rowsOf (ruleIn h t)))
           ∙ ap
           (λ (k : ℕ).
-            fitRefusal 0 (rowRoom (ruleIn h t) (length cells) (length rows)) 0 k (rowsOf (ruleIn h t)))
+          fitRefusal 0 (rowRoom (ruleIn h t) (length cells) (length rows)) 0 k (rowsOf (ruleIn h t)))
           pool-long)
           ∙ u .refuses []) in
           let not-zero : eqb (p .number) 0 ≡ false = ne-eqb (p .number) 0 n in

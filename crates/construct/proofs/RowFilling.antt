@@ -97,8 +97,8 @@ module _
         (inv .row-is)
         (subst
         (λ (n : ℕ).
-          Grown n (byIntervals (width r) 0 r s (rowAt (rowsIn (p .rows) rows pool) row) (rowsIn (p .rows) rows pool)) rows′
-          pool′ p′)
+        Grown n (byIntervals (width r) 0 r s (rowAt (rowsIn (p .rows) rows pool) row) (rowsIn (p .rows) rows pool)) rows′
+        pool′ p′)
         (inv .room-kept)
         (filled .grown))
 
@@ -156,7 +156,7 @@ module _
         let written : cells′ ≡ laid cells ((row * r .symbols + s) * width r) v =
         subst
         (λ (y : List ℕ).
-          cells′ ≡ laid cells ((row * r .symbols + s) * width r) (cellsFrom (width r) 0 r (byIntervals (width r) 0 r s y old ++ more) y s))
+        cells′ ≡ laid cells ((row * r .symbols + s) * width r) (cellsFrom (width r) 0 r (byIntervals (width r) 0 r s y old ++ more) y s))
         (inv .row-is)
         (filled .cells-are e more) in
         let z : 0 + s ≡ s = omega arith in

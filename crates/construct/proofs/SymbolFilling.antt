@@ -115,8 +115,8 @@ module _
         subst (λ (x : List ℕ). Grown room (withRow x (rowsIn (p .rows) rows pool)) rows′ pool′ (answer .progress)) same-next
         (subst
         (λ (n : ℕ).
-          Grown n (withRow (nextRow r (at′ .symbol) (at′ .interval) (rowAt (rowsIn (p .rows) rows pool) row)) (rowsIn (p .rows) rows pool))
-          rows′ pool′ (answer .progress))
+        Grown n (withRow (nextRow r (at′ .symbol) (at′ .interval) (rowAt (rowsIn (p .rows) rows pool) row)) (rowsIn (p .rows) rows pool))
+        rows′ pool′ (answer .progress))
         (inv .room-kept)
         (made .grown))
 

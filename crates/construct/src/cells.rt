@@ -7,14 +7,16 @@ ghost use Rattle.model.specs.Construction.{width};
 ghost use Rattle.model.specs.Layout.{ruleIn};
 ghost use Rattle.construct.specs.Rows.{rowsIn};
 ghost use Rattle.construct.specs.Cells.{CanLeave, CellMade, CanFill, SymbolFilled, RowFilled, CanFillAll, AllFilled};
-use edges::wide32;
-use model::Head;
-use pairs::{Input, Scale};
-use pairs::numbers::wide8;
-use crate::{Filled, Progress};
+use crate::Filled;
+use crate::Progress;
 use crate::lent::narrow32;
 use crate::marks::mark_next;
 use crate::rows::place_marks;
+use edges::wide32;
+use model::Head;
+use pairs::Input;
+use pairs::Scale;
+use pairs::numbers::wide8;
 
 // Next row · 2, plus 1 if the timer is reset.
 pub(crate) fn cell_of(row: usize, timer: bool) -> u32
@@ -28,7 +30,17 @@ pub(crate) fn cell_of(row: usize, timer: bool) -> u32
 }
 
 // The cell of a row at a symbol and an interval; the row that it leads to is numbered if it is new.
-pub(crate) fn make_cell(head: Head, edges: &[u16], scale: Scale, row: usize, input: Input, marks: &mut [u32], rows: &mut [u32], pool: &mut [u32], p: Progress) -> Filled
+pub(crate) fn make_cell(
+    head: Head,
+    edges: &[u16],
+    scale: Scale,
+    row: usize,
+    input: Input,
+    marks: &mut [u32],
+    rows: &mut [u32],
+    pool: &mut [u32],
+    p: Progress,
+) -> Filled
     requires { ⌜ CanLeave (ruleIn head (now edges)) scale (now marks) (now rows) (now pool) p row ⌝ }
     ensures { λ r. ⌜ CellMade (ruleIn head (now (edges .entry))) row input (rowsIn (p .rows) (now (rows .entry)) (now (pool .entry))) (p .room) (now (marks .entry)) (now (marks .exit)) (now (rows .exit)) (now (pool .exit)) r ⌝ }
 {
@@ -37,7 +49,10 @@ pub(crate) fn make_cell(head: Head, edges: &[u16], scale: Scale, row: usize, inp
     let marked = mark_next(head, edges, scale, input, &pool[start..end], marks);
     let placed = place_marks(marks, marked.span, rows, pool, p);
     let progress = placed.progress;
-    Filled { cell: cell_of(placed.row, marked.timer), progress }
+    Filled {
+        cell: cell_of(placed.row, marked.timer),
+        progress,
+    }
 }
 
 // The place of a row's first cell at a symbol: (row · S + symbol) · W.
@@ -49,7 +64,18 @@ pub(crate) fn place_of(row: usize, symbols: usize, symbol: usize, width: usize) 
 }
 
 // The cells of a row at a symbol, interval by interval.
-pub(crate) fn fill_symbol(head: Head, edges: &[u16], scale: Scale, row: usize, symbol: u32, marks: &mut [u32], cells: &mut [u32], rows: &mut [u32], pool: &mut [u32], p: Progress) -> Progress
+pub(crate) fn fill_symbol(
+    head: Head,
+    edges: &[u16],
+    scale: Scale,
+    row: usize,
+    symbol: u32,
+    marks: &mut [u32],
+    cells: &mut [u32],
+    rows: &mut [u32],
+    pool: &mut [u32],
+    p: Progress,
+) -> Progress
     requires { ⌜ CanFill (ruleIn head (now edges)) scale (now marks) (now cells) (now rows) (now pool) p row ⌝ }
     requires { ⌜ symbol < head .symbols ⌝ }
     ensures { λ r. ⌜ SymbolFilled (ruleIn head (now (edges .entry))) row symbol (rowsIn (p .rows) (now (rows .entry)) (now (pool .entry))) (p .room) (now (marks .entry)) (now (marks .exit)) (now (cells .entry)) (now (cells .exit)) (now (rows .exit)) (now (pool .exit)) r ⌝ }
@@ -59,7 +85,10 @@ pub(crate) fn fill_symbol(head: Head, edges: &[u16], scale: Scale, row: usize, s
     let mut progress = p;
     let mut i: usize = 0;
     while i < width {
-        let input = Input { symbol, interval: narrow32(i) };
+        let input = Input {
+            symbol,
+            interval: narrow32(i),
+        };
         let filled = make_cell(head, edges, scale, row, input, marks, rows, pool, progress);
         progress = filled.progress;
         if progress.number != 0 {
@@ -72,14 +101,35 @@ pub(crate) fn fill_symbol(head: Head, edges: &[u16], scale: Scale, row: usize, s
 }
 
 // The cells of a row, symbol by symbol.
-pub(crate) fn fill_row(head: Head, edges: &[u16], scale: Scale, row: usize, marks: &mut [u32], cells: &mut [u32], rows: &mut [u32], pool: &mut [u32], p: Progress) -> Progress
+pub(crate) fn fill_row(
+    head: Head,
+    edges: &[u16],
+    scale: Scale,
+    row: usize,
+    marks: &mut [u32],
+    cells: &mut [u32],
+    rows: &mut [u32],
+    pool: &mut [u32],
+    p: Progress,
+) -> Progress
     requires { ⌜ CanFill (ruleIn head (now edges)) scale (now marks) (now cells) (now rows) (now pool) p row ⌝ }
     ensures { λ r. ⌜ RowFilled (ruleIn head (now (edges .entry))) row (rowsIn (p .rows) (now (rows .entry)) (now (pool .entry))) (p .room) (now (marks .entry)) (now (marks .exit)) (now (cells .entry)) (now (cells .exit)) (now (rows .exit)) (now (pool .exit)) r ⌝ }
 {
     let mut progress = p;
     let mut symbol: u32 = 0;
     while symbol < head.symbols {
-        progress = fill_symbol(head, edges, scale, row, symbol, marks, cells, rows, pool, progress);
+        progress = fill_symbol(
+            head,
+            edges,
+            scale,
+            row,
+            symbol,
+            marks,
+            cells,
+            rows,
+            pool,
+            progress,
+        );
         if progress.number != 0 {
             return progress;
         }
@@ -89,7 +139,16 @@ pub(crate) fn fill_row(head: Head, edges: &[u16], scale: Scale, row: usize, mark
 }
 
 // All rows, as they are found.
-pub(crate) fn fill_rows(head: Head, edges: &[u16], scale: Scale, marks: &mut [u32], cells: &mut [u32], rows: &mut [u32], pool: &mut [u32], p: Progress) -> Progress
+pub(crate) fn fill_rows(
+    head: Head,
+    edges: &[u16],
+    scale: Scale,
+    marks: &mut [u32],
+    cells: &mut [u32],
+    rows: &mut [u32],
+    pool: &mut [u32],
+    p: Progress,
+) -> Progress
     requires { ⌜ CanFillAll (ruleIn head (now edges)) scale (now marks) (now cells) (now rows) (now pool) p ⌝ }
     ensures { λ r. ⌜ AllFilled (ruleIn head (now (edges .entry))) (p .room) (now (marks .entry)) (now (marks .exit)) (now (cells .entry)) (now (cells .exit)) (now (rows .exit)) (now (pool .exit)) r ⌝ }
 {

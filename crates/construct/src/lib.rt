@@ -1,8 +1,10 @@
 // The table builder: rows as sets of codes, numbered by discovery, into the lent tables.
 ghost use Rattle.model.specs.Promises.{BuildsTable};
-use model::{Building, Head};
+use crate::build::build_checked;
+use crate::build::not_built;
+use model::Building;
+use model::Head;
 use rule::check_rule;
-use crate::build::{build_checked, not_built};
 
 mod build;
 mod cells;
@@ -50,7 +52,14 @@ pub struct Filled {
 }
 
 // The table of a rule: 20, 21, 22, then 23 or 24 at the first row that does not fit.
-pub fn build_table(head: Head, edges: &[u16], scratch: &mut [u32], cells: &mut [u32], rows: &mut [u32], pool: &mut [u32]) -> Building
+pub fn build_table(
+    head: Head,
+    edges: &[u16],
+    scratch: &mut [u32],
+    cells: &mut [u32],
+    rows: &mut [u32],
+    pool: &mut [u32],
+) -> Building
     ensures { λ r. ⌜ BuildsTable head (now (edges .entry)) (now (scratch .entry)) (now (scratch .exit)) (now (cells .entry)) (now (cells .exit)) (now (rows .entry)) (now (rows .exit)) (now (pool .entry)) (now (pool .exit)) r ⌝ }
 {
     let checked = check_rule(head, edges);

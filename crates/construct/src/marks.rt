@@ -6,16 +6,18 @@ ghost use Rattle.model.specs.Basics.{zeros};
 ghost use Rattle.model.specs.Layout.{ruleIn, locationsIn};
 ghost use Rattle.model.specs.Construction.{withCode, pairTargets, rowTargets};
 ghost use Rattle.construct.specs.Marks.{codesIn, InSpan, CanMark, MarksAre, Gathered, startCodesBy, CanStart, Ready, NextMarked};
+use crate::Marked;
+use crate::Span;
+use crate::lent::narrow32;
 use edges::wide32;
 use model::Head;
-use pairs::{Input, Scale};
+use pairs::Input;
+use pairs::Scale;
 use pairs::codes::unpack;
 use pairs::guards::allows;
 use pairs::moves::target;
 use pairs::numbers::has;
 use pairs::resets::row_resets;
-use crate::{Marked, Span};
-use crate::lent::narrow32;
 
 // Marks a code.
 pub(crate) fn mark(marks: &mut [u32], span: Span, code: usize) -> Span
@@ -58,7 +60,10 @@ pub(crate) fn mark_starts(starts: u32, weight: u32, marks: &mut [u32]) -> Span
     requires { ⌜ CanStart (now marks) starts weight ⌝ }
     ensures { λ r. ⌜ MarksAre (startCodesBy weight (locationsIn starts)) (now (marks .exit)) r ⌝ }
 {
-    let mut span = Span { low: marks.len(), past: 0 };
+    let mut span = Span {
+        low: marks.len(),
+        past: 0,
+    };
     let mut location: usize = 32;
     while 0 < location {
         location -= 1;
@@ -71,7 +76,16 @@ pub(crate) fn mark_starts(starts: u32, weight: u32, marks: &mut [u32]) -> Span
 }
 
 // Marks the targets of a code's pair by all edges that it allows.
-pub(crate) fn mark_pair(head: Head, edges: &[u16], scale: Scale, input: Input, timer: bool, code: u32, marks: &mut [u32], before: Span) -> Span
+pub(crate) fn mark_pair(
+    head: Head,
+    edges: &[u16],
+    scale: Scale,
+    input: Input,
+    timer: bool,
+    code: u32,
+    marks: &mut [u32],
+    before: Span,
+) -> Span
     requires { ⌜ Ready (ruleIn head (now edges)) scale (now marks) ⌝ }
     requires { ⌜ InSpan (now marks) before ⌝ }
     ensures { λ r. ⌜ MarksAre (pairTargets (ruleIn head (now (edges .entry))) (input .symbol) (input .interval) timer code (ruleIn head (now (edges .entry)) .edges) (codesIn (now (marks .entry)))) (now (marks .exit)) r ⌝ }
@@ -90,12 +104,23 @@ pub(crate) fn mark_pair(head: Head, edges: &[u16], scale: Scale, input: Input, t
 }
 
 // Marks the targets of a row; no marks stand before.
-pub(crate) fn mark_row(head: Head, edges: &[u16], scale: Scale, input: Input, timer: bool, row: &[u32], marks: &mut [u32]) -> Span
+pub(crate) fn mark_row(
+    head: Head,
+    edges: &[u16],
+    scale: Scale,
+    input: Input,
+    timer: bool,
+    row: &[u32],
+    marks: &mut [u32],
+) -> Span
     requires { ⌜ Ready (ruleIn head (now edges)) scale (now marks) ⌝ }
     requires { ⌜ now marks ≡ zeros (length (now marks)) ⌝ }
     ensures { λ r. ⌜ MarksAre (rowTargets (ruleIn head (now (edges .entry))) (input .symbol) (input .interval) timer (now (row .entry)) []) (now (marks .exit)) r ⌝ }
 {
-    let mut span = Span { low: marks.len(), past: 0 };
+    let mut span = Span {
+        low: marks.len(),
+        past: 0,
+    };
     let mut n: usize = 0;
     while n < row.len() {
         span = mark_pair(head, edges, scale, input, timer, row[n], marks, span);
@@ -105,7 +130,14 @@ pub(crate) fn mark_row(head: Head, edges: &[u16], scale: Scale, input: Input, ti
 }
 
 // Marks the row that a row leads to, and says whether the timer is reset.
-pub(crate) fn mark_next(head: Head, edges: &[u16], scale: Scale, input: Input, row: &[u32], marks: &mut [u32]) -> Marked
+pub(crate) fn mark_next(
+    head: Head,
+    edges: &[u16],
+    scale: Scale,
+    input: Input,
+    row: &[u32],
+    marks: &mut [u32],
+) -> Marked
     requires { ⌜ Ready (ruleIn head (now edges)) scale (now marks) ⌝ }
     requires { ⌜ now marks ≡ zeros (length (now marks)) ⌝ }
     ensures { λ r. ⌜ NextMarked (ruleIn head (now (edges .entry))) input (now (row .entry)) (now (marks .exit)) r ⌝ }

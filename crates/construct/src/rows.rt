@@ -7,10 +7,14 @@ ghost use Rattle.model.specs.Rules.{mostPairs};
 ghost use Rattle.model.specs.Construction.{numberOf, withRow};
 ghost use Rattle.construct.specs.Marks.{codesIn, InSpan};
 ghost use Rattle.construct.specs.Rows.{rowsIn, foundIn, Within, Held, Numbered, MarksNumbered};
-use edges::wide32;
-use crate::{Found, Placed, Progress, Span};
-use crate::lent::{clear, narrow32};
+use crate::Found;
+use crate::Placed;
+use crate::Progress;
+use crate::Span;
+use crate::lent::clear;
+use crate::lent::narrow32;
 use crate::marks::gather;
+use edges::wide32;
 
 // The first row that holds exactly `codes`.
 pub(crate) fn find_row(rows: &[u32], pool: &[u32], count: usize, codes: &[u32]) -> Found
@@ -62,15 +66,39 @@ pub(crate) fn add_row(codes: &[u32], rows: &mut [u32], pool: &mut [u32], p: Prog
     let total = p.total;
     let room = p.room;
     if room <= row {
-        return Placed { row: 0, progress: Progress { number: 23, rows: row, total, room } };
+        return Placed {
+            row: 0,
+            progress: Progress {
+                number: 23,
+                rows: row,
+                total,
+                room,
+            },
+        };
     }
     if pool.len() - total < codes.len() {
-        return Placed { row: 0, progress: Progress { number: 24, rows: row, total, room } };
+        return Placed {
+            row: 0,
+            progress: Progress {
+                number: 24,
+                rows: row,
+                total,
+                room,
+            },
+        };
     }
     rows[2 * row] = narrow32(total);
     rows[2 * row + 1] = narrow32(codes.len());
     copy_codes(codes, pool, total);
-    Placed { row, progress: Progress { number: 0, rows: row + 1, total: total + codes.len(), room } }
+    Placed {
+        row,
+        progress: Progress {
+            number: 0,
+            rows: row + 1,
+            total: total + codes.len(),
+            room,
+        },
+    }
 }
 
 // The number of the row that holds `codes`: if an equal set has a number that one, else the next.
@@ -87,7 +115,13 @@ pub(crate) fn place_row(codes: &[u32], rows: &mut [u32], pool: &mut [u32], p: Pr
 }
 
 // The number of the row that is marked; the marks are zero again.
-pub(crate) fn place_marks(marks: &mut [u32], span: Span, rows: &mut [u32], pool: &mut [u32], p: Progress) -> Placed
+pub(crate) fn place_marks(
+    marks: &mut [u32],
+    span: Span,
+    rows: &mut [u32],
+    pool: &mut [u32],
+    p: Progress,
+) -> Placed
     requires { ⌜ InSpan (now marks) span ⌝ }
     requires { ⌜ Held (now rows) (now pool) p ⌝ }
     ensures { λ r. ⌜ MarksNumbered (p .room) (withRow (codesIn (now (marks .entry))) (rowsIn (p .rows) (now (rows .entry)) (now (pool .entry)))) (numberOf (codesIn (now (marks .entry))) (rowsIn (p .rows) (now (rows .entry)) (now (pool .entry)))) (now (marks .entry)) (now (marks .exit)) (now (rows .exit)) (now (pool .exit)) r ⌝ }

@@ -73,9 +73,9 @@ loop-again c =
       c .before .before .before .before .before .before .before .before .before .before .fill-symbol .kept .1 .1 .1 .1 .1 .1 .1 .0 ∙ l .inv .1,
       c .before .before .before .before .before .before .before .before .before .before .fill-symbol .kept .1 .1 .1 .1 .1 .1 .1 .1 .0 ∙ l .inv .2,
       row-next (l .inv .3) (rw (symbols-of (s .args .head) (s .args .edges .now)) (c .before .before .before .before .before .before .before .before .before .before .before .before .before .before .before .if1 .taken)) (c .before .before .before .before .before .before .before .before .before .before .fill-symbol .ensures)
-      (c .if2 .left)
-      (c .before .before .before .before .before .before .before .before .before .before .fill-symbol .kept .1 .1 .1 .1 .1 .1 .0)
-      (s .pre .cells-fit),
+          (c .if2 .left)
+          (c .before .before .before .before .before .before .before .before .before .before .fill-symbol .kept .1 .1 .1 .1 .1 .1 .0)
+          (s .pre .cells-fit),
     )
 
 -- src/cells.rt:75:1

@@ -69,8 +69,8 @@ loop-again c =
       c .before .before .before .before .before .before .before .before .before .before .fill-row .kept .1 .1 .1 .1 .1 .1 .0 ∙ l .inv .1,
       c .before .before .before .before .before .before .before .before .before .before .fill-row .kept .1 .1 .1 .1 .1 .1 .1 .0 ∙ l .inv .2,
       all-next (omega arith) (l .inv .3) (c .before .before .before .before .before .before .before .before .before .before .before .before .before .before .before .if1 .taken) (c .before .before .before .before .before .before .before .before .before .before .fill-row .ensures) (c .if2 .left)
-      (c .before .before .before .before .before .before .before .before .before .before .fill-row .kept .1 .1 .1 .1 .1 .0)
-      (c .before .before .before .before .before .before .before .before .before .before .before .before .before .before .before .before .before .before .before .before .before .before .before .pre .cells-fit),
+          (c .before .before .before .before .before .before .before .before .before .before .fill-row .kept .1 .1 .1 .1 .1 .0)
+          (c .before .before .before .before .before .before .before .before .before .before .before .before .before .before .before .before .before .before .before .before .before .before .before .pre .cells-fit),
     )
 
 -- src/cells.rt:92:1

@@ -80,8 +80,8 @@ loop-holds c =
       width-is (c .before .before .before .wide8 .result) (s .pre .0 .leave .ready) (c .before .before .before .wide8 .ensures .0),
       omega (arith, c .before .before .before .wide8 .ensures .1),
       place-known (s .args .head) (s .args .edges .now) (s .args .row) (s .args .symbol) _ _ _ _ (c .place-of .ensures)
-      (c .before .before .wide32 .ensures .0)
-      (c .before .wide322 .ensures .0),
+          (c .before .before .wide32 .ensures .0)
+          (c .before .wide322 .ensures .0),
       refl,
       refl,
       refl,
@@ -151,9 +151,9 @@ loop-again c =
       c .before .before .before .before .before .before .before .before .before .make-cell .kept .1 .1 .1 .1 .1 .1 .0 ∙ l .inv .4,
       c .before .before .before .before .before .before .before .before .before .make-cell .kept .1 .1 .1 .1 .1 .1 .1 .0 ∙ l .inv .5,
       filling-next (l .inv .6) (omega (arith, c .before .before .before .before .before .before .before .before .before .before .before .before .before .before .loop-test .taken, l .inv .0)) refl (c .before .before .before .before .before .before .before .before .before .before .before .before .before .narrow32 .ensures) (c .before .before .before .before .before .before .before .before .before .make-cell .ensures) _
-      (c .if1 .left)
-      (fits (c .before .before .before .before .before .before .before .before .before .before .before .before .before .before))
-      refl,
+          (c .if1 .left)
+          (fits (c .before .before .before .before .before .before .before .before .before .before .before .before .before .before))
+          refl,
     )
 
 -- src/cells.rt:52:1

@@ -70,15 +70,17 @@ loop-again c =
     let h : l .code < length (c .before .before .before .before .before .args .marks .now) = omega (arith, l .inv .0, c .before .before .loop-test .taken) in
     ⊎-elim
     (λ w. (
-        search needs,
-        search needs,
-        omega (arith, w .3, l .inv .3 .count-most, c .before .before .loop-test .taken),
-        turn-more (l .inv .3) h (c .if1 .marks) (c .if1 .count) _ (w .0 .taken) (w .1 .ensures) (w .2) (w .3)))
+      search needs,
+      search needs,
+      omega (arith, w .3, l .inv .3 .count-most, c .before .before .loop-test .taken),
+      turn-more (l .inv .3) h (c .if1 .marks) (c .if1 .count) _ (w .0 .taken) (w .1 .ensures) (w .2) (w .3),
+    ))
     (λ w. (
-        search needs,
-        search needs,
-        omega (arith, w .2, l .inv .2),
-        turn-skip (l .inv .3) h (c .if1 .marks) (c .if1 .count) (w .0 .left) (w .1) (w .2)))
+      search needs,
+      search needs,
+      omega (arith, w .2, l .inv .2),
+      turn-skip (l .inv .3) h (c .if1 .marks) (c .if1 .count) (w .0 .left) (w .1) (w .2),
+    ))
     (c .if1 .came)
 
 -- src/marks.rt:38:1

@@ -59,13 +59,15 @@ loop-again c =
     let l = c .before .before .before .before .loop in
     ⊎-elim
     (λ w. (
-        ap length (w .6) ∙ (w .3 .kept .0 ∙ l .inv .0),
-        pairing-next (l .inv .1) (c .before .before .before .before .before .before .before .before .pre .0) (c .before .before .if1 .taken) _ _ _ _ _ (c .before .before .before .before .before .unpack .ensures) (c .before .allows .ensures) (w .0 .taken)
-        (w .1 .ensures)
-        (marks-again _ _ (w .3 .ensures) (w .6) (w .7))))
+      ap length (w .6) ∙ (w .3 .kept .0 ∙ l .inv .0),
+      pairing-next (l .inv .1) (c .before .before .before .before .before .before .before .before .pre .0) (c .before .before .if1 .taken) _ _ _ _ _ (c .before .before .before .before .before .unpack .ensures) (c .before .allows .ensures) (w .0 .taken)
+          (w .1 .ensures)
+          (marks-again _ _ (w .3 .ensures) (w .6) (w .7)),
+    ))
     (λ w. (
-        ap length (w .1) ∙ l .inv .0,
-        pairing-skip (l .inv .1) (c .before .before .before .before .before .before .before .before .pre .0) (c .before .before .if1 .taken) _ _ _ _ (c .before .before .before .before .before .unpack .ensures) (c .before .allows .ensures) (w .0 .left) (w .1) (w .2)))
+      ap length (w .1) ∙ l .inv .0,
+      pairing-skip (l .inv .1) (c .before .before .before .before .before .before .before .before .pre .0) (c .before .before .if1 .taken) _ _ _ _ (c .before .before .before .before .before .unpack .ensures) (c .before .allows .ensures) (w .0 .left) (w .1) (w .2),
+    ))
     (c .if2 .came)
 
 -- src/marks.rt:74:1

@@ -62,8 +62,8 @@ loop-again c =
     let l = c .before .before .before .before .before .before .before .before .loop in (
       c .before .before .mark .kept .0 ∙ l .inv .0,
       starting-next (l .inv .1) _ _ _ _ (c .before .before .before .before .before .before .before .loop-test .taken) refl (sym (c .before .before .before .before .before .before .has .ensures) ∙ c .before .before .before .before .before .if1 .taken)
-      (c .before .before .before .before .wide32 .ensures .0)
-      (c .before .before .mark .ensures),
+          (c .before .before .before .before .wide32 .ensures .0)
+          (c .before .before .mark .ensures),
     )
 
 -- src/marks.rt:63:5
