@@ -10,3 +10,5 @@ pub mod Laying
 pub mod SymbolFilling
 pub mod RowFilling
 pub mod AllFilling
+pub mod StartLaws
+pub mod Outcome

@@ -1,3 +1,4 @@
 pub mod Marks
 pub mod Rows
 pub mod Cells
+pub mod Builds

@@ -1,4 +1,12 @@
 // The table builder: rows as sets of codes, numbered by discovery, into the lent tables.
+ghost use Rattle.model.specs.Promises.{BuildsTable};
+use crate::build::build_checked;
+use crate::build::not_built;
+use model::Building;
+use model::Head;
+use rule::check_rule;
+
+mod build;
 mod cells;
 mod lent;
 mod marks;
@@ -41,4 +49,22 @@ pub struct Placed {
 pub struct Filled {
     pub cell: u32,
     pub progress: Progress,
+}
+
+// The table of a rule: 20, 21, 22, then 23 or 24 at the first row that does not fit.
+pub fn build_table(
+    head: Head,
+    edges: &[u16],
+    scratch: &mut [u32],
+    cells: &mut [u32],
+    rows: &mut [u32],
+    pool: &mut [u32],
+) -> Building
+    ensures { λ r. ⌜ BuildsTable head (now (edges .entry)) (now (scratch .entry)) (now (scratch .exit)) (now (cells .entry)) (now (cells .exit)) (now (rows .entry)) (now (rows .exit)) (now (pool .entry)) (now (pool .exit)) r ⌝ }
+{
+    let checked = check_rule(head, edges);
+    if checked.number != 0 {
+        return not_built(checked.number, checked.place);
+    }
+    build_checked(head, edges, scratch, cells, rows, pool)
 }

@@ -1,0 +1,190 @@
+// The build of a rule that passed 20 and 21.
+ghost use mathlib.Core.Path.{_≡_};
+ghost use Prim.Native.Nat.{_*_, _/_, _≤_};
+ghost use lib.ListN.{length};
+ghost use Rattle.model.specs.Basics.{zeros};
+ghost use Rattle.model.specs.Basics.{lesser as lesserOf, quotient as quotientOf};
+ghost use Rattle.model.specs.Rules.{pairCount, validRule};
+ghost use Rattle.model.specs.Construction.{mostRows};
+ghost use Rattle.model.specs.Layout.{ruleIn, ruleRefusal};
+ghost use Rattle.model.specs.Tables.{rowRoom};
+ghost use Rattle.model.specs.Promises.{BuildsTable};
+ghost use Rattle.pairs.specs.Pairs.{Scaled};
+ghost use Rattle.construct.specs.Cells.{AllFilled};
+ghost use Rattle.construct.specs.Builds.{CanPlaceStart, StartPlaced, CanBuild, notBuilt, builtFrom};
+use crate::Progress;
+use crate::cells::fill_rows;
+use crate::lent::clear;
+use crate::lent::lesser;
+use crate::lent::narrow8;
+use crate::lent::narrow32;
+use crate::marks::mark_starts;
+use crate::rows::place_marks;
+use edges::power;
+use edges::top_of;
+use edges::wide32;
+use model::Building;
+use model::Built;
+use model::Head;
+use pairs::Scale;
+use pairs::numbers::quotient;
+use pairs::numbers::wide8;
+
+// The least of 4,096, half the row table and the cell table over the cells of a row.
+pub(crate) fn row_room(cells: usize, rows: usize, each: usize) -> usize
+    ensures { λ r. ⌜ r ≡ lesserOf mostRows (lesserOf (rows / 2) (quotientOf cells each)) ⌝ }
+{
+    lesser(4096, lesser(rows / 2, quotient(cells, each)))
+}
+
+// The start row gets number 0.
+pub(crate) fn place_start(
+    starts: u32,
+    weight: u32,
+    marks: &mut [u32],
+    rows: &mut [u32],
+    pool: &mut [u32],
+    room: usize,
+) -> Progress
+    requires { ⌜ CanPlaceStart starts weight (now marks) (now rows) (now pool) room ⌝ }
+    ensures { λ r. ⌜ StartPlaced starts weight room (now (marks .entry)) (now (marks .exit)) (now (rows .exit)) (now (pool .exit)) r ⌝ }
+{
+    let span = mark_starts(starts, weight, marks);
+    let none = Progress {
+        number: 0,
+        rows: 0,
+        total: 0,
+        room,
+    };
+    let placed = place_marks(marks, span, rows, pool, none);
+    placed.progress
+}
+
+// All rows and cells, into tables that hold zero.
+pub(crate) fn fill_tables(
+    head: Head,
+    edges: &[u16],
+    scale: Scale,
+    marks: &mut [u32],
+    cells: &mut [u32],
+    rows: &mut [u32],
+    pool: &mut [u32],
+) -> Progress
+    requires { ⌜ CanBuild (ruleIn head (now edges)) scale (now marks) (now cells) (now rows) (now pool) ⌝ }
+    ensures { λ r. ⌜ AllFilled (ruleIn head (now (edges .entry))) (rowRoom (ruleIn head (now (edges .entry))) (length (now (cells .entry))) (length (now (rows .entry)))) (now (marks .entry)) (now (marks .exit)) (now (cells .entry)) (now (cells .exit)) (now (rows .exit)) (now (pool .exit)) r ⌝ }
+{
+    let each = wide32(head.symbols) * (2 * wide8(scale.top) + 2);
+    let room = row_room(cells.len(), rows.len(), each);
+    let p = place_start(head.starts, scale.weight, marks, rows, pool, room);
+    if p.number != 0 {
+        return p;
+    }
+    fill_rows(head, edges, scale, marks, cells, rows, pool, p)
+}
+
+// Clocks, cm and the weight of a location.
+pub(crate) fn scale_of(head: Head, edges: &[u16]) -> Scale
+    requires { ⌜ ruleRefusal head (now edges) .number ≡ 0 ⌝ }
+    ensures { λ r. ⌜ Scaled (ruleIn head (now (edges .entry))) r ⌝ }
+{
+    let top = top_of(head, edges);
+    let weight = power(top + 2, wide32(head.clocks));
+    Scale {
+        clocks: head.clocks,
+        top: narrow8(top),
+        weight: narrow32(weight),
+    }
+}
+
+// No table.
+pub(crate) fn not_built(number: u8, place: usize) -> Building
+    ensures { λ r. ⌜ r ≡ notBuilt number place ⌝ }
+{
+    let built = Built {
+        locations: 0,
+        symbols: 0,
+        clocks: 0,
+        top: 0,
+        ends: 0,
+        rows: 0,
+        total: 0,
+    };
+    Building {
+        number,
+        place,
+        built,
+    }
+}
+
+pub(crate) fn built_from(head: Head, scale: Scale, p: Progress) -> Built
+    requires { ⌜ (p .rows ≤ 4096) × (p .total ≤ 65536 * 4096) ⌝ }
+    ensures { λ r. ⌜ r ≡ builtFrom head scale p ⌝ }
+{
+    Built {
+        locations: head.locations,
+        symbols: head.symbols,
+        clocks: head.clocks,
+        top: narrow32(wide8(scale.top)),
+        ends: head.ends,
+        rows: narrow32(p.rows),
+        total: narrow32(p.total),
+    }
+}
+
+pub(crate) fn clear_tables(cells: &mut [u32], rows: &mut [u32], pool: &mut [u32])
+    ensures { λ _. ⌜ (now (cells .exit) ≡ zeros (length (now (cells .entry)))) × (now (rows .exit) ≡ zeros (length (now (rows .entry)))) × (now (pool .exit) ≡ zeros (length (now (pool .entry)))) ⌝ }
+{
+    clear(cells);
+    clear(rows);
+    clear(pool);
+}
+
+// 23 and 24 leave every table zero.
+pub(crate) fn build_in(
+    head: Head,
+    edges: &[u16],
+    scale: Scale,
+    scratch: &mut [u32],
+    cells: &mut [u32],
+    rows: &mut [u32],
+    pool: &mut [u32],
+) -> Building
+    requires { ⌜ ruleRefusal head (now edges) .number ≡ 0 ⌝ }
+    requires { ⌜ Scaled (ruleIn head (now edges)) scale ⌝ }
+    requires { ⌜ pairCount (ruleIn head (now edges)) ≤ length (now scratch) ⌝ }
+    ensures { λ r. ⌜ BuildsTable head (now (edges .entry)) (now (scratch .entry)) (now (scratch .exit)) (now (cells .entry)) (now (cells .exit)) (now (rows .entry)) (now (rows .exit)) (now (pool .entry)) (now (pool .exit)) r ⌝ }
+{
+    clear(scratch);
+    clear_tables(cells, rows, pool);
+    let p = fill_tables(head, edges, scale, scratch, cells, rows, pool);
+    if p.number != 0 {
+        clear_tables(cells, rows, pool);
+        return not_built(p.number, 0);
+    }
+    let built = built_from(head, scale, p);
+    Building {
+        number: 0,
+        place: 0,
+        built,
+    }
+}
+
+// 22: a scratch shorter than N.
+pub(crate) fn build_checked(
+    head: Head,
+    edges: &[u16],
+    scratch: &mut [u32],
+    cells: &mut [u32],
+    rows: &mut [u32],
+    pool: &mut [u32],
+) -> Building
+    requires { ⌜ ruleRefusal head (now edges) .number ≡ 0 ⌝ }
+    ensures { λ r. ⌜ BuildsTable head (now (edges .entry)) (now (scratch .entry)) (now (scratch .exit)) (now (cells .entry)) (now (cells .exit)) (now (rows .entry)) (now (rows .exit)) (now (pool .entry)) (now (pool .exit)) r ⌝ }
+{
+    let scale = scale_of(head, edges);
+    let pairs = wide32(head.locations) * wide32(scale.weight);
+    if scratch.len() < pairs {
+        return not_built(22, 0);
+    }
+    build_in(head, edges, scale, scratch, cells, rows, pool)
+}
