@@ -14,6 +14,7 @@ use Rattle.ages.specs.declared.Ages.{Ages}
 use Rattle.ages.specs.declared.Configuration.{Configuration}
 use Rattle.ages.specs.Ages.{numbersOf, agesOf, configOf, sameConfig}
 use Rattle.ages.proofs.Laws.{numbers-length}
+use Rattle.exact.specs.declared.bank.Added.{Added}
 use Rattle.exact.specs.declared.bank.Added.the-variants.{Count, Full}
 use Rattle.exact.specs.Banks.{numbersAt, configAt, configsAt, numbersIn, Loaded, Holds}
 use Rattle.exact.specs.Ready.{Roomy}
@@ -111,30 +112,36 @@ pub next-fits : (k room n : ℕ) (s : List ℕ) → Roomy k room n s → n < roo
 next-fits k room n s ready h =
     omega (arith, mul-le-mul-right {m = suc n} {n = room} (k + 1) h, suc-mul n (k + 1), ready .bank-fits)
 
--- The three ways that adding ends.
+-- Behind the others: no room, or written there.
 module _ (k room n : ℕ) (c : Config) (s : List ℕ) (ready : Roomy k room n s) where
-  pub added-known : (r : Bool) → r ≡ hasConfig c (configsAt k n 0 s) → r ≡ true → Holds k room 0 (withConfig c (configsAt k n 0 s)) s (Count n)
+  abbrev behind : List Config
+  behind = configsAt k n 0 s ++ (c ∷ [])
+
+  pub append-full : room ≤ n → Holds k room 0 behind s Full
+  append-full h = omega (arith, length-append (configsAt k n 0 s) (c ∷ []), configs-length k n 0 s)
+
+  pub append-new :
+      (s′ : List ℕ) → n < room → length (c .ages) ≡ k → s′ ≡ sets s (n * (k + 1)) (numbersIn c)
+      → Holds k room 0 behind s′ (Count (n + 1))
+  append-new s′ h l e =
+      let fits : n * (k + 1) + k < length s = next-fits k room n s ready h in
+      let z : 0 + n * (k + 1) ≡ n * (k + 1) = omega arith in (
+        omega arith,
+        rw (e, add-one n, configs-snoc k n 0 (sets s (n * (k + 1)) (numbersIn c)), z)
+            (rw (
+              written-there k (n * (k + 1)) s c l fits,
+              written-before k (n * (k + 1)) s c l fits n (omega arith),
+            )),
+      )
+
+  -- there already, or behind the others
+  pub added-known :
+      (r : Bool) → r ≡ hasConfig c (configsAt k n 0 s) → r ≡ true
+      → Holds k room 0 (withConfig c (configsAt k n 0 s)) s (Count n)
   added-known r t f = (ready .count-most, rw (sym t ∙ f))
 
-  module _ (r : Bool) (t : r ≡ hasConfig c (configsAt k n 0 s)) (f : r ≡ false) where
-    with-new : withConfig c (configsAt k n 0 s) ≡ configsAt k n 0 s ++ (c ∷ [])
-    with-new = rw (sym t ∙ f)
-
-    pub added-full : room ≤ n → Holds k room 0 (withConfig c (configsAt k n 0 s)) s Full
-    added-full h =
-        rw with-new
-        (omega (arith, length-append (configsAt k n 0 s) (c ∷ []), configs-length k n 0 s))
-
-    pub added-new :
-        (s′ : List ℕ) → n < room → length (c .ages) ≡ k → s′ ≡ sets s (n * (k + 1)) (numbersIn c)
-        → Holds k room 0 (withConfig c (configsAt k n 0 s)) s′ (Count (n + 1))
-    added-new s′ h l e =
-        let fits : n * (k + 1) + k < length s = next-fits k room n s ready h in
-        let z : 0 + n * (k + 1) ≡ n * (k + 1) = omega arith in (
-          omega arith,
-          rw (with-new, e, add-one n, configs-snoc k n 0 (sets s (n * (k + 1)) (numbersIn c)), z)
-              (rw (
-                written-there k (n * (k + 1)) s c l fits,
-                written-before k (n * (k + 1)) s c l fits n (omega arith),
-              )),
-        )
+  pub added-new :
+      (r : Bool) (s′ : List ℕ) (added : Added) → r ≡ hasConfig c (configsAt k n 0 s) → r ≡ false
+      → Holds k room 0 behind s′ added
+      → Holds k room 0 (withConfig c (configsAt k n 0 s)) s′ added
+  added-new r s′ added t f h = rw (sym t ∙ f) h

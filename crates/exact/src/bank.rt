@@ -1,5 +1,6 @@
 // A bank of configurations in a lent slice: K + 1 numbers each, the location and then the ages.
 ghost use mathlib.Core.Path.{_≡_};
+ghost use mathlib.Core.List.{[], _∷_, _++_};
 ghost use Prim.Native.Nat.{_+_, _*_, _≤_, _<_};
 ghost use lib.ListN.{length, getD};
 ghost use lib.Seq.{sets};
@@ -84,6 +85,24 @@ pub(crate) fn has_config(bank: &[u32], clocks: usize, n: usize, c: Configuration
     false
 }
 
+// The configuration behind the n that are there.
+pub(crate) fn append(
+    bank: &mut [u32],
+    clocks: usize,
+    room: usize,
+    n: usize,
+    c: Configuration,
+) -> Added
+    requires { ⌜ Roomy clocks room n (now bank) ⌝ }
+    ensures { λ r. ⌜ Holds clocks room 0 (configsAt clocks n 0 (now (bank .entry)) ++ (configOf clocks c ∷ [])) (now (bank .exit)) r ⌝ }
+{
+    if room <= n {
+        return Added::Full;
+    }
+    store(bank, n * (clocks + 1), clocks, c);
+    Added::Count(n + 1)
+}
+
 // The bank with the configuration, unless it is there already.
 pub(crate) fn add(bank: &mut [u32], clocks: usize, room: usize, n: usize, c: Configuration) -> Added
     requires { ⌜ Roomy clocks room n (now bank) ⌝ }
@@ -92,9 +111,5 @@ pub(crate) fn add(bank: &mut [u32], clocks: usize, room: usize, n: usize, c: Con
     if has_config(bank, clocks, n, c) {
         return Added::Count(n);
     }
-    if room <= n {
-        return Added::Full;
-    }
-    store(bank, n * (clocks + 1), clocks, c);
-    Added::Count(n + 1)
+    append(bank, clocks, room, n, c)
 }

@@ -1,0 +1,173 @@
+-- The configurations at the start, location by location; whether one of a bank is at a location of a set.
+use mathlib.Core.Path.{_≡_, refl, sym, _∙_, ap, ap₂}
+use mathlib.Core.Bool.{Bool, true, false, _||_}
+use mathlib.Core.List.{List, [], _∷_, _++_, append-assoc, append-nil}
+use Prim.Native.Nat.{ℕ, suc, _+_, _-_, _*_, _≤_, _<_}
+use native.Mathlib.Omega.{arith}
+use native.Mathlib.Nat.{mul-le-mul-right, suc-mul, zero-mul}
+use native.Mathlib.Numerals.{add-one}
+use lib.ListN.{length, getD, drop, length-append, drop-of-length-le}
+use Rattle.model.specs.declared.Head.{Head}
+use Rattle.model.specs.declared.Answer.{Answer}
+use Rattle.model.specs.Basics.{oneIf, zeros, isIn, bit, bitsFrom}
+use Rattle.model.specs.Runs.{Config, config, startConfigs}
+use Rattle.model.specs.Layout.{locationsIn, ruleIn}
+use Rattle.model.proofs.Ages.{bits-more, bits-skip}
+use Rattle.ages.specs.declared.Configuration.{Configuration}
+use Rattle.ages.specs.Ages.{numbersOf, configOf}
+use Rattle.ages.proofs.Moves.{start-ages}
+use Rattle.exact.specs.declared.bank.Added.{Added}
+use Rattle.exact.specs.declared.bank.Added.the-variants.{Count, Full}
+use Rattle.exact.specs.Banks.{configAt, configsAt, Holds}
+use Rattle.exact.specs.Ready.{Roomy}
+use Rattle.exact.specs.Runs.{startsAt, startsOver, anyFinal}
+use Rattle.exact.proofs.Banks.{configs-rest}
+
+-- the rule's initial locations with all ages 0
+pub starts-are :
+    (head : Head) (edges : List ℕ)
+    → startConfigs (ruleIn head edges) (ruleIn head edges .initial) ≡ startsOver (head .clocks) (head .starts)
+unfolding ruleIn
+starts-are head edges = go (locationsIn (head .starts))
+  where
+    go : (ls : List ℕ) → startConfigs (ruleIn head edges) ls ≡ startsAt (head .clocks) ls
+    go [] = refl
+    go (l ∷ ls) = ap (λ (cs : List Config). config l (zeros (head .clocks)) ∷ cs) (go ls)
+
+module _ (k mask room : ℕ) where
+  -- those written, with those from location l on, are all
+  pub record Starting (n l len : ℕ) (bank : List ℕ) : Type 0 where
+    pub turns : l ≤ 32
+    pub roomy : Roomy k room n bank
+    pub length-is : length bank ≡ len
+    pub rest-is : configsAt k n 0 bank ++ startsAt k (bitsFrom (32 - l) l mask) ≡ startsOver k mask
+
+  pub starting : (bank : List ℕ) → Roomy k room 0 bank → Starting 0 0 (length bank) bank
+  starting bank ready = record { turns = omega arith; roomy = ready; length-is = refl; rest-is = refl }
+
+  module _ {n l len : ℕ} {bank : List ℕ} (inv : Starting n l len bank) (h : l < 32) (r : Bool) (w : ℕ) (e : w ≡ l)
+      (test : r ≡ bit w mask) where
+    left : 32 - l ≡ suc (32 - (l + 1))
+    left = omega arith
+
+    -- not an initial location
+    pub starting-other : r ≡ false → Starting n (l + 1) len bank
+    starting-other f =
+        let unset : bit l mask ≡ false = rw e at (sym test ∙ f) in
+        record {
+          turns = omega arith;
+          roomy = inv .roomy;
+          length-is = inv .length-is;
+          rest-is = rw (left, bits-skip (32 - (l + 1)) l mask unset, ← add-one l) at (inv .rest-is);
+        }
+
+    module _ (yes : r ≡ true) (c : Configuration) (at : c .location ≡ l) (z : numbersOf (c .ages .of) ≡ zeros 4) where
+      config-is : configOf k c ≡ config l (zeros k)
+      config-is = ap₂ config at (start-ages k (c .ages) z (inv .roomy .clocks-most))
+
+      -- this one written, the others are left
+      then-rest :
+          (configsAt k n 0 bank ++ (configOf k c ∷ [])) ++ startsAt k (bitsFrom (32 - (l + 1)) (l + 1) mask)
+          ≡ startsOver k mask
+      then-rest =
+          let set : bit l mask ≡ true = rw e at (sym test ∙ yes) in
+          rw (config-is, append-assoc (configsAt k n 0 bank) (config l (zeros k) ∷ []) (startsAt k (bitsFrom (32 - (l + 1)) (l + 1) mask)))
+          (rw (left, bits-more (32 - (l + 1)) l mask set, ← add-one l) at (inv .rest-is))
+
+      module _ (bank′ : List ℕ) (added : Added)
+          (holds : Holds k room 0 (configsAt k n 0 bank ++ (configOf k c ∷ [])) bank′ added) where
+        pub starting-added :
+            (more : ℕ) → added ≡ Count more → length bank′ ≡ length bank → Starting more (l + 1) len bank′
+        starting-added more q same =
+            let there = rw q at holds in
+            record {
+              turns = omega arith;
+              roomy =
+                  record {
+                    clocks-most = inv .roomy .clocks-most;
+                    bank-fits = omega (arith, inv .roomy .bank-fits);
+                    count-most = there .0;
+                  };
+              length-is = same ∙ inv .length-is;
+              rest-is = rw (there .1) then-rest;
+            }
+
+        pub starting-full : added ≡ Full → room < length (startsOver k mask)
+        starting-full q =
+            let cs : List Config = configsAt k n 0 bank ++ (configOf k c ∷ []) in
+            let over : room < length cs = rw q at holds in
+            omega
+            (arith, over, length-append cs (startsAt k (bitsFrom (32 - (l + 1)) (l + 1) mask)), ap (λ (x : List Config). length x) then-rest)
+
+  pub started : {n l len : ℕ} {bank : List ℕ} → Starting n l len bank → 32 ≤ l → Holds k room 0 (startsOver k mask) bank (Count n)
+  unfolding bitsFrom
+  started {n = n} {l = l} {bank = bank} inv h =
+      let z : 32 - l ≡ 0 = omega arith in
+      (inv .roomy .count-most, sym (append-nil (configsAt k n 0 bank)) ∙ (rw z at (inv .rest-is)))
+
+-- the clocks and the locations that were read are the head's
+pub starts-known :
+    (k k′ mask mask′ room : ℕ) (bank : List ℕ) (added : Added) → k ≡ k′ → mask ≡ mask′
+    → Holds k room 0 (startsOver k mask) bank added
+    → Holds k′ room 0 (startsOver k′ mask′) bank added
+starts-known k k′ mask mask′ room bank added e f h = rw (e, f) at h
+
+pub roomy-start : (k k′ room : ℕ) (bank : List ℕ) → k ≡ k′ → Roomy k′ room 0 bank → Roomy k room 0 bank
+roomy-start k k′ room bank e h = rw e h
+
+-- The configurations passed are at other locations.
+pub record Passing (set k n from i at : ℕ) (s : List ℕ) : Type 0 where
+  pub turns : i ≤ n
+  pub place-is : at ≡ from + i * (k + 1)
+  pub rest-is : anyFinal set (configsAt k (n - i) at s) ≡ anyFinal set (configsAt k n from s)
+
+pub passing : (set k n from : ℕ) (s : List ℕ) → Passing set k n from 0 from s
+passing set k n from s =
+    let z : n - 0 ≡ n = omega arith in
+    record { turns = omega arith; place-is = omega (arith, zero-mul (k + 1)); rest-is = rw z }
+
+-- place i of n is within the list
+pub place-within :
+    (k n from i at len : ℕ) → i < n → at ≡ from + i * (k + 1) → from + n * (k + 1) ≤ len → at + (k + 1) ≤ len
+place-within k n from i at len h e f =
+    omega (arith, mul-le-mul-right {m = suc i} {n = n} (k + 1) h, suc-mul i (k + 1))
+
+module _ {set k n from i at : ℕ} {s : List ℕ} (inv : Passing set k n from i at s) (h : i < n) (r : Bool) (l : ℕ)
+    (read : l ≡ getD s at 0) (test : r ≡ isIn l (locationsIn set)) where
+  pass-step : anyFinal set (configsAt k n from s) ≡ (r || anyFinal set (configsAt k (n - (i + 1)) (at + (k + 1)) s))
+  pass-step =
+      sym (inv .rest-is)
+      ∙ (ap (anyFinal set) (configs-rest k n i at s h)
+      ∙ ap (λ (b : Bool). b || anyFinal set (configsAt k (n - (i + 1)) (at + (k + 1)) s))
+      (sym (test ∙ ap (λ (x : ℕ). isIn x (locationsIn set)) read)))
+
+  pub passing-next : (at′ : ℕ) → at′ ≡ at + (k + 1) → r ≡ false → Passing set k n from (i + 1) at′ s
+  passing-next at′ e f = record {
+    turns = omega arith;
+    place-is = omega (arith, e, inv .place-is, suc-mul i (k + 1), add-one i);
+    rest-is = rw e (sym (pass-step ∙ rw f));
+  }
+
+  pub pass-found : r ≡ true → true ≡ anyFinal set (configsAt k n from s)
+  pass-found f = sym (pass-step ∙ rw f)
+
+pub pass-none :
+    {set k n from i at : ℕ} {s : List ℕ} → Passing set k n from i at s → n ≤ i
+    → false ≡ anyFinal set (configsAt k n from s)
+pass-none {n = n} {i = i} inv h = let z : n - i ≡ 0 = omega arith in rw z at (inv .rest-is)
+
+-- a list that is zeroed to its end
+pub cleared : (s₀ s : List ℕ) (i : ℕ) → s ≡ zeros i ++ drop i s₀ → i ≡ length s₀ → s ≡ zeros (length s₀)
+cleared s₀ s i e h =
+    let past : length s₀ ≤ i = omega arith in
+    e ∙ (rw (drop-of-length-le s₀ past, append-nil (zeros i), h))
+
+-- the answer, yes or no
+abbrev decided : ℕ → Answer
+decided value = record { number = 0; place = 0; value = value }
+
+pub yes-is : (r : Bool) → r ≡ true → decided 1 ≡ decided (oneIf r)
+yes-is r e = rw e
+
+pub no-is : (r : Bool) → r ≡ false → decided 0 ≡ decided (oneIf r)
+no-is r e = rw e

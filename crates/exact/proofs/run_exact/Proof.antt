@@ -1,0 +1,74 @@
+-- `exact::run_exact` meets its contract: the rule is checked, then the word, then the events are followed.
+use mathlib.Core.Path.{_∙_}
+use Rattle.exact.proofs.Outcome.{rule-refuses, word-refuses, begins, runs-exact}
+use borrow.Author.Needs.{needs}
+use Rattle.exact.proofs.run_exact.Statement.{statement}
+use Rattle.exact.proofs.run_exact.Tie as tie
+use Rattle.exact.proofs.run_exact.Reads as reads
+use Rattle.exact.proofs.run_exact.Lts as lts
+use Rattle.exact.proofs.clear.Reads as clear-reads
+use Rattle.exact.proofs.run_events.Reads as run-events-reads
+use Rattle.rule.proofs.check_rule.Reads as check-rule-reads
+use Rattle.word.proofs.check_word.Reads as check-word-reads
+
+check-rule-requires : tie.Need-check-rule-requires
+check-rule-requires c κs = search needs
+
+returns : tie.Need-returns
+returns c =
+    let a = c .before .before .before .before .before .before .before .args in
+    let rule = c .before .before .check-rule in
+    rule-refuses (a .head) (a .edges .now) (a .grain) (a .symbols .now) (a .stamps .now) (a .scratch .now) (rule .result) (rule .ensures) (c .if1 .taken)
+
+check-word-requires : tie.Need-check-word-requires
+check-word-requires c κs = search needs
+
+returns-2 : tie.Need-returns-2
+returns-2 c =
+    let a = c .before .before .before .before .before .before .before .before .before .before .args in
+    let rule = c .before .before .before .before .before .check-rule in
+    let word = c .before .before .check-word in
+    word-refuses (a .head) (a .edges .now) (a .grain) (a .symbols .now) (a .stamps .now) (a .scratch .now) (rule .result) (word .result) (rule .ensures) (word .ensures) (c .before .before .before .if1 .left)
+    (c .if2 .taken)
+
+run-events-requires : tie.Need-run-events-requires
+run-events-requires c κs =
+    let a = c .before .before .before .before .before .before .before .before .before .before .before .args in
+    let rule = c .before .before .before .before .before .before .check-rule in
+    let word = c .before .before .before .check-word in
+    begins (a .head) (a .edges .now) (a .grain) (a .symbols .now) (a .stamps .now) (a .scratch .now) (rule .result) (word .result) (rule .ensures) (word .ensures) (c .before .before .before .before .if1 .left)
+    (c .before .if2 .left)
+
+clear-requires : tie.Need-clear-requires
+clear-requires c κs = search needs
+
+same-length : tie.Need-same-length
+same-length c = c .before .before .clear .kept .0 ∙ c .before .before .before .before .before .before .run-events .kept .1 .1 .1 .1 .1 .0
+
+returns-3 : tie.Need-returns-3
+returns-3 c =
+    let a = c .before .before .before .before .before .before .before .before .before .before .before .before .before .before .before .before .before .before .args in
+    let rule = c .before .before .before .before .before .before .before .before .before .before .before .before .before .check-rule in
+    let word = c .before .before .before .before .before .before .before .before .before .before .check-word in
+    let run = c .before .before .before .before .before .before .run-events in
+    runs-exact (a .head) (a .edges .now) (a .grain) (a .symbols .now) (a .stamps .now) (a .scratch .now) (rule .result) (word .result) (rule .ensures) (word .ensures) (c .before .before .before .before .before .before .before .before .before .before .before .if1 .left)
+    (c .before .before .before .before .before .before .before .before .if2 .left)
+    (run .result)
+    (run .last .1 .1 .1 .1 .1 .0)
+    _
+    (run .ensures)
+    (run .kept .1 .1 .1 .1 .1 .0)
+    (c .before .before .clear .ensures)
+
+pub run-exact-spec : {M : Type 1} → statement M
+run-exact-spec =
+    tie.close
+    (tie.spec
+    check-rule-requires
+    returns
+    check-word-requires
+    returns-2
+    run-events-requires
+    clear-requires
+    same-length
+    returns-3)
