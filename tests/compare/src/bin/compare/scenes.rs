@@ -130,7 +130,10 @@ fn changed_rule(scene: &mut Scene) {
     scene.add(Call::Save);
     for _ in 0..6 {
         scene.add(Call::Restore);
-        for _ in 0..scene.random.pick(&[1, 1, 1, 2, 3]) {
+        if scene.random.chance(15) {
+            change_codes(scene);
+        }
+        for _ in 0..scene.random.pick(&[0, 1, 1, 1, 2, 3]) {
             change_rule(scene, &rule);
         }
         scene.add(Call::CheckRule);
@@ -140,6 +143,13 @@ fn changed_rule(scene: &mut Scene) {
         scene.exact(&rule, word.clone());
         scene.branch(&rule, &word);
     }
+}
+
+/// More clocks and a higher ceiling, so that N comes near 65,536 or over it.
+fn change_codes(scene: &mut Scene) {
+    let (clocks, ceiling) = (scene.random.pick(&[2, 3, 4]), scene.random.pick(&[7, 15, 16, 31]));
+    scene.add(Call::Poke { what: What::Head, index: 2, value: clocks });
+    scene.add(Call::Poke { what: What::Head, index: 5, value: ceiling });
 }
 
 fn change_rule(scene: &mut Scene, rule: &Rule) {
