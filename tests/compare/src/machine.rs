@@ -219,7 +219,7 @@ fn tables(lent: &mut [Lent<u32>; 4]) -> Tables<'_> {
     Tables { scratch, cells, rows, pool }
 }
 
-/// The helpers.
+/// The commands over the state itself.
 impl State {
     /// Whether the buffers' guards are as they were.
     pub fn intact(&self) -> bool {

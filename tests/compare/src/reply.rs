@@ -22,7 +22,7 @@ pub enum Reply {
     Walked(Vec<Followed>),
     /// Edges; scratch, cells, rows, pool.
     Decided(Answer, Lent<u16>, [Lent<u32>; 4]),
-    /// What a helper command shows.
+    /// What a command over the state itself shows.
     Text(String),
     /// A malformed command.
     Bad,

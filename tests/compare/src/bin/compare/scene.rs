@@ -152,20 +152,55 @@ impl Scene<'_> {
     }
 }
 
-/// What the rule's table needs, number for number; nothing if the listing program's room is too small for it.
-pub fn needs(rule: &Rule) -> Option<Room> {
+/// What a rule's table needs, number for number.
+pub struct Needs {
+    pub room: Room,
+    /// Where each row starts in the pool.
+    starts: Vec<usize>,
+}
+
+impl Needs {
+    /// Room in which the row with this number finds neither a place among the rows nor one in the pool.
+    pub fn short_of_both(&self, random: &mut Random, row: usize) -> Room {
+        let row_count = self.starts.len();
+        let (row_cells, start) = (self.room.cells / row_count, self.starts[row]);
+        let end = self.starts.get(row + 1).copied().unwrap_or(self.room.pool);
+        let mut room = self.room;
+        room.pool = start + random.below((end - start).max(1));
+        if random.chance(50) {
+            room.rows = 2 * row + random.below(2);
+        } else {
+            room.cells = row * row_cells + random.below(row_cells);
+        }
+        room
+    }
+
+    pub fn row_count(&self) -> usize {
+        self.starts.len()
+    }
+}
+
+/// What the rule's table needs; nothing if the listing program's room is too small for it.
+pub fn needs(rule: &Rule) -> Option<Needs> {
     let mut edges = vec![0; EDGE_TABLE];
     let [mut scratch, mut cells, mut rows, mut pool] =
         [16_384, 16_384, 2_048, 8_192].map(|length| vec![0; length]);
     let head = reference::read_rule(&rule.file(), &mut edges).ok()?;
     let built = reference::build_table(&head, &edges, &mut scratch, &mut cells, &mut rows, &mut pool).ok()?;
     let row_count = built.rows as usize;
-    Some(Room {
+    let room = Room {
         scratch: rule.code_count(),
         cells: row_count * usize::from(rule.symbols) * rule.intervals(),
         rows: 2 * row_count,
         pool: built.pool as usize,
-    })
+    };
+    let starts = rows[..room.rows].chunks_exact(2).map(|row| row[0] as usize).collect();
+    Some(Needs { room, starts })
+}
+
+/// The room that the rule's table needs, or the listing program's.
+pub fn room_for(rule: &Rule) -> Room {
+    needs(rule).map_or(LISTING, |needs| needs.room)
 }
 
 /// What the listing program lends.

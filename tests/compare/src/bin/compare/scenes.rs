@@ -4,7 +4,7 @@ use crate::damage::{damaged_file, rubbish};
 use crate::limits;
 use crate::random::Random;
 use crate::rules::{any_rule, Rule, MIDDLE, SMALL, WIDE};
-use crate::scene::{needs, Scene, EDGE_TABLE, LISTING};
+use crate::scene::{needs, room_for, Needs, Scene, EDGE_TABLE, LISTING};
 use crate::tables;
 use crate::words::spoil;
 use protocol::{Call, Room, What, Word};
@@ -70,9 +70,9 @@ fn whole_rule(scene: &mut Scene) {
     scene.read_surely(&rule);
     scene.add(Call::CheckRule);
     scene.write(rule.file().len());
-    let exact = needs(&rule).unwrap_or(LISTING);
-    let tight = scene.less(exact);
-    scene.build(tight);
+    let needs = needs(&rule);
+    let exact = needs.as_ref().map_or(LISTING, |needs| needs.room);
+    build_tightly(scene, needs.as_ref(), exact);
     let room = scene.more(exact);
     scene.build(room);
     scene.add(Call::CheckTable);
@@ -81,6 +81,17 @@ fn whole_rule(scene: &mut Scene) {
         scene.run_everywhere(&rule, &word);
     }
     decide_somehow(scene, &rule, exact);
+}
+
+/// Builds in room that is too short by one table or by two.
+fn build_tightly(scene: &mut Scene, needs: Option<&Needs>, exact: Room) {
+    let room = scene.less(exact);
+    scene.build(room);
+    if let Some(needs) = needs {
+        let row = scene.random.below(needs.row_count());
+        let room = needs.short_of_both(scene.random, row);
+        scene.build(room);
+    }
 }
 
 /// All three calls in a row, in room that is enough or not.
@@ -130,7 +141,10 @@ fn changed_rule(scene: &mut Scene) {
     scene.add(Call::Save);
     for _ in 0..6 {
         scene.add(Call::Restore);
-        for _ in 0..scene.random.pick(&[1, 1, 1, 2, 3]) {
+        if scene.random.chance(15) {
+            change_codes(scene);
+        }
+        for _ in 0..scene.random.pick(&[0, 1, 1, 1, 2, 3]) {
             change_rule(scene, &rule);
         }
         scene.add(Call::CheckRule);
@@ -140,6 +154,13 @@ fn changed_rule(scene: &mut Scene) {
         scene.exact(&rule, word.clone());
         scene.branch(&rule, &word);
     }
+}
+
+/// More clocks and a higher ceiling, so that N comes near 65,536 or over it.
+fn change_codes(scene: &mut Scene) {
+    let (clocks, ceiling) = (scene.random.pick(&[2, 3, 4]), scene.random.pick(&[7, 15, 16, 31]));
+    scene.add(Call::Poke { what: What::Head, index: 2, value: clocks });
+    scene.add(Call::Poke { what: What::Head, index: 5, value: ceiling });
 }
 
 fn change_rule(scene: &mut Scene, rule: &Rule) {
@@ -171,7 +192,7 @@ fn change_rule(scene: &mut Scene, rule: &Rule) {
 /// Words that break the word rules, or nearly.
 fn bad_words(scene: &mut Scene) {
     let rule = some_rule(scene.random);
-    let exact = needs(&rule).unwrap_or(LISTING);
+    let exact = room_for(&rule);
     scene.read_surely(&rule);
     scene.build(exact);
     for _ in 0..8 {
@@ -213,7 +234,7 @@ fn loose_words(scene: &mut Scene) {
 /// Words of as many events as are allowed, and one more.
 fn long_words(scene: &mut Scene) {
     let rule = any_rule(scene.random, &SMALL);
-    let exact = needs(&rule).unwrap_or(LISTING);
+    let exact = room_for(&rule);
     scene.read_surely(&rule);
     scene.build(exact);
     let mut word = scene.word(&rule, 500);

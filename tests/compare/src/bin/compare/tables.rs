@@ -215,7 +215,7 @@ fn outline(rule: &Rule, room: Room) -> Plain {
 fn built_rule(scene: &mut Scene) -> (Rule, Room) {
     loop {
         let rule = some_rule(scene.random);
-        if let Some(room) = needs(&rule) {
+        if let Some(room) = needs(&rule).map(|needs| needs.room) {
             scene.read_surely(&rule);
             scene.build(room);
             return (rule, room);
