@@ -1,26 +1,26 @@
 -- What a record that is allowed has, by its kind; the rule so far after it; and that its numbers fit.
-use mathlib.Core.Path.{_≡_, refl, sym, _∙_, ap}
+use mathlib.Core.Path.{_≡_, sym, _∙_, ap}
 use mathlib.Core.Bool.{true}
 use mathlib.Core.List.{List, [], _∷_, _++_}
-use Prim.Native.Nat.{ℕ, suc, _+_, _-_, _*_, _/_, _^_, _≤_, _<_}
+use Prim.Native.Nat.{ℕ, _+_, _-_, _*_, _/_, _^_, _≤_, _<_}
 use native.Mathlib.Omega.{arith}
 use lib.Dec.{eqb}
-use lib.ListN.{length, take, drop}
+use lib.ListN.{length, drop}
 use lib.Pow.{pow-mono}
 use Rattle.model.specs.declared.Head.{Head}
-use Rattle.model.specs.Basics.{pick, zeros, filled, maskOf}
+use Rattle.model.specs.Basics.{pick, filled, maskOf}
 use Rattle.model.specs.Rules.{Edge, Rule, mostAtoms, rising}
 use Rattle.model.specs.Files.{pastLast, numberAt, edgeFrom, noRule, withRecord}
-use Rattle.model.specs.Layout.{edgeNeed, edgeWidth, headOf, edgesNumbers, edgeTable}
+use Rattle.model.specs.Layout.{edgesNumbers, edgeTable}
 use Rattle.model.proofs.Valid.{sizes-of}
-use Rattle.model.proofs.ValidParts.{Parts, rising-last}
+use Rattle.model.proofs.ValidParts.{rising-last}
 use Rattle.model.proofs.MaskSets.{mask-last, mask-below}
 use Rattle.model.proofs.EdgesWritten.{edges-numbers-length}
 use Rattle.model.proofs.Readable.{table-length}
-use Rattle.model.proofs.FileRecords.{Sizes-allowed, Location-allowed, Ceiling-allowed, Edge-allowed, Allowed, sizes, initial, final, ceiling, edge}
+use Rattle.model.proofs.FileRecords.{Location-allowed, Ceiling-allowed, Edge-allowed, Allowed, sizes, initial, final, ceiling, edge}
 use Rattle.model.proofs.FileSoFar.{So-far, sizes-so-far, record-so-far, atoms-from-length}
 use Rattle.reader.specs.declared.Cursor.{Cursor}
-use Rattle.reader.specs.State.{Holds, tableWith, Body, EdgeRoom, Room, Takes, Stage, none, some, State}
+use Rattle.reader.specs.State.{tableWith, Body, Room, Takes, Stage, none, some, State}
 use Rattle.reader.proofs.Tables.{next-zero, table-more}
 
 -- which kind it is
@@ -100,9 +100,10 @@ numbers-wide last r (some s) = edges-numbers-length r (r .edges) (s .parts .edge
 location-fits :
     (l : ℕ) (xs : List ℕ) (x m : ℕ) → l ≤ 32 → rising 0 l xs ≡ true → pastLast xs ≤ x → x < l → m ≡ maskOf xs
     → (x < 32) × (m + 2 ^ x < 2 ^ 32)
-location-fits l xs x m a b c d e =
-    (omega arith,
-    omega (arith, mask-below l (xs ++ (x ∷ [])) (rising-last l xs x b c d), mask-last xs x, pow-mono {i = l} {j = 32} a))
+location-fits l xs x m a b c d e = (
+  omega arith,
+  omega (arith, mask-below l (xs ++ (x ∷ [])) (rising-last l xs x b c d), mask-last xs x, pow-mono {i = l} {j = 32} a),
+)
 
 module _ {r : Rule} {c : Cursor} {t : List ℕ} (state : State r c t) {kind n : ℕ} {body : List ℕ}
     (allowed : Allowed (c .last) r kind n body) where
@@ -118,28 +119,28 @@ module _ {r : Rule} {c : Cursor} {t : List ℕ} (state : State r c t) {kind n : 
     number = omega (arith, b .least, b .whole);
     sizes = λ k. omega (arith, b .sizes k, b .whole);
     initial = λ k.
-      let a = is-initial allowed k in
-      location-fits (r .locations) (r .initial) (numberAt 0 body) (c .head .starts) (locations-most (a .sizes-seen))
-      (seen (c .last) r (state .stage) (a .sizes-seen) .parts .initial-rises) (a .rises) (a .in-range)
-      (ap (λ (h : Head). h .starts) (state .holds .head-is));
+        let a = is-initial allowed k in
+        location-fits (r .locations) (r .initial) (numberAt 0 body) (c .head .starts) (locations-most (a .sizes-seen))
+        (seen (c .last) r (state .stage) (a .sizes-seen) .parts .initial-rises) (a .rises) (a .in-range)
+        (ap (λ (h : Head). h .starts) (state .holds .head-is));
     final = λ k.
-      let a = is-final allowed k in
-      location-fits (r .locations) (r .final) (numberAt 0 body) (c .head .ends) (locations-most (a .sizes-seen))
-      (seen (c .last) r (state .stage) (a .sizes-seen) .parts .final-rises) (a .rises) (a .in-range)
-      (ap (λ (h : Head). h .ends) (state .holds .head-is));
+        let a = is-final allowed k in
+        location-fits (r .locations) (r .final) (numberAt 0 body) (c .head .ends) (locations-most (a .sizes-seen))
+        (seen (c .last) r (state .stage) (a .sizes-seen) .parts .final-rises) (a .rises) (a .in-range)
+        (ap (λ (h : Head). h .ends) (state .holds .head-is));
     ceiling = λ k. is-ceiling allowed k .in-range;
     edge = λ k.
-      let a = is-edge allowed k in
-      let count-is : c .head .count ≡ length (r .edges) = ap (λ (h : Head). h .count) (state .holds .head-is) in
-      let wide = numbers-wide (c .last) r (state .stage) ∙ ap (λ (m : ℕ). 29 * m) (sym count-is) in
-      record {
-        size-least = a .length-least;
-        size-most = a .length-most;
-        whole = b .whole;
-        few = omega (arith, a .room);
-        long = state .long;
-        zero = next-zero r t (c .head .count) wide (state .table-is) (omega (arith, a .room, state .long));
-      };
+        let a = is-edge allowed k in
+        let count-is : c .head .count ≡ length (r .edges) = ap (λ (h : Head). h .count) (state .holds .head-is) in
+        let wide = numbers-wide (c .last) r (state .stage) ∙ ap (λ (m : ℕ). 29 * m) (sym count-is) in
+        record {
+          size-least = a .length-least;
+          size-most = a .length-most;
+          whole = b .whole;
+          few = omega (arith, a .room);
+          long = state .long;
+          zero = next-zero r t (c .head .count) wide (state .table-is) (omega (arith, a .room, state .long));
+        };
   }
 
 -- the table after a record
@@ -173,8 +174,8 @@ state-after {r} {c} {t} state {kind} {n} {body} allowed {t′} {d} takes =
     let after = after-so-far (c .last) r kind n body (state .stage) allowed in
     let count-is : c .head .count ≡ length (r .edges) = ap (λ (h : Head). h .count) (state .holds .head-is) in
     let is : t′ ≡ edgeTable (length t) (withRecord r kind n body) =
-    table-after (c .last) r (c .head .count) t t′ kind n body (state .stage) count-is (state .table-is) (takes .table-is)
-    allowed in
+    table-after (c .last) r (c .head .count) t t′ kind n body (state .stage) count-is (state .table-is)
+    (takes .table-is) allowed in
     let long : length t′ ≡ length t =
     ap length is ∙ table-length (withRecord r kind n body) (after .parts) (length t) (state .long) in
     record {

@@ -4,11 +4,11 @@ use mathlib.Core.List.{List, [], _∷_, _++_, append-assoc, append-nil}
 use Prim.Native.Nat.{ℕ, zero, suc, _+_, _-_, _*_, _/_, _≤_, _<_}
 use native.Mathlib.Omega.{arith}
 use native.Mathlib.Numerals.{add-one}
-use lib.ListN.{length, getD, take, drop, set, length-set, length-drop, length-replicate}
+use lib.ListN.{length, getD, take, drop, set, length-set}
 use lib.Seq.{drop-length, drop-cons, drop-drop, set-at, length-take-le}
-use borrow.Rule.Slice.PartMut.{putMid, postOf}
+use borrow.Rule.Slice.PartMut.{putMid}
 use Rattle.model.specs.Basics.{zeros}
-use Rattle.model.specs.Rules.{Atom, Edge, mostAtoms}
+use Rattle.model.specs.Rules.{Atom, mostAtoms}
 use Rattle.model.specs.Files.{numberAt, atomsFrom, atomNumbers, edgeFrom}
 use Rattle.model.specs.Layout.{edgeWidth, edgeNumbers}
 use Rattle.model.proofs.Bytes.{numbersOf, number-later, atom-numbers-length}
@@ -84,48 +84,49 @@ module _
     (size : ℕ) (body edge fields : List ℕ) (m : ℕ) (most : size ≤ 56) (zero-is : edge ≡ zeros edgeWidth)
     (fields-copied : fields ≡ numbersOf (length (take 4 edge)) body) (m-is : m ≡ (size - 8) / 6)
   where
-  fields-are : fields ≡ numberAt 0 body ∷ numberAt 1 body ∷ numberAt 2 body ∷ numberAt 3 body ∷ []
-  fields-are = fields-copied ∙ (ap (λ (e : List ℕ). numbersOf (length (take 4 e)) body) zero-is ∙ four body)
+    fields-are : fields ≡ numberAt 0 body ∷ numberAt 1 body ∷ numberAt 2 body ∷ numberAt 3 body ∷ []
+    fields-are = fields-copied ∙ (ap (λ (e : List ℕ). numbersOf (length (take 4 e)) body) zero-is ∙ four body)
 
-  -- the places once the fields and the atom count are written
-  begun-is :
-      set (fields ++ drop 4 edge) 4 m
-      ≡ numberAt 0 body ∷ numberAt 1 body ∷ numberAt 2 body ∷ numberAt 3 body ∷ (size - 8) / 6 ∷ zeros 24
-  begun-is = rw (fields-are, zero-is, m-is)
+    -- the places once the fields and the atom count are written
+    begun-is :
+        set (fields ++ drop 4 edge) 4 m
+        ≡ numberAt 0 body ∷ numberAt 1 body ∷ numberAt 2 body ∷ numberAt 3 body ∷ (size - 8) / 6 ∷ zeros 24
+    begun-is = rw (fields-are, zero-is, m-is)
 
-  pub begun-long : length (set (fields ++ drop 4 edge) 4 m) ≡ 29
-  begun-long = ap length begun-is
+    pub begun-long : length (set (fields ++ drop 4 edge) 4 m) ≡ 29
+    begun-long = ap length begun-is
 
-  module _
-      (atoms : List ℕ)
-      (copied :
-      atoms
-      ≡ numbersOf (length (take (5 + 3 * ((size - 8) / 6) - 5) (drop 5 (set (fields ++ drop 4 edge) 4 m))))
-      (take (length body - 8) (drop 8 body)))
-    where
-    past-is : 5 + 3 * ((size - 8) / 6) - 5 ≡ 3 * ((size - 8) / 6)
-    past-is = omega arith
+    module _
+        (atoms : List ℕ)
+        (copied :
+        atoms
+        ≡ numbersOf (length (take (5 + 3 * ((size - 8) / 6) - 5) (drop 5 (set (fields ++ drop 4 edge) 4 m))))
+        (take (length body - 8) (drop 8 body)))
+      where
+        past-is : 5 + 3 * ((size - 8) / 6) - 5 ≡ 3 * ((size - 8) / 6)
+        past-is = omega arith
 
-    atoms-are : atoms ≡ atomNumbers (atomsFrom ((size - 8) / 6) (drop 8 body))
-    atoms-are =
-        let n : ℕ = (size - 8) / 6 in
-        let few : 3 * n ≤ length (zeros 24) = omega arith in
-        copied
-        ∙ rw (past-is, begun-is, part-rest 8 body, length-take-le (3 * n) (zeros 24) few) (atoms-numbers n (drop 8 body))
+        atoms-are : atoms ≡ atomNumbers (atomsFrom ((size - 8) / 6) (drop 8 body))
+        atoms-are =
+            let n : ℕ = (size - 8) / 6 in
+            let few : 3 * n ≤ length (zeros 24) = omega arith in
+            copied
+            ∙ rw (past-is, begun-is, part-rest 8 body, length-take-le (3 * n) (zeros 24) few)
+            (atoms-numbers n (drop 8 body))
 
-    pub edge-stored :
-        putMid 5 (5 + 3 * ((size - 8) / 6) - 5) (set (fields ++ drop 4 edge) 4 m) atoms
-        ≡ edgeNumbers (edgeFrom size body)
-    edge-stored =
-        let n : ℕ = (size - 8) / 6 in
-        let found : List Atom = atomsFrom n (drop 8 body) in
-        let wide : length (atomNumbers found) ≡ 3 * n =
-        atom-numbers-length found ∙ ap (λ (k : ℕ). 3 * k) (atoms-from-length n (drop 8 body)) in
-        rw (past-is, begun-is, atoms-are, wide, atoms-from-length n (drop 8 body), drop-zeros (3 * n) 24)
+        pub edge-stored :
+            putMid 5 (5 + 3 * ((size - 8) / 6) - 5) (set (fields ++ drop 4 edge) 4 m) atoms
+            ≡ edgeNumbers (edgeFrom size body)
+        edge-stored =
+            let n : ℕ = (size - 8) / 6 in
+            let found : List Atom = atomsFrom n (drop 8 body) in
+            let wide : length (atomNumbers found) ≡ 3 * n =
+            atom-numbers-length found ∙ ap (λ (k : ℕ). 3 * k) (atoms-from-length n (drop 8 body)) in
+            rw (past-is, begun-is, atoms-are, wide, atoms-from-length n (drop 8 body), drop-zeros (3 * n) 24)
 
-    pub stored-long : length edge ≡ 29
-        → length (putMid 5 (5 + 3 * ((size - 8) / 6) - 5) (set (fields ++ drop 4 edge) 4 m) atoms) ≡ length edge
-    stored-long wide =
-        let few : length (edgeFrom size body .atoms) ≤ mostAtoms =
-        omega (arith, atoms-from-length ((size - 8) / 6) (drop 8 body)) in
-        ap length edge-stored ∙ (edge-numbers-length (edgeFrom size body) few ∙ sym wide)
+        pub stored-long : length edge ≡ 29
+            → length (putMid 5 (5 + 3 * ((size - 8) / 6) - 5) (set (fields ++ drop 4 edge) 4 m) atoms) ≡ length edge
+        stored-long wide =
+            let few : length (edgeFrom size body .atoms) ≤ mostAtoms =
+            omega (arith, atoms-from-length ((size - 8) / 6) (drop 8 body)) in
+            ap length edge-stored ∙ (edge-numbers-length (edgeFrom size body) few ∙ sym wide)

@@ -1,39 +1,28 @@
 -- `reader::Cursor::with_sizes` meets its contract.
-use Rattle.reader.proofs.Taken.{sizes-held}
 use mathlib.Core.Path.{refl, _∙_}
 use borrow.Author.Needs.{needs}
+use Rattle.reader.proofs.Taken.{sizes-held}
 use Rattle.reader.proofs.Cursor.with_sizes.Statement.{statement}
 use Rattle.reader.proofs.Cursor.with_sizes.Tie as tie
-use Rattle.reader.proofs.Cursor.with_sizes.Reads as reads
-use Rattle.reader.proofs.Cursor.with_sizes.Lts as lts
-use Rattle.reader.proofs.narrow32.Reads as narrow32-reads
-use Rattle.reader.proofs.number_at.Reads as number-at-reads
 
--- src/lib.rt:297:37
 number-at-requires : tie.Need-number-at-requires
 number-at-requires c κs = search needs
 
--- src/lib.rt:297:28
 narrow32-requires : tie.Need-narrow32-requires
 narrow32-requires c κs = search needs
 
--- src/lib.rt:298:35
 number-at-requires-2 : tie.Need-number-at-requires-2
 number-at-requires-2 c κs = search needs
 
--- src/lib.rt:298:26
 narrow32-requires-2 : tie.Need-narrow32-requires-2
 narrow32-requires-2 c κs = search needs
 
--- src/lib.rt:299:34
 number-at-requires-3 : tie.Need-number-at-requires-3
 number-at-requires-3 c κs = search needs
 
--- src/lib.rt:299:25
 narrow32-requires-3 : tie.Need-narrow32-requires-3
 narrow32-requires-3 c κs = search needs
 
--- src/lib.rt:287:5
 returns : tie.Need-returns
 returns c =
     let number-at3 = c .before .number-at3 in
@@ -41,10 +30,12 @@ returns c =
     let number-at2 = c .before .before .before .number-at2 in
     let narrow32 = c .before .before .before .before .narrow32 in
     let number-at = c .before .before .before .before .before .number-at in
-    let a = c .before .before .before .before .before .before .before .args in
-    (record { at-is = refl; last-is = refl }, sizes-held (a .self) (a .body .now) _ _ _
-    (narrow32 .ensures ∙ number-at .ensures .0) (narrow322 .ensures ∙ number-at2 .ensures .0)
-    (c .narrow323 .ensures ∙ number-at3 .ensures .0))
+    let a = c .before .before .before .before .before .before .before .args in (
+      record { at-is = refl; last-is = refl },
+      sizes-held (a .self) (a .body .now) _ _ _
+          (narrow32 .ensures ∙ number-at .ensures .0) (narrow322 .ensures ∙ number-at2 .ensures .0)
+          (c .narrow323 .ensures ∙ number-at3 .ensures .0),
+    )
 
 pub with-sizes-spec : {M : Type 1} → statement M
 with-sizes-spec =
