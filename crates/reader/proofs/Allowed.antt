@@ -1,26 +1,26 @@
 -- What a record that is allowed has, by its kind; the rule so far after it; and that its numbers fit.
-use mathlib.Core.Path.{_≡_, refl, sym, _∙_, ap}
+use mathlib.Core.Path.{_≡_, sym, _∙_, ap}
 use mathlib.Core.Bool.{true}
 use mathlib.Core.List.{List, [], _∷_, _++_}
-use Prim.Native.Nat.{ℕ, suc, _+_, _-_, _*_, _/_, _^_, _≤_, _<_}
+use Prim.Native.Nat.{ℕ, _+_, _-_, _*_, _/_, _^_, _≤_, _<_}
 use native.Mathlib.Omega.{arith}
 use lib.Dec.{eqb}
-use lib.ListN.{length, take, drop}
+use lib.ListN.{length, drop}
 use lib.Pow.{pow-mono}
 use Rattle.model.specs.declared.Head.{Head}
-use Rattle.model.specs.Basics.{pick, zeros, filled, maskOf}
+use Rattle.model.specs.Basics.{pick, filled, maskOf}
 use Rattle.model.specs.Rules.{Edge, Rule, mostAtoms, rising}
 use Rattle.model.specs.Files.{pastLast, numberAt, edgeFrom, noRule, withRecord}
-use Rattle.model.specs.Layout.{edgeNeed, edgeWidth, headOf, edgesNumbers, edgeTable}
-use Rattle.model.proofs.Valid.{Parts, sizes-of}
+use Rattle.model.specs.Layout.{edgesNumbers, edgeTable}
+use Rattle.model.proofs.Valid.{sizes-of}
 use Rattle.model.proofs.ValidParts.{rising-last}
 use Rattle.model.proofs.MaskSets.{mask-last, mask-below}
 use Rattle.model.proofs.EdgesWritten.{edges-numbers-length}
 use Rattle.model.proofs.Readable.{table-length}
-use Rattle.model.proofs.FileRecords.{Sizes-allowed, Location-allowed, Ceiling-allowed, Edge-allowed, Allowed, sizes, initial, final, ceiling, edge}
+use Rattle.model.proofs.FileRecords.{Location-allowed, Ceiling-allowed, Edge-allowed, Allowed, sizes, initial, final, ceiling, edge}
 use Rattle.model.proofs.FileSoFar.{So-far, sizes-so-far, record-so-far, atoms-from-length}
 use Rattle.reader.specs.declared.Cursor.{Cursor}
-use Rattle.reader.specs.State.{Holds, tableWith, Body, EdgeRoom, Room, Takes, Stage, none, some, State}
+use Rattle.reader.specs.State.{tableWith, Body, Room, Takes, Stage, none, some, State}
 use Rattle.reader.proofs.Tables.{next-zero, table-more}
 
 -- which kind it is
@@ -174,8 +174,8 @@ state-after {r} {c} {t} state {kind} {n} {body} allowed {t′} {d} takes =
     let after = after-so-far (c .last) r kind n body (state .stage) allowed in
     let count-is : c .head .count ≡ length (r .edges) = ap (λ (h : Head). h .count) (state .holds .head-is) in
     let is : t′ ≡ edgeTable (length t) (withRecord r kind n body) =
-    table-after (c .last) r (c .head .count) t t′ kind n body (state .stage) count-is (state .table-is) (takes .table-is)
-    allowed in
+    table-after (c .last) r (c .head .count) t t′ kind n body (state .stage) count-is (state .table-is)
+    (takes .table-is) allowed in
     let long : length t′ ≡ length t =
     ap length is ∙ table-length (withRecord r kind n body) (after .parts) (length t) (state .long) in
     record {

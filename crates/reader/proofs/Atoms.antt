@@ -1,15 +1,15 @@
--- The atoms of an edge's body, as a loop over the bytes meets them: the atoms passed are in range, or none of them is an
--- equality, so that the rest decides.
-use mathlib.Core.Path.{_≡_, refl, sym, _∙_, ap}
-use mathlib.Core.Bool.{Bool, true, false, _&&_, _||_}
-use mathlib.Core.List.{List, [], _∷_}
-use Prim.Native.Nat.{ℕ, zero, suc, _+_, _-_, _*_, _≤_, _<_}
+-- The atoms of an edge's body, as a loop over the bytes meets them: the atoms passed are in range, or none of them is
+-- an equality, so that the rest decides.
+use mathlib.Core.Path.{_≡_, sym, _∙_, ap}
+use mathlib.Core.Bool.{true, false, _&&_, _||_}
+use mathlib.Core.List.{List, _∷_}
+use Prim.Native.Nat.{ℕ, suc, _+_, _-_, _*_, _≤_, _<_}
 use native.Mathlib.Omega.{arith}
 use lib.Dec.{eqb, ltb, leb}
-use lib.ListN.{length, drop}
+use lib.ListN.{drop}
 use lib.Seq.{drop-drop}
 use borrow.Author.Tests.{lt-ltb, le-ltb, le-leb, lt-leb, eq-eqb, ne-eqb}
-use Rattle.model.specs.Rules.{Atom, atomsOk, hasEqual}
+use Rattle.model.specs.Rules.{atomsOk, hasEqual}
 use Rattle.model.specs.Files.{numberAt, atomsFrom}
 use Rattle.model.proofs.Bytes.{number-later}
 
@@ -98,16 +98,18 @@ no-equal-start count s =
     let z : count - 0 ≡ count = omega arith in
     record { turns = omega arith; rest-is = rw z }
 
-module _ {count j : ℕ} {s : List ℕ} (inv : NoEqual count j s) (h : j < count) (x : ℕ) (x-is : x ≡ numberAt (3 * j + 1) s) where
-  equal-at :
-      hasEqual (atomsFrom count s) ≡ (eqb x 2 || hasEqual (atomsFrom (count - (j + 1)) (drop (6 * (j + 1)) s)))
-  equal-at = sym (inv .rest-is) ∙ (ap hasEqual (atoms-rest count j s h) ∙ rw x-is)
+module _
+    {count j : ℕ} {s : List ℕ} (inv : NoEqual count j s) (h : j < count) (x : ℕ) (x-is : x ≡ numberAt (3 * j + 1) s)
+  where
+    equal-at :
+        hasEqual (atomsFrom count s) ≡ (eqb x 2 || hasEqual (atomsFrom (count - (j + 1)) (drop (6 * (j + 1)) s)))
+    equal-at = sym (inv .rest-is) ∙ (ap hasEqual (atoms-rest count j s h) ∙ rw x-is)
 
-  pub equal-found : x ≡ 2 → true ≡ hasEqual (atomsFrom count s)
-  equal-found e = sym (equal-at ∙ rw (eq-eqb x 2 e))
+    pub equal-found : x ≡ 2 → true ≡ hasEqual (atomsFrom count s)
+    equal-found e = sym (equal-at ∙ rw (eq-eqb x 2 e))
 
-  pub no-equal-next : (x ≡ 2 → ⊥) → NoEqual count (j + 1) s
-  no-equal-next n = record { turns = omega arith; rest-is = sym (equal-at ∙ rw (ne-eqb x 2 n)) }
+    pub no-equal-next : (x ≡ 2 → ⊥) → NoEqual count (j + 1) s
+    no-equal-next n = record { turns = omega arith; rest-is = sym (equal-at ∙ rw (ne-eqb x 2 n)) }
 
 pub no-equal-end :
     {count j : ℕ} {s : List ℕ} → NoEqual count j s → count ≤ j → false ≡ hasEqual (atomsFrom count s)

@@ -1,28 +1,27 @@
 -- The whole reading: what goes on from the cursor is what the file spells, up to a refusal or the end of the file.
 use mathlib.Core.Path.{_≡_, refl, sym, _∙_, ap, ap₂}
-use mathlib.Core.Bool.{Bool, true, false, not}
-use mathlib.Core.List.{List, [], _∷_}
-use Prim.Native.Nat.{ℕ, suc, _+_, _-_, _≤_, _<_}
+use mathlib.Core.Bool.{true, false}
+use mathlib.Core.List.{List}
+use Prim.Native.Nat.{ℕ, _-_, _≤_, _<_}
 use native.Mathlib.Omega.{arith}
-use lib.Dec.{eqb, ltb, leb}
 use lib.ListN.{length, drop, length-drop, length-replicate}
 use lib.Seq.{drop-drop}
 use borrow.Author.Tests.{le-leb, lt-ltb, le-ltb, eq-eqb, ne-eqb}
 use Rattle.model.specs.declared.Head.{Head}
 use Rattle.model.specs.declared.Reading.{Reading}
-use Rattle.model.specs.Basics.{pick, zeros, maskOf, Refusal, refusal, fine, refuse, passes, _⨾_}
-use Rattle.model.specs.Rules.{Rule, cm, pairCount, mostPairs}
+use Rattle.model.specs.Basics.{zeros, maskOf, Refusal, refusal, passes}
+use Rattle.model.specs.Rules.{Rule, cm, pairCount}
 use Rattle.model.specs.Files.{noRule, Spelt, unspelt, endRefusal, atEnd, readRule}
 use Rattle.model.specs.Layout.{edgeNeed, headOf, noHead, edgesNumbers, edgeTable, ruleIn}
-use Rattle.model.specs.Promises.{tooShort, readRefusal, readingOf, edgesRead, ReadsRule}
+use Rattle.model.specs.Promises.{readRefusal, readingOf, ReadsRule}
 use Rattle.model.proofs.Valid.{Parts, sizes-of}
 use Rattle.model.proofs.TopMost.{parts-top}
 use Rattle.model.proofs.Readable.{table-spells}
-use Rattle.model.proofs.FileSteps.{recordLength, ruleAfter, readOn, read-all, read-ends, read-goes-on, read-refuses, read-settled}
-use Rattle.model.proofs.FileOutcomes.{spelt, end-unseen, end-too-many, end-fine}
+use Rattle.model.proofs.FileSteps.{recordLength, ruleAfter, readOn, read-all, read-ends, read-goes-on, read-refuses}
+use Rattle.model.proofs.FileOutcomes.{end-unseen, end-too-many, end-fine}
 use Rattle.edges.specs.Powers.{smallPairs}
 use Rattle.reader.specs.declared.Cursor.{Cursor}
-use Rattle.reader.specs.State.{Holds, Stage, none, some, State, Goes-on, Stops, Under-way, RefusedAt, Finishes, Cleared, ReadsRecords}
+use Rattle.reader.specs.State.{Stage, none, some, State, Goes-on, Stops, Under-way, RefusedAt, Finishes, Cleared, ReadsRecords}
 
 -- readings of a refusal, of a rule, and before anything is read
 abbrev readingBy : Spelt → Reading
@@ -69,7 +68,8 @@ module _ {file : List ℕ} {c : Cursor} {t : List ℕ} (inv : Reads file c t) wh
         (sym (read-goes-on (c .at) (c .last) (inv .rule) (drop (c .at) file) (left-over h) (g .passes-all)) ∙ inv .on);
   }
 
-  pub next-less : {t′ : List ℕ} {d : Cursor} → Goes-on file (inv .rule) c t′ d → length file - d .at < length file - c .at
+  pub next-less :
+      {t′ : List ℕ} {d : Cursor} → Goes-on file (inv .rule) c t′ d → length file - d .at < length file - c .at
   next-less g = omega (arith, g .at-is, g .inside)
 
   stops-spelt : (n : ℕ) → c .at < length file → Stops file (inv .rule) c n → readRule file ≡ unspelt (refusal n (c .at))

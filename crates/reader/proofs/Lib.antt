@@ -1,5 +1,5 @@
 pub mod Atoms
-pub mod Faults
+pub mod FaultLaws
 pub mod Stored
 pub mod Taken
 pub mod Tables

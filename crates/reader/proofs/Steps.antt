@@ -1,22 +1,22 @@
 -- One step of the reading: the record at the cursor is refused, or taken, as the definition has it.
-use mathlib.Core.Path.{_≡_, refl, sym, _∙_, ap}
-use mathlib.Core.Bool.{Bool, true, false, _&&_, _||_, not}
-use mathlib.Core.List.{List, [], _∷_}
-use Prim.Native.Nat.{ℕ, suc, _+_, _-_, _*_, _%_, _^_, _≤_, _<_}
+use mathlib.Core.Path.{_≡_, sym, _∙_, ap}
+use mathlib.Core.Bool.{Bool, true, false, not}
+use mathlib.Core.List.{List}
+use Prim.Native.Nat.{ℕ, _+_, _-_, _%_, _^_, _≤_, _<_}
 use native.Mathlib.Omega.{arith}
-use lib.Dec.{eqb, ltb, leb}
+use lib.Dec.{eqb, ltb}
 use lib.ListN.{length, take, drop, length-drop}
 use borrow.Author.Tests.{ltb-false, eqb-true, ne-eqb}
-use Rattle.model.specs.Basics.{within, Refusal, refusal}
+use Rattle.model.specs.Basics.{within, Refusal}
 use Rattle.model.specs.Rules.{Rule}
-use Rattle.model.specs.Files.{recordHead, bodyLength, kindOf, bodyOf, edgeBody, bodyOk, cutShort, recordRefusal, withRecord}
+use Rattle.model.specs.Files.{bodyLength, kindOf, bodyOf, edgeBody, bodyOk, cutShort, recordRefusal}
 use Rattle.model.proofs.Logic.{by-test, and-left, and-right, neither-right, within-least, within-most}
 use Rattle.model.proofs.FileRecords.{Allowed}
-use Rattle.model.proofs.FileChecks.{Record-allowed, record-allowed}
+use Rattle.model.proofs.FileChecks.{record-allowed}
 use Rattle.edges.proofs.Answers.{failed, passed}
 use Rattle.edges.proofs.Parts.{part-rest}
 use Rattle.reader.specs.declared.Cursor.{Cursor}
-use Rattle.reader.specs.State.{Holds, numbered, bodyRefusal, Body, Room, Takes, State, Goes-on, Stops}
+use Rattle.reader.specs.State.{numbered, bodyRefusal, Body, Room, Takes, State, Goes-on, Stops}
 use Rattle.reader.proofs.Allowed.{room-for, state-after}
 
 -- the file from the record on, and its body, as the code has them
@@ -43,8 +43,10 @@ body-least : (kind n : ℕ) → bodyOk kind n ≡ true → 2 ≤ n
 body-least kind n h =
     by-test (eqb kind 1) (λ a. omega (arith, eqb-true n 6 (rw a at h)))
     (λ a. by-test (within 2 4 kind) (λ b. omega (arith, eqb-true n 2 (rw (a, b) at h)))
-    (λ b. omega
-    (arith, within-least 8 56 n (and-left (within 8 56 n) (eqb ((n - 8) % 6) 0) (and-right (eqb kind 5) (edgeBody n) (rw (a, b) at h))))))
+    (λ b. omega (arith, edge-least (and-right (eqb kind 5) (edgeBody n) (rw (a, b) at h)))))
+  where
+    edge-least : edgeBody n ≡ true → 8 ≤ n
+    edge-least q = within-least 8 56 n (and-left (within 8 56 n) (eqb ((n - 8) % 6) 0) q)
 
 pub body-of : (kind n : ℕ) (body : List ℕ) → bodyOk kind n ≡ true → n ≤ length body → Body kind n body
 body-of kind n body h whole = record {

@@ -4,11 +4,11 @@ use mathlib.Core.List.{List, [], _∷_, _++_, append-assoc, append-nil}
 use Prim.Native.Nat.{ℕ, zero, suc, _+_, _-_, _*_, _/_, _≤_, _<_}
 use native.Mathlib.Omega.{arith}
 use native.Mathlib.Numerals.{add-one}
-use lib.ListN.{length, getD, take, drop, set, length-set, length-drop, length-replicate}
+use lib.ListN.{length, getD, take, drop, set, length-set}
 use lib.Seq.{drop-length, drop-cons, drop-drop, set-at, length-take-le}
-use borrow.Rule.Slice.PartMut.{putMid, postOf}
+use borrow.Rule.Slice.PartMut.{putMid}
 use Rattle.model.specs.Basics.{zeros}
-use Rattle.model.specs.Rules.{Atom, Edge, mostAtoms}
+use Rattle.model.specs.Rules.{Atom, mostAtoms}
 use Rattle.model.specs.Files.{numberAt, atomsFrom, atomNumbers, edgeFrom}
 use Rattle.model.specs.Layout.{edgeWidth, edgeNumbers}
 use Rattle.model.proofs.Bytes.{numbersOf, number-later, atom-numbers-length}
@@ -111,7 +111,8 @@ module _
             let n : ℕ = (size - 8) / 6 in
             let few : 3 * n ≤ length (zeros 24) = omega arith in
             copied
-            ∙ rw (past-is, begun-is, part-rest 8 body, length-take-le (3 * n) (zeros 24) few) (atoms-numbers n (drop 8 body))
+            ∙ rw (past-is, begun-is, part-rest 8 body, length-take-le (3 * n) (zeros 24) few)
+            (atoms-numbers n (drop 8 body))
 
         pub edge-stored :
             putMid 5 (5 + 3 * ((size - 8) / 6) - 5) (set (fields ++ drop 4 edge) 4 m) atoms

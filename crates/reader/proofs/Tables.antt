@@ -1,16 +1,16 @@
--- The table as far as it is read: the edges' numbers, then zeros. The next edge has 29 zeros for its places, and once it
--- stands there the table is that of the rule with one edge more.
+-- The table as far as it is read: the edges' numbers, then zeros. The next edge has 29 zeros for its places, and once
+-- it stands there the table is that of the rule with one edge more.
 use mathlib.Core.Path.{_≡_, refl, sym, _∙_, ap, ap₂}
-use mathlib.Core.List.{List, [], _∷_, _++_, append-assoc}
-use Prim.Native.Nat.{ℕ, zero, suc, _+_, _-_, _*_, _≤_, _<_}
+use mathlib.Core.List.{List, _∷_, _++_, append-assoc}
+use Prim.Native.Nat.{ℕ, zero, suc, _+_, _-_, _*_, _≤_}
 use native.Mathlib.Omega.{arith}
-use lib.ListN.{length, take, drop, replicate, length-append}
-use lib.Seq.{take-at, drop-at, drop-drop, take-append-le}
+use lib.ListN.{length, take, drop, length-append}
+use lib.Seq.{take-at, drop-at}
 use Rattle.model.specs.Basics.{zeros, filled}
 use Rattle.model.specs.Rules.{Edge, Rule, mostAtoms}
 use Rattle.model.specs.Files.{withEdge}
-use Rattle.model.specs.Layout.{edgeNeed, edgeWidth, edgeNumbers, edgesNumbers, edgeTable}
-use Rattle.model.proofs.EdgesWritten.{filled-length, edge-numbers-length, edges-numbers-last}
+use Rattle.model.specs.Layout.{edgeNumbers, edgesNumbers, edgeTable}
+use Rattle.model.proofs.EdgesWritten.{edge-numbers-length, edges-numbers-last}
 use Rattle.reader.specs.State.{tableWith}
 use Rattle.reader.proofs.Stored.{drop-zeros}
 

@@ -1,19 +1,16 @@
 -- A record taken: what the cursor holds afterwards, for each kind, and the table with one edge more.
 use mathlib.Core.Path.{_≡_, refl, sym, _∙_, ap}
-use mathlib.Core.Bool.{Bool, true, false}
-use mathlib.Core.List.{List, [], _∷_, _++_}
-use Prim.Native.Nat.{ℕ, suc, _+_, _-_, _*_, _^_, _≤_, _<_}
+use mathlib.Core.List.{List, [], _∷_}
+use Prim.Native.Nat.{ℕ, _+_, _-_, _*_, _^_}
 use native.Mathlib.Omega.{arith}
 use native.Mathlib.Numerals.{add-one}
-use lib.Dec.{eqb}
 use lib.ListN.{length, take, drop, length-append}
-use borrow.Author.Tests.{ne-eqb}
 use borrow.Rule.Slice.PartMut.{putMid}
 use Rattle.model.specs.declared.Head.{Head}
 use Rattle.model.specs.Basics.{zeros, maskOf}
 use Rattle.model.specs.Rules.{Edge, Rule}
 use Rattle.model.specs.Files.{numberAt, edgeFrom, withSizes, withInitial, withFinal, withCeiling, withEdge, withRecord}
-use Rattle.model.specs.Layout.{edgeWidth, headOf, edgeNumbers}
+use Rattle.model.specs.Layout.{edgeNumbers}
 use Rattle.model.proofs.ValidParts.{past-last}
 use Rattle.model.proofs.MaskSets.{mask-last}
 use Rattle.reader.specs.declared.Cursor.{Cursor}

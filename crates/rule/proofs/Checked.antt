@@ -12,12 +12,13 @@ use Rattle.model.specs.declared.Head.{Head}
 use Rattle.model.specs.declared.Answer.{Answer}
 use Rattle.model.specs.Basics.{filled, same, maskOf, bitsFrom, Refusal, refusal, fine, refuse, _⨾_}
 use Rattle.model.specs.Rules.{Edge, rule, Rule, largestOf, cm, pairCount, mostPairs, mostEdges, sizesOk, rising, edgesOk, validRule}
-use Rattle.model.specs.Layout.{edgesNumbers, edgeNeed, edgeTable, edgesIn, ruleIn, sameMasks, isReadable, ruleRefusal}
+use Rattle.model.specs.Layout.{edgesNumbers, edgeNeed, edgeTable, edgesIn, ruleIn, isReadable, ruleRefusal}
 use Rattle.model.specs.Promises.{ChecksRule}
-use Rattle.model.proofs.Logic.{same-truth, and-left, and-right, same-equal, larger-most}
-use Rattle.model.proofs.Refusals.{refused-false, first-passes, then-passes, Settled, refuse-settled, then-settled}
+use Rattle.model.proofs.Logic.{same-truth, and-left, and-right, larger-most}
+use Rattle.model.proofs.Refusals.{refused-false, first-passes, then-passes}
 use Rattle.model.proofs.Valid.{Sizes, sizes-of}
 use Rattle.model.proofs.TopMost.{edges-top}
+use Rattle.model.proofs.Readable.{rule-settled, readable-of}
 use Rattle.model.proofs.MaskSets.{mask-below, bits-rise, mask-again}
 use Rattle.model.proofs.EdgeTable.{edges-length}
 use Rattle.edges.specs.Powers.{smallPairs}
@@ -117,55 +118,42 @@ pairs-good h t p q long edges e =
       le-leb (cm (ruleIn h t)) 30 (good-top h t good long edges),
     )
 
--- What a call that passes has shown.
+-- What a call that passes has shown: 20 and 21 do not refuse, so that the rule is valid, and head record and edge table
+-- are what that rule becomes.
 pub record Checked (h : Head) (t : List ℕ) : Type 0 where
+  pub passes-both : ruleRefusal h t ≡ fine
+  pub long : edgeNeed ≤ length t
   pub readable : isReadable h t ≡ true
   pub valid : validRule (ruleIn h t) ≡ true
-  pub long : edgeNeed ≤ length t
+  pub starts-are : maskOf (ruleIn h t .initial) ≡ h .starts
+  pub ends-are : maskOf (ruleIn h t .final) ≡ h .ends
   pub table-is : edgeTable (length t) (ruleIn h t) ≡ t
-
-readable-checked : (h : Head) (t : List ℕ) → isReadable h t ≡ true → edgeNeed ≤ length t → Checked h t
-unfolding isReadable
-readable-checked h t q long =
-    let r : Rule = ruleIn h t in
-    let a : Bool = validRule r in
-    let b : Bool = sameMasks r h in
-    let c : Bool = same (edgeTable (length t) r) t in
-    record {
-      readable = q;
-      valid = and-left a b (and-left (a && b) c q);
-      long = long;
-      table-is = same-equal (edgeTable (length t) r) t (and-right (a && b) c q);
-    }
 
 -- the refusal that a call answers
 pub refusal-is :
     {h : Head} {t : List ℕ} {answer : Answer} → ChecksRule h t answer
     → ruleRefusal h t ≡ refusal (answer .number) (answer .place)
-refusal-is {h} {t} {answer} q = rw (q .answer-is)
+refusal-is q = rw (q .answer-is)
 
 pub passed-checked :
     {h : Head} {t : List ℕ} {answer : Answer} → ChecksRule h t answer → answer .number ≡ 0 → Checked h t
 unfolding ruleRefusal
-passed-checked {h} {t} {answer} q e =
+passed-checked {h} {t} q e =
     let f : Refusal = refuse (ltb (length t) edgeNeed) 20 0 in
     let g : Refusal = refuse (not (isReadable h t)) 21 0 in
     let z : (f ⨾ g) .number ≡ 0 = ap (λ (x : Refusal). x .number) (refusal-is q) ∙ e in
-    readable-checked h t
-    (not-false (isReadable h t) (refused-false (not (isReadable h t)) 20 0 (then-passes f g z)))
-    (ltb-false (length t) edgeNeed (refused-false (ltb (length t) edgeNeed) 19 0 (first-passes f g z)))
-
-rule-settled : (h : Head) (t : List ℕ) → Settled (ruleRefusal h t)
-unfolding ruleRefusal
-rule-settled h t =
-    then-settled (refuse (ltb (length t) edgeNeed) 20 0) (refuse (not (isReadable h t)) 21 0)
-    (refuse-settled (ltb (length t) edgeNeed) 19 0)
-    (refuse-settled (not (isReadable h t)) 20 0)
-
-pub passed-fine :
-    {h : Head} {t : List ℕ} {answer : Answer} → ChecksRule h t answer → answer .number ≡ 0
-    → ruleRefusal h t ≡ fine
-passed-fine {h} {t} q e = rule-settled h t (ap (λ (x : Refusal). x .number) (refusal-is q) ∙ e)
+    let fits : isReadable h t ≡ true =
+    not-false (isReadable h t) (refused-false (not (isReadable h t)) 20 0 (then-passes f g z)) in
+    let own = readable-of h t fits in
+    record {
+      passes-both = rule-settled h t z;
+      long = ltb-false (length t) edgeNeed (refused-false (ltb (length t) edgeNeed) 19 0 (first-passes f g z));
+      readable = fits;
+      valid = own .valid;
+      starts-are = own .starts-are;
+      ends-are = own .ends-are;
+      table-is = own .table-is;
+    }
 
 -- the three answers
 pub answers-short :

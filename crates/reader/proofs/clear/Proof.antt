@@ -1,17 +1,15 @@
 -- `reader::clear` meets its contract: zeros up to i, then what stood there.
-use Rattle.model.specs.Basics.{zeros}
-use borrow.Author.Fill.{fill-more}
-use lib.Seq.{drop-length}
-use lib.ListN.{length, drop}
-use native.Mathlib.Omega.{arith}
-use Prim.Native.Nat.{_-_, _≤_}
-use mathlib.Core.List.{_++_, append-nil}
 use mathlib.Core.Path.{_≡_, _∙_}
+use mathlib.Core.List.{_++_, append-nil}
+use Prim.Native.Nat.{_-_, _≤_}
+use native.Mathlib.Omega.{arith}
+use lib.ListN.{length, drop}
+use lib.Seq.{drop-length}
+use borrow.Author.Fill.{fill-more}
 use borrow.Author.Needs.{needs}
+use Rattle.model.specs.Basics.{zeros}
 use Rattle.reader.proofs.clear.Statement.{statement}
 use Rattle.reader.proofs.clear.Tie as tie
-use Rattle.reader.proofs.clear.Reads as reads
-use Rattle.reader.proofs.clear.Lts as lts
 
 abbrev Inv-loop : tie.InvT-loop
 Inv-loop edges₀ i₀ edges i =
@@ -20,38 +18,30 @@ Inv-loop edges₀ i₀ edges i =
 abbrev μ-loop : tie.MeasureT-loop
 μ-loop edges₀ i₀ edges i = length edges₀ - i
 
--- src/lib.rt:415:5
 loop-holds : tie.Need-loop-holds Inv-loop μ-loop
 loop-holds c = search needs
 
--- src/lib.rt:416:9
 mul-edges : tie.Need-mul-edges Inv-loop μ-loop
 mul-edges c = search needs
 
--- src/lib.rt:416:9
 slice-write-edges : tie.Need-slice-write-edges Inv-loop μ-loop
 slice-write-edges c = search needs
 
--- src/lib.rt:417:9
 add-i : tie.Need-add-i Inv-loop μ-loop
 add-i c = search needs
 
--- src/lib.rt:415:5
 loop-less : tie.Need-loop-less Inv-loop μ-loop
 loop-less c = search needs
 
--- src/lib.rt:415:5
 loop-again : tie.Need-loop-again Inv-loop μ-loop
 loop-again c =
     let l = c .before .loop in
     let a = c .before .before .args in
     (search needs, search needs, rw (l .inv .2) (fill-more (l .i) 0 (a .edges .now) (search needs)))
 
--- src/lib.rt:411:1
 same-length : tie.Need-same-length Inv-loop μ-loop
 same-length c = search needs
 
--- src/lib.rt:411:1
 returns : tie.Need-returns Inv-loop μ-loop
 returns c =
     let l = c .before .loop in

@@ -1,30 +1,21 @@
 -- `reader::finish` meets its contract: 3, then 8, else the head record.
-use Rattle.reader.proofs.Ends.{ends-unseen, ends-too-many, ends-read}
 use borrow.Author.Needs.{needs}
+use Rattle.reader.proofs.Ends.{ends-unseen, ends-too-many, ends-read}
 use Rattle.reader.proofs.finish.Statement.{statement}
 use Rattle.reader.proofs.finish.Tie as tie
-use Rattle.reader.proofs.finish.Reads as reads
-use Rattle.reader.proofs.finish.Lts as lts
-use Rattle.edges.proofs.pairs_of.Reads as pairs-of-reads
-use Rattle.reader.proofs.refused.Reads as refused-reads
 
--- src/lib.rt:451:9
 refused-requires : tie.Need-refused-requires
 refused-requires c κs = search needs
 
--- src/lib.rt:451:9
 returns : tie.Need-returns
 returns c = λ r state. ends-unseen state (c .before .if1 .taken) (c .refused .ensures)
 
--- src/lib.rt:453:16
 pairs-of-requires : tie.Need-pairs-of-requires
 pairs-of-requires c κs = search needs
 
--- src/lib.rt:454:9
 refused-requires-2 : tie.Need-refused-requires-2
 refused-requires-2 c κs = search needs
 
--- src/lib.rt:454:9
 returns-2 : tie.Need-returns-2
 returns-2 c =
     let if2 = c .before .if2 in
@@ -32,7 +23,6 @@ returns-2 c =
     let if1 = c .before .before .before .if1 in
     λ r state. ends-too-many state (if1 .left) (pairs-of .ensures) (if2 .taken) (c .refused2 .ensures)
 
--- src/lib.rt:446:1
 returns-3 : tie.Need-returns-3
 returns-3 c =
     λ r state. ends-read state (c .before .before .if1 .left) (c .before .pairs-of .ensures) (c .if2 .left)

@@ -1,19 +1,13 @@
 -- `reader::read_records` meets its contract: what goes on from the cursor is what the file spells.
-use Rattle.reader.proofs.Ends.{Reads, reads-under-way, reads-start, reads-next, next-less, reads-stops, reads-ends}
+use mathlib.Core.Path.{_≡_, refl, _∙_, subst}
+use Prim.Native.Nat.{_-_}
+use lib.ListN.{length}
+use borrow.Author.Needs.{needs}
 use Rattle.reader.specs.State.{StepIs}
 use Rattle.reader.specs.declared.Step.{Step}
-use lib.ListN.{length}
-use Prim.Native.Nat.{_-_}
-use mathlib.Core.Path.{_≡_, refl, _∙_, subst}
-use borrow.Author.Needs.{needs}
+use Rattle.reader.proofs.Ends.{Reads, reads-under-way, reads-start, reads-next, next-less, reads-stops, reads-ends}
 use Rattle.reader.proofs.read_records.Statement.{statement}
 use Rattle.reader.proofs.read_records.Tie as tie
-use Rattle.reader.proofs.read_records.Reads as reads
-use Rattle.reader.proofs.read_records.Lts as lts
-use Rattle.reader.proofs.Cursor.step.Reads as step-reads
-use Rattle.reader.proofs.finish.Reads as finish-reads
-use Rattle.reader.proofs.no_head.Reads as no-head-reads
-use Rattle.reader.proofs.refused.Reads as refused-reads
 
 abbrev Inv-loop : tie.InvT-loop
 Inv-loop file edges₀ cursor₀ edges cursor = (length edges ≡ length edges₀) × Reads file cursor edges
@@ -21,23 +15,18 @@ Inv-loop file edges₀ cursor₀ edges cursor = (length edges ≡ length edges�
 abbrev μ-loop : tie.MeasureT-loop
 μ-loop file edges₀ cursor₀ edges cursor = length file - cursor .at
 
--- src/lib.rt:473:15
 no-head-requires : tie.Need-no-head-requires Inv-loop μ-loop
 no-head-requires c κs = search needs
 
--- src/lib.rt:475:5
 loop-holds : tie.Need-loop-holds Inv-loop μ-loop
 loop-holds c = (refl, reads-start _ _ _ (c .before .before .before .pre) (c .no-head .ensures))
 
--- src/lib.rt:477:13
 step-requires : tie.Need-step-requires Inv-loop μ-loop
 step-requires c κs = (c .before .if1 .taken, reads-under-way (c .before .before .before .loop .inv .1))
 
--- src/lib.rt:479:24
 enum-known-step : tie.Need-enum-known-step Inv-loop μ-loop
 enum-known-step c = search needs
 
--- src/lib.rt:475:5
 loop-less : tie.Need-loop-less Inv-loop μ-loop
 loop-less c =
     let step2 = c .before .step2 in
@@ -49,7 +38,6 @@ loop-less c =
     (subst (λ (x : Step). StepIs (a .file .now) (l .inv .1 .rule) (l .cursor) (step .last .1 .1 .0) x)
     (step2 .given .1) (step .ensures (l .inv .1 .rule) (l .inv .1 .state)))
 
--- src/lib.rt:475:5
 loop-again : tie.Need-loop-again Inv-loop μ-loop
 loop-again c =
     let step2 = c .before .step2 in
@@ -65,15 +53,12 @@ loop-again c =
           (step2 .given .1) (step .ensures (l .inv .1 .rule) (l .inv .1 .state))),
     )
 
--- src/lib.rt:482:27
 enum-known-step-2 : tie.Need-enum-known-step-2 Inv-loop μ-loop
 enum-known-step-2 c = search needs
 
--- src/lib.rt:483:17
 refused-requires : tie.Need-refused-requires Inv-loop μ-loop
 refused-requires c κs = search needs
 
--- src/lib.rt:483:17
 same-length : tie.Need-same-length Inv-loop μ-loop
 same-length c =
     let step = c .before .before .before .before .before .before .step in
@@ -81,7 +66,6 @@ same-length c =
     let l = back .before .loop in
     step .kept .1 .1 .0 ∙ l .inv .0
 
--- src/lib.rt:483:17
 returns : tie.Need-returns Inv-loop μ-loop
 returns c =
     let step3 = c .before .before .step3 in
@@ -94,15 +78,12 @@ returns c =
     (subst (λ (x : Step). StepIs (a .file .now) (l .inv .1 .rule) (l .cursor) (step .last .1 .1 .0) x)
     (step3 .given .1) (step .ensures (l .inv .1 .rule) (l .inv .1 .state))) (c .refused .ensures)
 
--- src/lib.rt:487:5
 finish-requires : tie.Need-finish-requires Inv-loop μ-loop
 finish-requires c κs = search needs
 
--- src/lib.rt:464:1
 same-length-2 : tie.Need-same-length-2 Inv-loop μ-loop
 same-length-2 c = c .before .before .before .before .loop .inv .0
 
--- src/lib.rt:464:1
 returns-2 : tie.Need-returns-2 Inv-loop μ-loop
 returns-2 c =
     let if1 = c .before .before .if1 in

@@ -1,32 +1,23 @@
 -- `reader::read_rule` meets its promise.
-use Rattle.reader.proofs.Ends.{reads-short, is-cleared, reads-refused, reads-rule}
-use Rattle.model.specs.Basics.{zeros}
 use mathlib.Core.Path.{_∙_, ap}
 use borrow.Author.Needs.{needs}
+use Rattle.model.specs.Basics.{zeros}
+use Rattle.reader.proofs.Ends.{reads-short, is-cleared, reads-refused, reads-rule}
 use Rattle.reader.proofs.read_rule.Statement.{statement}
 use Rattle.reader.proofs.read_rule.Tie as tie
-use Rattle.reader.proofs.read_rule.Reads as reads
-use Rattle.reader.proofs.read_rule.Lts as lts
-use Rattle.reader.proofs.clear.Reads as clear-reads
-use Rattle.reader.proofs.read_records.Reads as read-records-reads
-use Rattle.reader.proofs.refused.Reads as refused-reads
 
--- src/lib.rt:495:9
 refused-requires : tie.Need-refused-requires
 refused-requires c κs = search needs
 
--- src/lib.rt:495:9
 returns : tie.Need-returns
 returns c =
     let if1 = c .before .if1 in
     let a = c .before .before .before .before .args in
     reads-short (a .file .now) (a .edges .now) (if1 .taken) (c .refused .ensures)
 
--- src/lib.rt:497:5
 clear-requires : tie.Need-clear-requires
 clear-requires c κs = search needs
 
--- src/lib.rt:498:9
 read-records-requires : tie.Need-read-records-requires
 read-records-requires c κs =
     let clear = c .before .before .before .clear in
@@ -34,15 +25,12 @@ read-records-requires c κs =
     let a = c .before .before .before .before .before .before .before .before .args in
     is-cleared (a .file .now) (a .edges .now) (if1 .left) (clear .ensures)
 
--- src/lib.rt:500:9
 clear-requires-2 : tie.Need-clear-requires-2
 clear-requires-2 c κs = search needs
 
--- src/lib.rt:491:1
 same-length : tie.Need-same-length
 same-length c = search needs
 
--- src/lib.rt:491:1
 returns-2 : tie.Need-returns-2
 returns-2 c =
     let clear2 = c .before .before .clear2 in
@@ -55,11 +43,9 @@ returns-2 c =
     reads-refused (a .file .now) (a .edges .now) (if1 .left) (clear .kept .0) (read-records .ensures)
     (if2 .taken) (clear2 .ensures ∙ ap zeros (read-records .kept .1 .0 ∙ clear .kept .0))
 
--- src/lib.rt:491:1
 same-length-2 : tie.Need-same-length-2
 same-length-2 c = search needs
 
--- src/lib.rt:491:1
 returns-3 : tie.Need-returns-3
 returns-3 c =
     let read-records = c .before .before .before .before .read-records in

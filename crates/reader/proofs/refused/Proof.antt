@@ -2,15 +2,10 @@
 use borrow.Author.Needs.{needs}
 use Rattle.reader.proofs.refused.Statement.{statement}
 use Rattle.reader.proofs.refused.Tie as tie
-use Rattle.reader.proofs.refused.Reads as reads
-use Rattle.reader.proofs.refused.Lts as lts
-use Rattle.reader.proofs.no_head.Reads as no-head-reads
 
--- src/lib.rt:441:15
 no-head-requires : tie.Need-no-head-requires
 no-head-requires c κs = search needs
 
--- src/lib.rt:435:1
 returns : tie.Need-returns
 returns c = record { answer-is = rw (c .no-head .ensures) }
 

@@ -1,48 +1,34 @@
 -- `reader::Cursor::step` meets its contract: the faults in their order, then the record is taken.
-use Rattle.reader.proofs.Steps.{restOf, rest-whole, stops-cut, stops-body, body-known, stops-fault, taken-room, goes-on}
 use native.Mathlib.Omega.{arith}
 use borrow.Author.Needs.{needs}
+use Rattle.reader.proofs.Steps.{restOf, rest-whole, stops-cut, stops-body, body-known, stops-fault, taken-room, goes-on}
 use Rattle.reader.proofs.Cursor.step.Statement.{statement}
 use Rattle.reader.proofs.Cursor.step.Tie as tie
-use Rattle.reader.proofs.Cursor.step.Reads as reads
-use Rattle.reader.proofs.Cursor.step.Lts as lts
-use Rattle.reader.proofs.Cursor.taken.Reads as taken-reads
-use Rattle.reader.proofs.body_fault.Reads as body-fault-reads
-use Rattle.reader.proofs.body_ok.Reads as body-ok-reads
-use Rattle.reader.proofs.cut_short.Reads as cut-short-reads
-use Rattle.reader.proofs.number_at.Reads as number-at-reads
 
--- src/lib.rt:393:20
 sub-rest : tie.Need-sub-rest
 sub-rest c = search needs
 
--- src/lib.rt:393:20
 part-rest-start : tie.Need-part-rest-start
 part-rest-start c = search needs
 
--- src/lib.rt:393:20
 part-rest-end : tie.Need-part-rest-end
 part-rest-end c = search needs
 
--- src/lib.rt:394:12
 cut-short-requires : tie.Need-cut-short-requires
 cut-short-requires c κs = search needs
 
--- src/lib.rt:395:13
 returns : tie.Need-returns
 returns c =
     let cut-short = c .before .cut-short in
     let a = c .before .before .before .before .before .args in
     λ r state. stops-cut (a .file .now) r (a .self) (cut-short .ensures) (c .if1 .taken)
 
--- src/lib.rt:397:13
 number-at-requires : tie.Need-number-at-requires
 number-at-requires c κs =
     let cut-short = c .before .cut-short in
     let a = c .before .before .before .before .before .args in
     omega (arith, rest-whole (restOf (a .file .now) (a .self .at)) (cut-short .ensures) (c .if1 .left))
 
--- src/lib.rt:398:13
 number-at-requires-2 : tie.Need-number-at-requires-2
 number-at-requires-2 c κs =
     let if1 = c .before .if1 in
@@ -50,11 +36,9 @@ number-at-requires-2 c κs =
     let a = c .before .before .before .before .before .before .args in
     omega (arith, rest-whole (restOf (a .file .now) (a .self .at)) (cut-short .ensures) (if1 .left))
 
--- src/lib.rt:399:13
 body-ok-requires : tie.Need-body-ok-requires
 body-ok-requires c κs = search needs
 
--- src/lib.rt:400:13
 returns-2 : tie.Need-returns-2
 returns-2 c =
     let body-ok = c .before .body-ok in
@@ -66,7 +50,6 @@ returns-2 c =
     λ r state. stops-body (a .file .now) r (a .self) (cut-short .ensures) (if1 .left) (number-at .result)
     (number-at2 .result) (number-at .ensures .0) (number-at2 .ensures .0) (body-ok .ensures) (c .if2 .taken)
 
--- src/lib.rt:402:20
 sub-body : tie.Need-sub-body
 sub-body c =
     let if1 = c .before .before .before .before .if1 in
@@ -74,7 +57,6 @@ sub-body c =
     let a = c .before .before .before .before .before .before .before .before .before .args in
     omega (arith, rest-whole (restOf (a .file .now) (a .self .at)) (cut-short .ensures) (if1 .left))
 
--- src/lib.rt:402:20
 part-body-start : tie.Need-part-body-start
 part-body-start c =
     let if1 = c .before .before .before .before .if1 in
@@ -82,11 +64,9 @@ part-body-start c =
     let a = c .before .before .before .before .before .before .before .before .before .args in
     omega (arith, rest-whole (restOf (a .file .now) (a .self .at)) (cut-short .ensures) (if1 .left))
 
--- src/lib.rt:402:20
 part-body-end : tie.Need-part-body-end
 part-body-end c = search needs
 
--- src/lib.rt:403:13
 body-fault-requires : tie.Need-body-fault-requires
 body-fault-requires c κs =
     let if2 = c .before .if2 in
@@ -102,7 +82,6 @@ body-fault-requires c κs =
     body-known (a .file .now) r (a .self) (cut-short .ensures) (if1 .left) (number-at .result)
     (number-at2 .result) (number-at .ensures .0) (number-at2 .ensures .0) (body-ok .ensures) (if2 .left)
 
--- src/lib.rt:405:13
 returns-3 : tie.Need-returns-3
 returns-3 c =
     let body-fault = c .before .body-fault in
@@ -118,7 +97,6 @@ returns-3 c =
     (number-at2 .result) (number-at .ensures .0) (number-at2 .ensures .0) (body-ok .ensures) (if2 .left) _
     (body-fault .ensures r (state .holds)) (c .if3 .taken)
 
--- src/lib.rt:407:20
 taken-requires : tie.Need-taken-requires
 taken-requires c κs =
     let if3 = c .before .if3 in
@@ -138,11 +116,9 @@ taken-requires c κs =
     (number-at2 .result) (number-at .ensures .0) (number-at2 .ensures .0) (body-ok .ensures) (if2 .left) _
     (body-fault .ensures r (state .holds)) (if3 .left) (asked .0) (a .edges .now) state (search needs)
 
--- src/lib.rt:384:5
 same-length : tie.Need-same-length
 same-length c = search needs
 
--- src/lib.rt:384:5
 returns-4 : tie.Need-returns-4
 returns-4 c =
     let taken = c .before .before .taken in

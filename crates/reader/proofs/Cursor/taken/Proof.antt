@@ -1,66 +1,47 @@
 -- `reader::Cursor::taken` meets its contract, kind by kind.
-use Rattle.reader.proofs.Taken.{takes-sizes, takes-initial, takes-final, takes-ceiling, takes-edge}
 use native.Mathlib.Omega.{arith}
 use borrow.Author.Needs.{needs}
+use Rattle.reader.proofs.Taken.{takes-sizes, takes-initial, takes-final, takes-ceiling, takes-edge}
 use Rattle.reader.proofs.Cursor.taken.Statement.{statement}
 use Rattle.reader.proofs.Cursor.taken.Tie as tie
-use Rattle.reader.proofs.Cursor.taken.Reads as reads
-use Rattle.reader.proofs.Cursor.taken.Lts as lts
-use Rattle.reader.proofs.Cursor.with_ceiling.Reads as with-ceiling-reads
-use Rattle.reader.proofs.Cursor.with_edge.Reads as with-edge-reads
-use Rattle.reader.proofs.Cursor.with_final.Reads as with-final-reads
-use Rattle.reader.proofs.Cursor.with_initial.Reads as with-initial-reads
-use Rattle.reader.proofs.Cursor.with_sizes.Reads as with-sizes-reads
-use Rattle.reader.proofs.number_at.Reads as number-at-reads
 
--- src/lib.rt:372:19
 add-past : tie.Need-add-past
 add-past c = search needs
 
--- src/lib.rt:372:19
 add-past-2 : tie.Need-add-past-2
 add-past-2 c = search needs
 
--- src/lib.rt:375:18
 with-sizes-requires : tie.Need-with-sizes-requires
 with-sizes-requires c κs = c .before .before .before .before .pre .sizes (c .match .keys1)
 
--- src/lib.rt:376:36
 number-at-requires : tie.Need-number-at-requires
 number-at-requires c κs = search needs
 
--- src/lib.rt:376:18
 with-initial-requires : tie.Need-with-initial-requires
 with-initial-requires c κs =
     let match = c .before .match in
     let asked = c .before .before .before .before .before .pre in
     rw (c .number-at .ensures .0) (asked .initial (match .keys2))
 
--- src/lib.rt:377:34
 number-at-requires-2 : tie.Need-number-at-requires-2
 number-at-requires-2 c κs = search needs
 
--- src/lib.rt:377:18
 with-final-requires : tie.Need-with-final-requires
 with-final-requires c κs =
     let match = c .before .match in
     let asked = c .before .before .before .before .before .pre in
     rw (c .number-at2 .ensures .0) (asked .final (match .keys3))
 
--- src/lib.rt:378:36
 number-at-requires-3 : tie.Need-number-at-requires-3
 number-at-requires-3 c κs = search needs
 
--- src/lib.rt:378:18
 with-ceiling-requires : tie.Need-with-ceiling-requires
 with-ceiling-requires c κs =
     omega (arith, c .before .before .before .before .before .pre .ceiling (c .before .match .keys4))
 
--- src/lib.rt:379:18
 with-edge-requires : tie.Need-with-edge-requires
 with-edge-requires c κs = c .before .before .before .before .before .pre .edge (omega arith)
 
--- src/lib.rt:367:5
 returns : tie.Need-returns
 returns c =
     let match = c .before .match in
@@ -68,7 +49,6 @@ returns c =
     takes-sizes (a .self) (a .kind) (a .size) (a .body .now) (a .edges .now) _ (c .with-sizes .ensures .0)
     (match .keys1) (c .with-sizes .ensures .1)
 
--- src/lib.rt:367:5
 returns-2 : tie.Need-returns-2
 returns-2 c =
     let number-at = c .before .number-at in
@@ -77,7 +57,6 @@ returns-2 c =
     takes-initial (a .self) (a .kind) (a .size) (a .body .now) (a .edges .now) _ (c .with-initial .ensures .0) _
     (match .keys2) (number-at .ensures .0) (c .with-initial .ensures .1)
 
--- src/lib.rt:367:5
 returns-3 : tie.Need-returns-3
 returns-3 c =
     let number-at2 = c .before .number-at2 in
@@ -86,7 +65,6 @@ returns-3 c =
     takes-final (a .self) (a .kind) (a .size) (a .body .now) (a .edges .now) _ (c .with-final .ensures .0) _
     (match .keys3) (number-at2 .ensures .0) (c .with-final .ensures .1)
 
--- src/lib.rt:367:5
 returns-4 : tie.Need-returns-4
 returns-4 c =
     let number-at3 = c .before .number-at3 in
@@ -95,11 +73,9 @@ returns-4 c =
     takes-ceiling (a .self) (a .kind) (a .size) (a .body .now) (a .edges .now) _ (c .with-ceiling .ensures .0) _
     (match .keys4) (number-at3 .ensures .0) (c .with-ceiling .ensures .1)
 
--- src/lib.rt:367:5
 same-length : tie.Need-same-length
 same-length c = search needs
 
--- src/lib.rt:367:5
 returns-5 : tie.Need-returns-5
 returns-5 c =
     let with-edge = c .before .before .with-edge in

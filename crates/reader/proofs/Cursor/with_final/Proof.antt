@@ -1,26 +1,19 @@
 -- `reader::Cursor::with_final` meets its contract.
-use Rattle.reader.proofs.Taken.{final-held}
 use mathlib.Core.Path.{refl}
 use borrow.Author.Needs.{needs}
+use Rattle.reader.proofs.Taken.{final-held}
 use Rattle.reader.proofs.Cursor.with_final.Statement.{statement}
 use Rattle.reader.proofs.Cursor.with_final.Tie as tie
-use Rattle.reader.proofs.Cursor.with_final.Reads as reads
-use Rattle.reader.proofs.Cursor.with_final.Lts as lts
-use Rattle.reader.proofs.mask_of.Reads as mask-of-reads
 
--- src/lib.rt:329:32
 mask-of-requires : tie.Need-mask-of-requires
 mask-of-requires c κs = search needs
 
--- src/lib.rt:329:20
 add-ends : tie.Need-add-ends
 add-ends c = search needs
 
--- src/lib.rt:335:18
 add-t6 : tie.Need-add-t6
 add-t6 c = search needs
 
--- src/lib.rt:324:5
 returns : tie.Need-returns
 returns c =
     let mask-of = c .before .mask-of in

@@ -1,0 +1,147 @@
+// The faults of a record, 1 to 7, each as its own test, and their order.
+ghost use mathlib.Core.Path.{_≡_};
+ghost use Prim.Native.Nat.{_≤_};
+ghost use lib.ListN.{length};
+ghost use Rattle.model.specs.Rules.{Rule};
+ghost use Rattle.model.specs.Files.{edgeBody, bodyOk, cutShort, outOfOrder, oneTooMany, badSizes, outOfRange, notPinned};
+ghost use Rattle.model.specs.Layout.{headOf};
+ghost use Rattle.reader.specs.State.{Holds, numbered, bodyRefusal, Body};
+use crate::Cursor;
+use crate::edge::edge_ok;
+use crate::edge::has_equal;
+use crate::numbers::number_at;
+use edges::sizes_ok;
+use edges::wide32;
+use model::Head;
+
+// 1: fewer than 4 bytes left, or the body passes the end.
+pub(crate) fn cut_short(rest: &[u8]) -> bool
+    ensures { λ r. ⌜ r ≡ cutShort (now (rest .entry)) ⌝ }
+{
+    if rest.len() < 4 {
+        return true;
+    }
+    rest.len() < 4 + number_at(rest, 0)
+}
+
+pub(crate) fn edge_body(size: usize) -> bool
+    ensures { λ r. ⌜ r ≡ edgeBody size ⌝ }
+{
+    if size < 8 {
+        return false;
+    }
+    if 56 < size {
+        return false;
+    }
+    (size - 8) % 6 == 0
+}
+
+// 2 where not: a kind that there is, with a body length that it has.
+pub(crate) fn body_ok(kind: usize, size: usize) -> bool
+    ensures { λ r. ⌜ r ≡ bodyOk kind size ⌝ }
+{
+    match kind {
+        1 => size == 6,
+        2 | 3 | 4 => size == 2,
+        5 => edge_body(size),
+        _ => false,
+    }
+}
+
+// 3: sizes missing or repeated, a kind that falls, second ceiling, locations not rising.
+pub(crate) fn out_of_order(cursor: Cursor, kind: usize, body: &[u8]) -> bool
+    requires { ⌜ 2 ≤ length (now body) ⌝ }
+    ensures { λ x. ⌜ ((r : Rule) → Holds r cursor → x ≡ outOfOrder (cursor .last) r kind (now (body .entry))) ⌝ }
+{
+    let head = cursor.head;
+    if kind == 1 {
+        return 1 <= head.locations;
+    }
+    if head.locations < 1 {
+        return true;
+    }
+    if kind < cursor.last {
+        return true;
+    }
+    match kind {
+        2 => number_at(body, 0) < cursor.start,
+        3 => number_at(body, 0) < cursor.end,
+        4 => 1 <= head.ceiling,
+        _ => false,
+    }
+}
+
+// 4: edge 257.
+pub(crate) fn one_too_many(head: Head, kind: usize) -> bool
+    ensures { λ x. ⌜ ((r : Rule) → head ≡ headOf r → x ≡ oneTooMany r kind) ⌝ }
+{
+    if kind != 5 {
+        return false;
+    }
+    256 <= head.count
+}
+
+// 5: L, S or K outside its range.
+pub(crate) fn bad_sizes(kind: usize, size: usize, body: &[u8]) -> bool
+    requires { ⌜ Body kind size (now body) ⌝ }
+    ensures { λ r. ⌜ r ≡ badSizes kind (now (body .entry)) ⌝ }
+{
+    if kind != 1 {
+        return false;
+    }
+    !sizes_ok(number_at(body, 0), number_at(body, 1), number_at(body, 2))
+}
+
+// 6: location, symbol, clock, mask bit, relation, constant or ceiling outside its range.
+pub(crate) fn out_of_range(head: Head, kind: usize, size: usize, body: &[u8]) -> bool
+    requires { ⌜ Body kind size (now body) ⌝ }
+    ensures { λ x. ⌜ ((r : Rule) → head ≡ headOf r → x ≡ outOfRange r kind size (now (body .entry))) ⌝ }
+{
+    match kind {
+        2 | 3 => wide32(head.locations) <= number_at(body, 0),
+        4 => 30 < number_at(body, 0),
+        5 => !edge_ok(head, size, body),
+        _ => false,
+    }
+}
+
+// 7: resets with no relation 2.
+pub(crate) fn not_pinned(kind: usize, size: usize, body: &[u8]) -> bool
+    requires { ⌜ Body kind size (now body) ⌝ }
+    ensures { λ r. ⌜ r ≡ notPinned kind size (now (body .entry)) ⌝ }
+{
+    if kind != 5 {
+        return false;
+    }
+    if number_at(body, 3) == 0 {
+        return false;
+    }
+    !has_equal(&body[8..], (size - 8) / 6)
+}
+
+// The first of 3 to 7 that refuses a record whose body has a length of its kind; 0 for none.
+pub(crate) fn body_fault(cursor: Cursor, kind: usize, size: usize, body: &[u8]) -> u8
+    requires { ⌜ Body kind size (now body) ⌝ }
+    ensures { λ n. ⌜
+        ((r : Rule) → Holds r cursor
+        → bodyRefusal (cursor .at) (cursor .last) r kind size (now (body .entry)) ≡ numbered n (cursor .at))
+        ⌝ }
+{
+    if out_of_order(cursor, kind, body) {
+        return 3;
+    }
+    let head = cursor.head;
+    if one_too_many(head, kind) {
+        return 4;
+    }
+    if bad_sizes(kind, size, body) {
+        return 5;
+    }
+    if out_of_range(head, kind, size, body) {
+        return 6;
+    }
+    if not_pinned(kind, size, body) {
+        return 7;
+    }
+    0
+}

@@ -1,0 +1,140 @@
+// A record read: refused, or taken into the head record and the edge table.
+ghost use Prim.Native.Nat.{_+_, _^_, _≤_, _<_};
+ghost use lib.ListN.{length};
+ghost use Rattle.model.specs.Rules.{Rule};
+ghost use Rattle.model.specs.Files.{withSizes, withInitial, withFinal, withCeiling};
+ghost use Rattle.reader.specs.State.{Holds, Stays, EdgeRoom, TakesEdge, Room, Takes, State, Under-way, StepIs};
+use crate::Cursor;
+use crate::Step;
+use crate::edge::store_edge;
+use crate::faults::body_fault;
+use crate::faults::body_ok;
+use crate::faults::cut_short;
+use crate::numbers::mask_of;
+use crate::numbers::narrow32;
+use crate::numbers::number_at;
+use edges::wide32;
+use model::Head;
+
+impl Cursor {
+    pub(crate) fn with_sizes(self, body: &[u8]) -> Cursor
+        requires { ⌜ 6 ≤ length (now body) ⌝ }
+        ensures { λ d. ⌜ Stays self d × Holds (withSizes (now (body .entry))) d ⌝ }
+    {
+        Cursor {
+            at: self.at,
+            last: self.last,
+            start: 0,
+            end: 0,
+            head: Head {
+                locations: narrow32(number_at(body, 0)),
+                symbols: narrow32(number_at(body, 1)),
+                clocks: narrow32(number_at(body, 2)),
+                starts: 0,
+                ends: 0,
+                ceiling: 0,
+                count: 0,
+            },
+        }
+    }
+
+    pub(crate) fn with_initial(self, location: usize) -> Cursor
+        requires { ⌜ (location < 32) × (self .head .starts + 2 ^ location < 2 ^ 32) ⌝ }
+        ensures { λ d. ⌜ Stays self d × ((r : Rule) → Holds r self → Holds (withInitial r location) d) ⌝ }
+    {
+        let mut head = self.head;
+        let starts = head.starts + mask_of(location);
+        head.starts = starts;
+        Cursor {
+            at: self.at,
+            last: self.last,
+            start: location + 1,
+            end: self.end,
+            head,
+        }
+    }
+
+    pub(crate) fn with_final(self, location: usize) -> Cursor
+        requires { ⌜ (location < 32) × (self .head .ends + 2 ^ location < 2 ^ 32) ⌝ }
+        ensures { λ d. ⌜ Stays self d × ((r : Rule) → Holds r self → Holds (withFinal r location) d) ⌝ }
+    {
+        let mut head = self.head;
+        let ends = head.ends + mask_of(location);
+        head.ends = ends;
+        Cursor {
+            at: self.at,
+            last: self.last,
+            start: self.start,
+            end: location + 1,
+            head,
+        }
+    }
+
+    pub(crate) fn with_ceiling(self, number: usize) -> Cursor
+        requires { ⌜ number < 65535 ⌝ }
+        ensures { λ d. ⌜ Stays self d × ((r : Rule) → Holds r self → Holds (withCeiling r number) d) ⌝ }
+    {
+        let mut head = self.head;
+        head.ceiling = narrow32(number + 1);
+        let mut next = self;
+        next.head = head;
+        next
+    }
+
+    pub(crate) fn with_edge(self, size: usize, body: &[u8], edges: &mut [u16]) -> Cursor
+        requires { ⌜ EdgeRoom (self .head .count) size (now body) (now edges) ⌝ }
+        ensures { λ d. ⌜ TakesEdge self size (now (body .entry)) (now (edges .entry)) (now (edges .exit)) d ⌝ }
+    {
+        let mut head = self.head;
+        let first = 29 * wide32(head.count);
+        let past = first + 29;
+        store_edge(size, body, &mut edges[first..past]);
+        let count = head.count + 1;
+        head.count = count;
+        let mut next = self;
+        next.head = head;
+        next
+    }
+
+    // The cursor past a record that is not refused. An edge goes into the table.
+    pub(crate) fn taken(self, kind: usize, size: usize, body: &[u8], edges: &mut [u16]) -> Cursor
+        requires { ⌜ Room self kind size (now body) (now edges) ⌝ }
+        ensures { λ d. ⌜ Takes self kind size (now (body .entry)) (now (edges .entry)) (now (edges .exit)) d ⌝ }
+    {
+        let mut past = self;
+        past.at = self.at + 4 + size;
+        past.last = kind;
+        match kind {
+            1 => past.with_sizes(body),
+            2 => past.with_initial(number_at(body, 0)),
+            3 => past.with_final(number_at(body, 0)),
+            4 => past.with_ceiling(number_at(body, 0)),
+            _ => past.with_edge(size, body, edges),
+        }
+    }
+
+    // The record at the cursor: refused, or taken.
+    pub(crate) fn step(self, file: &[u8], edges: &mut [u16]) -> Step
+        requires { ⌜ (self .at < length (now file)) × Under-way self (now edges) ⌝ }
+        ensures { λ x. ⌜
+            ((r : Rule) → State r self (now (edges .entry)) → StepIs (now (file .entry)) r self (now (edges .exit)) x)
+            ⌝ }
+    {
+        let at = self.at;
+        let rest = &file[at..];
+        if cut_short(rest) {
+            return Step::Refused(1);
+        }
+        let size = number_at(rest, 0);
+        let kind = number_at(rest, 1);
+        if !body_ok(kind, size) {
+            return Step::Refused(2);
+        }
+        let body = &rest[4..];
+        let fault = body_fault(self, kind, size, body);
+        if fault != 0 {
+            return Step::Refused(fault);
+        }
+        Step::Next(self.taken(kind, size, body, edges))
+    }
+}
