@@ -1,7 +1,6 @@
 -- What is still to be put at each turn of a loop: the next record, then those after it; and an edge's record out of
 -- its places in the table.
-use mathlib.Core.Path.{_≡_, refl, sym, _∙_, ap, ap₂}
-use mathlib.Core.Bool.{Bool, true, false}
+use mathlib.Core.Path.{_≡_, refl, sym, _∙_, ap}
 use mathlib.Core.List.{List, [], _∷_, _++_}
 use Prim.Native.Nat.{ℕ, zero, suc, _+_, _-_, _*_, _/_, _%_, _^_, _≤_, _<_}
 use native.Mathlib.Omega.{arith}
@@ -10,7 +9,6 @@ use lib.ListN.{length, getD, take, drop, length-drop, drop-of-length-le}
 use lib.Seq.{drop-cons, getD-drop, length-take-le}
 use borrow.Author.Tests.{eq-eqb, ne-eqb}
 use Rattle.model.specs.Basics.{pick, bit, bitsFrom}
-use Rattle.model.specs.Rules.{Atom}
 use Rattle.model.specs.Files.{two, numbers, locationRecords, ceilingRecord, atomNumbers, edgeRecord, edgeRecords}
 use Rattle.model.specs.Layout.{edgeFields, edgeWidth, atomsIn, edgeIn, edgesIn}
 use Rattle.model.proofs.Bytes.{numbers-length}
@@ -200,11 +198,12 @@ module _
         → (edgeWidth ≤ length (part t e)) × (getD (part t e) 4 0 ≤ 8)
         × (next + length (edgeRecord (edgeIn (part t e))) ≤ length out)
     edge-fits table =
-        rw (part-rest (29 * e) t)
-        (omega (arith, length-drop (29 * e) t, table .long, table .count-most),
-        omega (arith, getD-drop (29 * e) t 4 0, table .few e h),
-        putting-room inv (edgeRecord (edgeIn (drop (edgeWidth * e) t)))
-        (edgeRecords (edgesIn (count - (e + 1)) (drop (edgeWidth * (e + 1)) t))) (edge-records-rest count e t h))
+        rw (part-rest (29 * e) t) (
+          omega (arith, length-drop (29 * e) t, table .long, table .count-most),
+          omega (arith, getD-drop (29 * e) t 4 0, table .few e h),
+          putting-room inv (edgeRecord (edgeIn (drop (edgeWidth * e) t)))
+              (edgeRecords (edgesIn (count - (e + 1)) (drop (edgeWidth * (e + 1)) t))) (edge-records-rest count e t h),
+        )
 
     pub edge-next :
         {next′ : ℕ} {out′ : List ℕ} → Puts (edgeRecord (edgeIn (part t e))) out next out′ next′

@@ -1,28 +1,28 @@
 -- The whole file: what passes 20 and 21 can be written, and the answers of write_rule.
-use mathlib.Core.Path.{_≡_, refl, sym, _∙_, ap}
-use mathlib.Core.Bool.{Bool, true, false, not}
-use mathlib.Core.List.{List, []}
+use mathlib.Core.Path.{_≡_, sym, _∙_, ap}
+use mathlib.Core.Bool.{false, not}
+use mathlib.Core.List.{List}
 use Prim.Native.Nat.{ℕ, _+_, _*_, _≤_, _<_}
 use native.Mathlib.Omega.{arith}
 use lib.Dec.{eqb, ltb}
 use lib.ListN.{length, getD, drop}
-use lib.Seq.{getD-drop, sets, sets-eq}
+use lib.Seq.{getD-drop, sets-eq}
 use borrow.Author.Tests.{ltb-false, lt-ltb, le-ltb, ne-eqb}
 use Rattle.model.specs.declared.Head.{Head}
 use Rattle.model.specs.declared.Answer.{Answer}
-use Rattle.model.specs.Basics.{pick, written, Refusal, refusal, fine, refuse, passes, _⨾_}
+use Rattle.model.specs.Basics.{written, Refusal, refusal, fine, refuse, passes, _⨾_}
 use Rattle.model.specs.Rules.{Edge, mostAtoms}
 use Rattle.model.specs.Runs.{noEdge}
 use Rattle.model.specs.Files.{ruleBytes}
 use Rattle.model.specs.Layout.{edgeNeed, edgeFields, edgeWidth, edgeIn, edgesIn, ruleIn, isReadable, ruleRefusal}
-use Rattle.model.specs.Promises.{answerOf, writeRefusal, ChecksRule, WritesRule}
+use Rattle.model.specs.Promises.{writeRefusal, ChecksRule, WritesRule}
 use Rattle.model.proofs.Logic.{In, in-at}
-use Rattle.model.proofs.Refusals.{refused-false, first-passes, on-pass, on-refused, both-fine, refuse-fine, refuse-met, fine-number}
+use Rattle.model.proofs.Refusals.{refused-false, first-passes, on-pass, both-fine, refuse-fine, refuse-met}
 use Rattle.model.proofs.Answers.{number-is, first-refuses, answers}
 use Rattle.model.proofs.Inputs.{passed-valid}
-use Rattle.model.proofs.Valid.{Valid, EdgeIn}
+use Rattle.model.proofs.Valid.{Valid}
 use Rattle.model.proofs.EdgeTable.{edges-length, atoms-length, edge-at}
-use Rattle.writer.specs.Writing.{Puts, Table, Writable, Fits}
+use Rattle.writer.specs.Writing.{Puts, Writable}
 
 module _ (h : Head) (t : List ℕ) where
   -- an edge of a valid rule has at most 8 atoms

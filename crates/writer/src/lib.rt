@@ -70,7 +70,13 @@ pub(crate) fn put_sizes(out: &mut [u8], locations: usize, symbols: usize, clocks
 }
 
 // The record of a location that is in the mask.
-pub(crate) fn put_location(out: &mut [u8], at: usize, kind: usize, mask: usize, location: usize) -> usize
+pub(crate) fn put_location(
+    out: &mut [u8],
+    at: usize,
+    kind: usize,
+    mask: usize,
+    location: usize,
+) -> usize
     requires { ⌜
         (kind < 65536) × (location < 32)
         × (at + length (locationRecords kind (pick (bit location mask) (location ∷ []) [])) ≤ length (now out))
@@ -151,7 +157,12 @@ pub(crate) fn put_rule(out: &mut [u8], head: Head, edges: &[u16]) -> usize
         Puts (ruleBytes (ruleIn head (now (edges .entry)))) (now (out .entry)) 0 (now (out .exit)) r
         ⌝ }
 {
-    let mut next = put_sizes(out, wide32(head.locations), wide32(head.symbols), wide32(head.clocks));
+    let mut next = put_sizes(
+        out,
+        wide32(head.locations),
+        wide32(head.symbols),
+        wide32(head.clocks),
+    );
     next = put_locations(out, next, 2, wide32(head.starts));
     next = put_locations(out, next, 3, wide32(head.ends));
     next = put_ceiling(out, next, wide32(head.ceiling));

@@ -5,8 +5,6 @@ use Rattle.writer.proofs.Records.{ceiling-in}
 use borrow.Author.Needs.{needs}
 use Rattle.writer.proofs.ceiling_length.Statement.{statement}
 use Rattle.writer.proofs.ceiling_length.Tie as tie
-use Rattle.writer.proofs.ceiling_length.Reads as reads
-use Rattle.writer.proofs.ceiling_length.Lts as lts
 
 returns : tie.Need-returns
 returns c = search needs

@@ -5,9 +5,6 @@ use Rattle.writer.proofs.Lengths.{Summed, summed-start, summed-next, su
 use borrow.Author.Needs.{needs}
 use Rattle.writer.proofs.edges_length.Statement.{statement}
 use Rattle.writer.proofs.edges_length.Tie as tie
-use Rattle.writer.proofs.edges_length.Reads as reads
-use Rattle.writer.proofs.edges_length.Lts as lts
-use Rattle.edges.proofs.number_at.Reads as number-at-reads
 
 abbrev Inv-loop : tie.InvT-loop
 Inv-loop edges count length₀ e₀ length e = Summed count edges e length

@@ -3,12 +3,6 @@ use Rattle.writer.proofs.Lengths.{table-known, whole-length}
 use borrow.Author.Needs.{needs}
 use Rattle.writer.proofs.file_length.Statement.{statement}
 use Rattle.writer.proofs.file_length.Tie as tie
-use Rattle.writer.proofs.file_length.Reads as reads
-use Rattle.writer.proofs.file_length.Lts as lts
-use Rattle.edges.proofs.wide32.Reads as wide32-reads
-use Rattle.writer.proofs.ceiling_length.Reads as ceiling-length-reads
-use Rattle.writer.proofs.edges_length.Reads as edges-length-reads
-use Rattle.writer.proofs.locations_in.Reads as locations-in-reads
 
 wide32-requires : tie.Need-wide32-requires
 wide32-requires c κs = search needs

@@ -4,8 +4,6 @@ use Rattle.writer.proofs.Lengths.{Counted, counted-start, counted-next,
 use borrow.Author.Needs.{needs}
 use Rattle.writer.proofs.locations_in.Statement.{statement}
 use Rattle.writer.proofs.locations_in.Tie as tie
-use Rattle.writer.proofs.locations_in.Reads as reads
-use Rattle.writer.proofs.locations_in.Lts as lts
 
 abbrev Inv-loop : tie.InvT-loop
 Inv-loop mask count₀ location₀ count location = Counted mask location count

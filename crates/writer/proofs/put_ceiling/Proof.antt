@@ -7,9 +7,6 @@ use Rattle.writer.proofs.Records.{ceiling-in, ceiling-out}
 use borrow.Author.Needs.{needs}
 use Rattle.writer.proofs.put_ceiling.Statement.{statement}
 use Rattle.writer.proofs.put_ceiling.Tie as tie
-use Rattle.writer.proofs.put_ceiling.Reads as reads
-use Rattle.writer.proofs.put_ceiling.Lts as lts
-use Rattle.writer.proofs.put_single.Reads as put-single-reads
 
 returns : tie.Need-returns
 returns c =

@@ -3,11 +3,6 @@ use Rattle.writer.proofs.Records.{edge-put, atoms-room}
 use borrow.Author.Needs.{needs}
 use Rattle.writer.proofs.put_edge.Statement.{statement}
 use Rattle.writer.proofs.put_edge.Tie as tie
-use Rattle.writer.proofs.put_edge.Reads as reads
-use Rattle.writer.proofs.put_edge.Lts as lts
-use Rattle.edges.proofs.wide16.Reads as wide16-reads
-use Rattle.writer.proofs.put_numbers.Reads as put-numbers-reads
-use Rattle.writer.proofs.put_start.Reads as put-start-reads
 
 shared-slice-read-wide16 : tie.Need-shared-slice-read-wide16
 shared-slice-read-wide16 c = search needs

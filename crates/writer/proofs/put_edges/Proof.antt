@@ -8,13 +8,9 @@ use Rattle.writer.proofs.Records.{edges-begin, edge-fits, edge-next, ed
 use borrow.Author.Needs.{needs}
 use Rattle.writer.proofs.put_edges.Statement.{statement}
 use Rattle.writer.proofs.put_edges.Tie as tie
-use Rattle.writer.proofs.put_edges.Reads as reads
-use Rattle.writer.proofs.put_edges.Lts as lts
-use Rattle.writer.proofs.put_edge.Reads as put-edge-reads
 
 abbrev Inv-loop : tie.InvT-loop
 Inv-loop out₀ at edges count next₀ e₀ out next e =
-
     (e ≤ count)
     × Putting (edgeRecords (edgesIn count edges)) (edgeRecords (edgesIn (count - e) (drop (edgeWidth * e) edges))) out₀ at out next
 

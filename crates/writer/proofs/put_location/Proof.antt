@@ -7,9 +7,6 @@ use Rattle.writer.proofs.Records.{location-in, location-out}
 use borrow.Author.Needs.{needs}
 use Rattle.writer.proofs.put_location.Statement.{statement}
 use Rattle.writer.proofs.put_location.Tie as tie
-use Rattle.writer.proofs.put_location.Reads as reads
-use Rattle.writer.proofs.put_location.Lts as lts
-use Rattle.writer.proofs.put_single.Reads as put-single-reads
 
 shr-if1 : tie.Need-shr-if1
 shr-if1 c = search needs

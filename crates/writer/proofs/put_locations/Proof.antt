@@ -8,13 +8,9 @@ use Rattle.writer.proofs.Records.{location-room, location-next, locatio
 use borrow.Author.Needs.{needs}
 use Rattle.writer.proofs.put_locations.Statement.{statement}
 use Rattle.writer.proofs.put_locations.Tie as tie
-use Rattle.writer.proofs.put_locations.Reads as reads
-use Rattle.writer.proofs.put_locations.Lts as lts
-use Rattle.writer.proofs.put_location.Reads as put-location-reads
 
 abbrev Inv-loop : tie.InvT-loop
 Inv-loop out₀ at kind mask next₀ location₀ out next location =
-
     (location ≤ 32)
     × Putting (locationRecords kind (locationsIn mask)) (locationRecords kind (bitsFrom (32 - location) location mask)) out₀ at out next
 

@@ -6,8 +6,6 @@ use Rattle.writer.proofs.Putting.{number-put}
 use borrow.Author.Needs.{needs}
 use Rattle.writer.proofs.put_number.Statement.{statement}
 use Rattle.writer.proofs.put_number.Tie as tie
-use Rattle.writer.proofs.put_number.Reads as reads
-use Rattle.writer.proofs.put_number.Lts as lts
 
 cast-out : tie.Need-cast-out
 cast-out c = search needs

@@ -9,10 +9,6 @@ use Rattle.writer.proofs.Records.{number-room, number-next, numbers-non
 use borrow.Author.Needs.{needs}
 use Rattle.writer.proofs.put_numbers.Statement.{statement}
 use Rattle.writer.proofs.put_numbers.Tie as tie
-use Rattle.writer.proofs.put_numbers.Reads as reads
-use Rattle.writer.proofs.put_numbers.Lts as lts
-use Rattle.edges.proofs.wide16.Reads as wide16-reads
-use Rattle.writer.proofs.put_number.Reads as put-number-reads
 
 abbrev Inv-loop : tie.InvT-loop
 Inv-loop out₀ at table next₀ i₀ out next i = (i ≤ length table) × Putting (numbers table) (numbers (drop i table)) out₀ at out next

@@ -5,13 +5,6 @@ use Rattle.writer.proofs.Whole.{sizes-room, sizes-put, starts-room, sta
 use borrow.Author.Needs.{needs}
 use Rattle.writer.proofs.put_rule.Statement.{statement}
 use Rattle.writer.proofs.put_rule.Tie as tie
-use Rattle.writer.proofs.put_rule.Reads as reads
-use Rattle.writer.proofs.put_rule.Lts as lts
-use Rattle.edges.proofs.wide32.Reads as wide32-reads
-use Rattle.writer.proofs.put_ceiling.Reads as put-ceiling-reads
-use Rattle.writer.proofs.put_edges.Reads as put-edges-reads
-use Rattle.writer.proofs.put_locations.Reads as put-locations-reads
-use Rattle.writer.proofs.put_sizes.Reads as put-sizes-reads
 
 wide32-requires : tie.Need-wide32-requires
 wide32-requires c κs = search needs
@@ -25,9 +18,12 @@ wide32-requires-3 c κs = search needs
 put-sizes-requires : tie.Need-put-sizes-requires
 put-sizes-requires c κs =
     let start = c .before .before .before .before .before .before in
-    let w = start .pre .writable in
-    (omega (arith, c .before .before .wide32 .ensures .0), omega (arith, c .before .wide322 .ensures .0),
-    omega (arith, c .wide323 .ensures .0), sizes-room (start .args .head) (start .args .edges .now) (start .args .out .now) (start .pre))
+    let w = start .pre .writable in (
+      omega (arith, c .before .before .wide32 .ensures .0),
+      omega (arith, c .before .wide322 .ensures .0),
+      omega (arith, c .wide323 .ensures .0),
+      sizes-room (start .args .head) (start .args .edges .now) (start .args .out .now) (start .pre),
+    )
 
 wide32-requires-4 : tie.Need-wide32-requires-4
 wide32-requires-4 c κs = search needs

@@ -3,10 +3,6 @@ use Rattle.writer.proofs.Putting.{then-put}
 use borrow.Author.Needs.{needs}
 use Rattle.writer.proofs.put_sizes.Statement.{statement}
 use Rattle.writer.proofs.put_sizes.Tie as tie
-use Rattle.writer.proofs.put_sizes.Reads as reads
-use Rattle.writer.proofs.put_sizes.Lts as lts
-use Rattle.writer.proofs.put_number.Reads as put-number-reads
-use Rattle.writer.proofs.put_start.Reads as put-start-reads
 
 put-start-requires : tie.Need-put-start-requires
 put-start-requires c κs = search needs

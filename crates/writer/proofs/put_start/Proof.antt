@@ -3,9 +3,6 @@ use Rattle.writer.proofs.Putting.{then-put}
 use borrow.Author.Needs.{needs}
 use Rattle.writer.proofs.put_start.Statement.{statement}
 use Rattle.writer.proofs.put_start.Tie as tie
-use Rattle.writer.proofs.put_start.Reads as reads
-use Rattle.writer.proofs.put_start.Lts as lts
-use Rattle.writer.proofs.put_number.Reads as put-number-reads
 
 put-number-requires : tie.Need-put-number-requires
 put-number-requires c κs = search needs

@@ -4,11 +4,6 @@ use Rattle.writer.proofs.Written.{is-writable, writes-refused, writes-s
 use borrow.Author.Needs.{needs}
 use Rattle.writer.proofs.write_rule.Statement.{statement}
 use Rattle.writer.proofs.write_rule.Tie as tie
-use Rattle.writer.proofs.write_rule.Reads as reads
-use Rattle.writer.proofs.write_rule.Lts as lts
-use Rattle.rule.proofs.check_rule.Reads as check-rule-reads
-use Rattle.writer.proofs.file_length.Reads as file-length-reads
-use Rattle.writer.proofs.put_rule.Reads as put-rule-reads
 
 check-rule-requires : tie.Need-check-rule-requires
 check-rule-requires c κs = search needs
