@@ -1,0 +1,72 @@
+-- `writer::file_length` meets its contract: 10 bytes of sizes, 6 a location, the ceiling, the edges.
+use Rattle.writer.proofs.Lengths.{table-known, whole-length}
+use borrow.Author.Needs.{needs}
+use Rattle.writer.proofs.file_length.Statement.{statement}
+use Rattle.writer.proofs.file_length.Tie as tie
+
+wide32-requires : tie.Need-wide32-requires
+wide32-requires c κs = search needs
+
+locations-in-requires : tie.Need-locations-in-requires
+locations-in-requires c κs = search needs
+
+wide32-requires-2 : tie.Need-wide32-requires-2
+wide32-requires-2 c κs = search needs
+
+locations-in-requires-2 : tie.Need-locations-in-requires-2
+locations-in-requires-2 c κs = search needs
+
+add-locations : tie.Need-add-locations
+add-locations c = search needs
+
+wide32-requires-3 : tie.Need-wide32-requires-3
+wide32-requires-3 c κs = search needs
+
+ceiling-length-requires : tie.Need-ceiling-length-requires
+ceiling-length-requires c κs = search needs
+
+mul-result : tie.Need-mul-result
+mul-result c = search needs
+
+add-result : tie.Need-add-result
+add-result c = search needs
+
+add-result-2 : tie.Need-add-result-2
+add-result-2 c = search needs
+
+wide32-requires-4 : tie.Need-wide32-requires-4
+wide32-requires-4 c κs = search needs
+
+edges-length-requires : tie.Need-edges-length-requires
+edges-length-requires c κs = table-known (c .wide324 .ensures .0) (c .before .before .before .before .before .before .before .before .pre .table)
+
+add-result-3 : tie.Need-add-result-3
+add-result-3 c = search needs
+
+returns : tie.Need-returns
+returns c =
+    let a = c .before .before .before .before .before .before .before .before .before .args in
+    whole-length (a .head) (a .edges .now) (c .before .before .before .before .before .before .before .wide32 .result) (c .before .before .before .before .before .wide322 .result) (c .before .before .before .wide323 .result)
+    (c .before .wide324 .result) (c .before .before .before .before .before .before .locations-in .result) (c .before .before .before .before .locations-in2 .result) (c .before .before .ceiling-length .result)
+    (c .edges-length .result) (c .before .before .before .before .before .before .before .wide32 .ensures .0) (c .before .before .before .before .before .wide322 .ensures .0) (c .before .before .before .wide323 .ensures .0)
+    (c .before .wide324 .ensures .0) (c .before .before .before .before .before .before .locations-in .ensures .0) (c .before .before .before .before .locations-in2 .ensures .0)
+    (c .before .before .ceiling-length .ensures .0) (c .edges-length .ensures .0)
+
+pub file-length-spec : {M : Type 1} → statement M
+file-length-spec =
+    tie.close
+    (tie.spec
+    wide32-requires
+    locations-in-requires
+    wide32-requires-2
+    locations-in-requires-2
+    add-locations
+    wide32-requires-3
+    ceiling-length-requires
+    mul-result
+    add-result
+    add-result-2
+    wide32-requires-4
+    edges-length-requires
+    add-result-3
+    returns)

@@ -1,0 +1,236 @@
+// Rule files written: the length first, then record by record, each from the place where the one before ended.
+ghost use mathlib.Core.Path.{_≡_};
+ghost use mathlib.Core.List.{[], _∷_};
+ghost use Prim.Native.Nat.{_+_, _*_, _≤_, _<_};
+ghost use lib.ListN.{length, getD};
+ghost use Rattle.model.specs.Basics.{pick, bit};
+ghost use Rattle.model.specs.Files.{two, numbers, locationRecords, ceilingRecord, edgeRecord, edgeRecords, ruleBytes};
+ghost use Rattle.model.specs.Layout.{edgeWidth, edgeIn, edgesIn, locationsIn, ruleIn};
+ghost use Rattle.model.specs.Promises.{WritesRule};
+ghost use Rattle.writer.specs.Writing.{Puts, Table, Writable, Fits};
+use edges::number_at;
+use edges::wide16;
+use edges::wide32;
+use model::Answer;
+use model::Head;
+use rule::check_rule;
+
+// A number as two bytes, low byte first.
+pub(crate) fn put_number(out: &mut [u8], at: usize, value: usize) -> usize
+    requires { ⌜ (value < 65536) × (at + 2 ≤ length (now out)) ⌝ }
+    ensures { λ r. ⌜ Puts (two value) (now (out .entry)) at (now (out .exit)) r ⌝ }
+{
+    out[at] = (value % 256) as u8;
+    out[at + 1] = (value / 256) as u8;
+    at + 2
+}
+
+// A table's numbers, one after the other.
+pub(crate) fn put_numbers(out: &mut [u8], at: usize, table: &[u16]) -> usize
+    requires { ⌜ at + 2 * length (now table) ≤ length (now out) ⌝ }
+    ensures { λ r. ⌜ Puts (numbers (now (table .entry))) (now (out .entry)) at (now (out .exit)) r ⌝ }
+{
+    let mut next = at;
+    let mut i: usize = 0;
+    while i < table.len() {
+        next = put_number(out, next, wide16(table[i]));
+        i += 1;
+    }
+    next
+}
+
+// Body length and kind of a record.
+pub(crate) fn put_start(out: &mut [u8], at: usize, size: usize, kind: usize) -> usize
+    requires { ⌜ (size < 65536) × (kind < 65536) × (at + 4 ≤ length (now out)) ⌝ }
+    ensures { λ r. ⌜ Puts (numbers (size ∷ kind ∷ [])) (now (out .entry)) at (now (out .exit)) r ⌝ }
+{
+    let next = put_number(out, at, size);
+    put_number(out, next, kind)
+}
+
+// A record of one number.
+pub(crate) fn put_single(out: &mut [u8], at: usize, kind: usize, number: usize) -> usize
+    requires { ⌜ (kind < 65536) × (number < 65536) × (at + 6 ≤ length (now out)) ⌝ }
+    ensures { λ r. ⌜ Puts (numbers (2 ∷ kind ∷ number ∷ [])) (now (out .entry)) at (now (out .exit)) r ⌝ }
+{
+    let next = put_start(out, at, 2, kind);
+    put_number(out, next, number)
+}
+
+pub(crate) fn put_sizes(out: &mut [u8], locations: usize, symbols: usize, clocks: usize) -> usize
+    requires { ⌜ (locations < 65536) × (symbols < 65536) × (clocks < 65536) × (10 ≤ length (now out)) ⌝ }
+    ensures { λ r. ⌜
+        Puts (numbers (6 ∷ 1 ∷ locations ∷ symbols ∷ clocks ∷ [])) (now (out .entry)) 0 (now (out .exit)) r
+        ⌝ }
+{
+    let mut next = put_start(out, 0, 6, 1);
+    next = put_number(out, next, locations);
+    next = put_number(out, next, symbols);
+    put_number(out, next, clocks)
+}
+
+// The record of a location that is in the mask.
+pub(crate) fn put_location(
+    out: &mut [u8],
+    at: usize,
+    kind: usize,
+    mask: usize,
+    location: usize,
+) -> usize
+    requires { ⌜
+        (kind < 65536) × (location < 32)
+        × (at + length (locationRecords kind (pick (bit location mask) (location ∷ []) [])) ≤ length (now out))
+        ⌝ }
+    ensures { λ r. ⌜
+        Puts (locationRecords kind (pick (bit location mask) (location ∷ []) [])) (now (out .entry)) at
+        (now (out .exit)) r
+        ⌝ }
+{
+    if (mask >> location) % 2 == 1 {
+        return put_single(out, at, kind, location);
+    }
+    at
+}
+
+// The locations of a mask, rising.
+pub(crate) fn put_locations(out: &mut [u8], at: usize, kind: usize, mask: usize) -> usize
+    requires { ⌜ (kind < 65536) × (at + length (locationRecords kind (locationsIn mask)) ≤ length (now out)) ⌝ }
+    ensures { λ r. ⌜ Puts (locationRecords kind (locationsIn mask)) (now (out .entry)) at (now (out .exit)) r ⌝ }
+{
+    let mut next = at;
+    let mut location: usize = 0;
+    while location < 32 {
+        next = put_location(out, next, kind, mask, location);
+        location += 1;
+    }
+    next
+}
+
+// The ceiling, if there is one: it is stored plus 1.
+pub(crate) fn put_ceiling(out: &mut [u8], at: usize, ceiling: usize) -> usize
+    requires { ⌜ (ceiling < 65536) × (at + length (ceilingRecord ceiling) ≤ length (now out)) ⌝ }
+    ensures { λ r. ⌜ Puts (ceilingRecord ceiling) (now (out .entry)) at (now (out .exit)) r ⌝ }
+{
+    if ceiling == 0 {
+        return at;
+    }
+    put_single(out, at, 4, ceiling - 1)
+}
+
+// The edge at the front of a table: its four numbers, then three numbers per atom.
+pub(crate) fn put_edge(out: &mut [u8], at: usize, edge: &[u16]) -> usize
+    requires { ⌜
+        (edgeWidth ≤ length (now edge)) × (getD (now edge) 4 0 ≤ 8)
+        × (at + length (edgeRecord (edgeIn (now edge))) ≤ length (now out))
+        ⌝ }
+    ensures { λ r. ⌜ Puts (edgeRecord (edgeIn (now (edge .entry)))) (now (out .entry)) at (now (out .exit)) r ⌝ }
+{
+    let count = wide16(edge[4]);
+    let past = 5 + 3 * count;
+    let fields = put_start(out, at, 8 + 6 * count, 5);
+    let atoms = put_numbers(out, fields, &edge[0..4]);
+    put_numbers(out, atoms, &edge[5..past])
+}
+
+pub(crate) fn put_edges(out: &mut [u8], at: usize, edges: &[u16], count: usize) -> usize
+    requires { ⌜
+        Table count (now edges) × (at + length (edgeRecords (edgesIn count (now edges))) ≤ length (now out))
+        ⌝ }
+    ensures { λ r. ⌜
+        Puts (edgeRecords (edgesIn count (now (edges .entry)))) (now (out .entry)) at (now (out .exit)) r
+        ⌝ }
+{
+    let mut next = at;
+    let mut e: usize = 0;
+    while e < count {
+        let first = 29 * e;
+        next = put_edge(out, next, &edges[first..]);
+        e += 1;
+    }
+    next
+}
+
+// The whole file, in the order of the kinds.
+pub(crate) fn put_rule(out: &mut [u8], head: Head, edges: &[u16]) -> usize
+    requires { ⌜ Fits head (now edges) (now out) ⌝ }
+    ensures { λ r. ⌜
+        Puts (ruleBytes (ruleIn head (now (edges .entry)))) (now (out .entry)) 0 (now (out .exit)) r
+        ⌝ }
+{
+    let mut next = put_sizes(
+        out,
+        wide32(head.locations),
+        wide32(head.symbols),
+        wide32(head.clocks),
+    );
+    next = put_locations(out, next, 2, wide32(head.starts));
+    next = put_locations(out, next, 3, wide32(head.ends));
+    next = put_ceiling(out, next, wide32(head.ceiling));
+    put_edges(out, next, edges, wide32(head.count))
+}
+
+// How many locations a mask has.
+pub(crate) fn locations_in(mask: usize) -> usize
+    ensures { λ r. ⌜ (r ≡ length (locationsIn mask)) × (r ≤ 32) ⌝ }
+{
+    let mut count: usize = 0;
+    let mut location: usize = 0;
+    while location < 32 {
+        count += (mask >> location) % 2;
+        location += 1;
+    }
+    count
+}
+
+pub(crate) fn ceiling_length(ceiling: usize) -> usize
+    ensures { λ r. ⌜ (r ≡ length (ceilingRecord ceiling)) × (r ≤ 6) ⌝ }
+{
+    if ceiling == 0 {
+        return 0;
+    }
+    6
+}
+
+pub(crate) fn edges_length(edges: &[u16], count: usize) -> usize
+    requires { ⌜ Table count (now edges) ⌝ }
+    ensures { λ r. ⌜ (r ≡ length (edgeRecords (edgesIn count (now (edges .entry))))) × (r ≤ 60 * 256) ⌝ }
+{
+    let mut length: usize = 0;
+    let mut e: usize = 0;
+    while e < count {
+        length += 12 + 6 * number_at(edges, 29 * e + 4);
+        e += 1;
+    }
+    length
+}
+
+pub(crate) fn file_length(head: Head, edges: &[u16]) -> usize
+    requires { ⌜ Writable head (now edges) ⌝ }
+    ensures { λ r. ⌜ r ≡ length (ruleBytes (ruleIn head (now (edges .entry)))) ⌝ }
+{
+    let locations = locations_in(wide32(head.starts)) + locations_in(wide32(head.ends));
+    let ceiling = ceiling_length(wide32(head.ceiling));
+    10 + 6 * locations + ceiling + edges_length(edges, wide32(head.count))
+}
+
+// 20, 21 or 27, with the output untouched; else the file, with its length as the value.
+pub fn write_rule(head: Head, edges: &[u16], out: &mut [u8]) -> Answer
+    ensures { λ r. ⌜ WritesRule head (now (edges .entry)) (now (out .entry)) (now (out .exit)) r ⌝ }
+{
+    let checked = check_rule(head, edges);
+    if checked.number != 0 {
+        return checked;
+    }
+    if out.len() < file_length(head, edges) {
+        return Answer {
+            number: 27,
+            place: 0,
+            value: 0,
+        };
+    }
+    Answer {
+        number: 0,
+        place: 0,
+        value: put_rule(out, head, edges),
+    }
+}
