@@ -1,16 +1,15 @@
 -- A new row: it gets the next number, or it is the first that does not fit, whatever rows come after.
 use mathlib.Core.Path.{_≡_, refl, sym, _∙_, ap, ap₂}
 use mathlib.Core.List.{List, [], _∷_, _++_, append-assoc}
-use Prim.Native.Nat.{ℕ, zero, suc, _+_, _-_, _*_, _≤_, _<_}
+use Prim.Native.Nat.{ℕ, suc, _+_, _-_, _*_, _≤_, _<_}
 use native.Mathlib.Omega.{arith}
-use native.Mathlib.Numerals.{add-one}
 use lib.Dec.{ltb}
-use lib.ListN.{length, getD, set, take, drop, length-append, length-set}
-use borrow.Author.Tests.{ltb-true, ltb-false, lt-ltb, le-ltb}
-use Rattle.model.specs.Basics.{pick, zeros, filled, Refusal, refusal, fine}
+use lib.ListN.{length, set, take, drop, length-append, length-set}
+use borrow.Author.Tests.{ltb-true, ltb-false}
+use Rattle.model.specs.Basics.{filled, refusal}
 use Rattle.model.specs.Rules.{mostPairs}
-use Rattle.model.specs.Construction.{rowAt, numberOf, withRow, mostRows}
-use Rattle.model.specs.Tables.{rowWidth, rowNumbers, poolNumbers, fitRefusal}
+use Rattle.model.specs.Construction.{numberOf, withRow}
+use Rattle.model.specs.Tables.{rowNumbers, poolNumbers, fitRefusal}
 use Rattle.model.proofs.Logic.{by-test}
 use Rattle.model.proofs.TablePlaces.{row-numbers-length}
 use Rattle.model.proofs.TableRoom.{fit-23, fit-24, fit-on}
@@ -19,9 +18,9 @@ use Rattle.construct.specs.declared.Found.{Found}
 use Rattle.construct.specs.declared.Found.the-variants.{At, Nothing}
 use Rattle.construct.specs.declared.Progress.{Progress}
 use Rattle.construct.specs.declared.Placed.{Placed}
-use Rattle.construct.specs.Rows.{rowsIn, foundIn, Within, Held, Unfit, Grown, Numbered}
+use Rattle.construct.specs.Rows.{rowsIn, foundIn, Held, Unfit, Numbered}
 use Rattle.construct.proofs.RowSearch.{rows-length}
-use Rattle.construct.proofs.RowTables.{filled-length, filled-set, filled-lay, rows-append, pool-append, rows-again, row-within}
+use Rattle.construct.proofs.RowTables.{filled-length, filled-set, filled-lay, rows-append, pool-append, rows-again}
 
 -- rows that fit are passed
 fit-through :

@@ -1,10 +1,10 @@
 -- What the builder leaves and answers, from how the filling ended: the tables of the rule's rows, or 23 or 24 and zero.
-use mathlib.Core.Path.{_≡_, refl, sym, _∙_, ap, ap₂, subst, subst⁻¹}
-use mathlib.Core.Bool.{Bool, true, false, not}
+use mathlib.Core.Path.{_≡_, sym, _∙_, ap, ap₂, subst, subst⁻¹}
+use mathlib.Core.Bool.{true, false, not}
 use mathlib.Core.List.{List, [], _∷_, _++_, append-nil}
 use Prim.Native.Nat.{ℕ, zero, suc, _+_, _-_, _*_, _/_, _≤_, _<_}
 use native.Mathlib.Omega.{arith}
-use native.Mathlib.Nat.{mul-le-mul-right, mul-le-mul-left, div-add-mod'}
+use native.Mathlib.Nat.{mul-le-mul-right, div-add-mod'}
 use lib.Dec.{eqb, ltb, leb}
 use lib.ListN.{length, length-replicate}
 use borrow.Author.Tests.{lt-ltb, le-ltb, le-leb, lt-leb, ne-eqb}
@@ -12,13 +12,13 @@ use Rattle.model.specs.declared.Head.{Head}
 use Rattle.model.specs.declared.Answer.{Answer}
 use Rattle.model.specs.declared.Built.{Built}
 use Rattle.model.specs.declared.Building.{Building}
-use Rattle.model.specs.Basics.{pick, lesser, quotient, zeros, filled, maskOf, Refusal, refusal, fine, refuse, passes, _⨾_}
-use Rattle.model.specs.Rules.{Rule, cm, pairCount}
-use Rattle.model.specs.Construction.{width, startRow, mostRows, rowsFrom, rowsOf}
+use Rattle.model.specs.Basics.{lesser, quotient, zeros, filled, Refusal, refusal, fine, refuse}
+use Rattle.model.specs.Rules.{Rule, pairCount}
+use Rattle.model.specs.Construction.{width, startRow, mostRows, rowsOf}
 use Rattle.model.specs.Layout.{edgeNeed, ruleIn, isReadable, ruleRefusal, locationsIn}
-use Rattle.model.specs.Tables.{rowWidth, cellNumbers, rowNumbers, poolNumbers, builtBy, builtOf, noBuilt, tablesBy, tablesOf, rowRoom, fitRefusal, tableRefusal}
-use Rattle.model.specs.Promises.{buildRefusal, buildingOf, tablesMade, leaves, BuildsTable, answerOf, ChecksRule}
-use Rattle.model.proofs.Logic.{lesser-left, lesser-right, quotient-is}
+use Rattle.model.specs.Tables.{cellNumbers, rowNumbers, poolNumbers, builtOf, tablesBy, tablesOf, rowRoom, fitRefusal, tableRefusal}
+use Rattle.model.specs.Promises.{buildRefusal, BuildsTable, ChecksRule}
+use Rattle.model.proofs.Logic.{lesser-left, lesser-right}
 use Rattle.model.proofs.Refusals.{on-pass, on-refused, refuse-fine, refuse-met}
 use Rattle.model.proofs.Numbers.{Among, none, some, among-refuse, among-then}
 use Rattle.model.proofs.Readable.{passes-valid}
@@ -30,12 +30,12 @@ use Rattle.construct.specs.declared.Progress.{Progress}
 use Rattle.construct.specs.Marks.{Ready, startCodesBy}
 use Rattle.construct.specs.Rows.{rowsIn, Held, Unfit, Grown}
 use Rattle.construct.specs.Cells.{CanFillAll, AllFilled}
-use Rattle.construct.specs.Builds.{RoomIn, StartPlaced, CanBuild, notBuilt, builtFrom}
+use Rattle.construct.specs.Builds.{StartPlaced, CanBuild, notBuilt, builtFrom}
 use Rattle.construct.proofs.RowSearch.{rows-length}
 use Rattle.construct.proofs.NewRow.{passes-held}
 use Rattle.construct.proofs.TargetMarks.{ready-again}
 use Rattle.construct.proofs.SymbolFilling.{unfit-extends, symbols-of, width-is}
-use Rattle.construct.proofs.StartLaws.{clocks-of, locations-of, final-mask, start-row}
+use Rattle.construct.proofs.StartLaws.{clocks-of, locations-of, final-mask}
 
 -- The room for rows: at most 4,096, and the row table and the cell table have places for them.
 below-quotient : (n a b : ℕ) → n ≤ quotient a b → n * b ≤ a

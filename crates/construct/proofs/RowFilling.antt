@@ -1,12 +1,12 @@
 -- The cells of a row, symbol by symbol: those so far are laid in their place, and the rows found so far lead to the same
 -- rows as those before.
 use mathlib.Core.Path.{_≡_, refl, sym, _∙_, ap, ap₂, subst}
-use mathlib.Core.List.{List, [], _∷_, _++_, append-assoc}
-use Prim.Native.Nat.{ℕ, zero, suc, _+_, _-_, _*_, _≤_, _<_}
+use mathlib.Core.List.{List, _++_}
+use Prim.Native.Nat.{ℕ, suc, _+_, _-_, _*_, _≤_, _<_}
 use native.Mathlib.Omega.{arith}
 use native.Mathlib.Nat.{mul-le-mul-right}
 use native.Mathlib.Numerals.{add-one}
-use lib.ListN.{length, take, drop, length-replicate}
+use lib.ListN.{length, length-replicate}
 use Rattle.model.specs.Basics.{zeros}
 use Rattle.model.specs.Rules.{Rule}
 use Rattle.model.specs.Construction.{width, rowAt, byIntervals, bySymbols}
@@ -18,7 +18,7 @@ use Rattle.pairs.specs.declared.Scale.{Scale}
 use Rattle.construct.specs.declared.Progress.{Progress}
 use Rattle.construct.specs.Marks.{Ready}
 use Rattle.construct.specs.Rows.{rowsIn, Held, Grown}
-use Rattle.construct.specs.Cells.{CanLeave, laid, CanFill, SymbolFilled, RowFilled}
+use Rattle.construct.specs.Cells.{laid, CanFill, SymbolFilled, RowFilled}
 use Rattle.construct.proofs.RowSearch.{rows-length}
 use Rattle.construct.proofs.TargetMarks.{ready-again}
 use Rattle.construct.proofs.Laying.{laid-none, laid-join, symbols-snoc}

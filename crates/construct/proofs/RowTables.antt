@@ -1,22 +1,19 @@
 -- The row table and the pool as rows are put in: they spell the rows that they hold, one row more is two numbers and its
 -- codes, and a row that does not fit is the first that does not, whatever comes after.
-use mathlib.Core.Path.{_≡_, refl, sym, _∙_, ap, ap₂}
+use mathlib.Core.Path.{_≡_, refl, sym, _∙_, ap}
 use mathlib.Core.List.{List, [], _∷_, _++_, append-assoc, append-nil}
 use Prim.Native.Nat.{ℕ, zero, suc, _+_, _-_, _*_, _≤_, _<_}
 use native.Mathlib.Omega.{arith}
 use native.Mathlib.Nat.{add-zero}
-use lib.ListN.{length, getD, set, take, drop, replicate, length-append, length-replicate, length-set, drop-of-length-le}
-use lib.Seq.{set-at, take-append-seam, drop-append-add, drop-cons, drop-length}
-use Rattle.model.specs.Basics.{zeros, filled, Refusal, refusal}
-use Rattle.model.specs.Rules.{mostPairs}
-use Rattle.model.specs.Construction.{rowAt, mostRows}
-use Rattle.model.specs.Tables.{rowWidth, rowNumbers, poolNumbers, fitRefusal}
+use lib.ListN.{length, getD, set, take, drop, length-append, length-replicate, drop-of-length-le}
+use lib.Seq.{set-at, take-append-seam, drop-append-add, drop-cons}
+use Rattle.model.specs.Basics.{zeros, filled}
+use Rattle.model.specs.Construction.{rowAt}
+use Rattle.model.specs.Tables.{rowWidth, rowNumbers, poolNumbers}
 use Rattle.model.proofs.Logic.{first-part}
 use Rattle.model.proofs.TablePlaces.{startOf, start-number, length-number, row-numbers-length, pool-at}
-use Rattle.model.proofs.TableRoom.{fit-23, fit-24, fit-on}
 use Rattle.construct.specs.declared.Progress.{Progress}
-use Rattle.construct.specs.declared.Placed.{Placed}
-use Rattle.construct.specs.Rows.{rowIn, rowsHeld, rowsIn, Within, Held, Unfit, Numbered}
+use Rattle.construct.specs.Rows.{rowIn, rowsHeld, rowsIn, Within, Held}
 use Rattle.construct.proofs.RowSearch.{rows-length}
 
 -- a table that begins with a list, and one number or one list more

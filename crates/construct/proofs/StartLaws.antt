@@ -5,31 +5,29 @@ use mathlib.Core.Bool.{Bool, true, false, not}
 use mathlib.Core.List.{List, [], _∷_, _++_}
 use Prim.Native.Nat.{ℕ, zero, suc, _+_, _-_, _*_, _/_, _^_, _≤_, _<_}
 use native.Mathlib.Omega.{arith}
-use native.Mathlib.Nat.{mul-le-mul-right, div-add-mod'}
-use lib.Dec.{eqb, ltb, leb}
-use lib.ListN.{length, getD}
+use native.Mathlib.Nat.{mul-le-mul-right}
+use lib.Dec.{eqb, ltb}
+use lib.ListN.{length}
 use borrow.Author.Tests.{le-leb, not-false, eqb-true, eqb-false}
 use Rattle.model.specs.declared.Head.{Head}
-use Rattle.model.specs.Basics.{pick, lesser, quotient, zeros, filled, bit, bitsFrom, maskOf, refuse}
-use Rattle.model.specs.Rules.{Rule, cm, baseCount, pairCount, mostPairs, validRule}
-use Rattle.model.specs.Construction.{width, digitsCode, codeOf, withCode, startBases, startCodes, startRow, mostRows, rowsOf}
+use Rattle.model.specs.Basics.{pick, lesser, quotient, zeros, bit, bitsFrom, maskOf, refuse}
+use Rattle.model.specs.Rules.{Rule, cm, baseCount, pairCount, mostPairs}
+use Rattle.model.specs.Construction.{digitsCode, codeOf, withCode, startBases, startCodes, startRow, mostRows}
 use Rattle.model.specs.Layout.{edgeNeed, locationsIn, ruleIn, isReadable, ruleRefusal}
-use Rattle.model.specs.Tables.{rowWidth, rowRoom}
-use Rattle.edges.specs.Powers.{smallPower}
-use Rattle.model.proofs.Logic.{by-test, or-cases, In, here, there, lesser-left, lesser-right, quotient-is}
+use Rattle.model.proofs.Logic.{by-test, In, here, there}
 use Rattle.model.proofs.Refusals.{refused-false, then-passes}
 use Rattle.model.proofs.Valid.{Valid, valid-of, cm-most}
-use Rattle.model.proofs.Readable.{Readable, readable-of, passes-valid}
+use Rattle.model.proofs.Readable.{readable-of, passes-valid}
 use Rattle.model.proofs.Rising.{rises-below}
 use Rattle.model.proofs.Codes.{start-bases, code-below}
+use Rattle.edges.specs.Powers.{smallPower}
 use Rattle.pairs.specs.declared.Scale.{Scale}
 use Rattle.pairs.specs.Pairs.{Scaled}
 use Rattle.construct.specs.declared.Span.{Span}
-use Rattle.construct.specs.declared.Progress.{Progress}
 use Rattle.construct.specs.declared.Placed.{Placed}
 use Rattle.construct.specs.Marks.{codesIn, MarksAre, startCodesBy, CanStart, Ready}
-use Rattle.construct.specs.Rows.{rowsIn, Held, Grown, MarksNumbered}
-use Rattle.construct.specs.Builds.{RoomIn, CanPlaceStart, StartPlaced}
+use Rattle.construct.specs.Rows.{Held, Grown, MarksNumbered}
+use Rattle.construct.specs.Builds.{RoomIn, StartPlaced}
 
 -- the fields of the rule that a head record spells
 pub clocks-of : (h : Head) (t : List ℕ) → ruleIn h t .clocks ≡ h .clocks

@@ -1,16 +1,16 @@
 -- The cells of a row at a symbol, interval by interval: those so far are laid in their place, and the rows found so far
 -- lead to the same rows as those before.
-use mathlib.Core.Path.{_≡_, refl, sym, _∙_, ap, ap₂, subst}
-use mathlib.Core.List.{List, [], _∷_, _++_, append-assoc, append-nil}
-use Prim.Native.Nat.{ℕ, zero, suc, _+_, _-_, _*_, _^_, _≤_, _<_}
+use mathlib.Core.Path.{_≡_, refl, sym, _∙_, ap, subst}
+use mathlib.Core.List.{List, [], _∷_, _++_, append-assoc}
+use Prim.Native.Nat.{ℕ, suc, _+_, _-_, _*_, _^_, _≤_, _<_}
 use native.Mathlib.Omega.{arith}
-use native.Mathlib.Nat.{mul-le-mul, mul-le-mul-left, mul-le-mul-right}
+use native.Mathlib.Nat.{mul-le-mul, mul-le-mul-right}
 use native.Mathlib.Numerals.{add-one}
-use lib.ListN.{length, getD, set, take, drop, length-set, length-append, length-replicate}
+use lib.ListN.{length, set, length-set, length-replicate}
 use Rattle.model.specs.declared.Head.{Head}
 use Rattle.model.specs.Basics.{zeros}
-use Rattle.model.specs.Rules.{Rule, cm}
-use Rattle.model.specs.Construction.{width, nextRow, rowAt, withRow, byIntervals, bySymbols, cellOf}
+use Rattle.model.specs.Rules.{Rule}
+use Rattle.model.specs.Construction.{width, nextRow, rowAt, withRow, byIntervals, cellOf}
 use Rattle.model.specs.Tables.{cellsFrom}
 use Rattle.model.specs.Layout.{ruleIn}
 use Rattle.model.proofs.Valid.{valid-of}

@@ -124,7 +124,11 @@ pub(crate) fn place_marks(
 ) -> Placed
     requires { ⌜ InSpan (now marks) span ⌝ }
     requires { ⌜ Held (now rows) (now pool) p ⌝ }
-    ensures { λ r. ⌜ MarksNumbered (p .room) (withRow (codesIn (now (marks .entry))) (rowsIn (p .rows) (now (rows .entry)) (now (pool .entry)))) (numberOf (codesIn (now (marks .entry))) (rowsIn (p .rows) (now (rows .entry)) (now (pool .entry)))) (now (marks .entry)) (now (marks .exit)) (now (rows .exit)) (now (pool .exit)) r ⌝ }
+    ensures { λ r.
+        ⌜ MarksNumbered (p .room)
+        (withRow (codesIn (now (marks .entry))) (rowsIn (p .rows) (now (rows .entry)) (now (pool .entry))))
+        (numberOf (codesIn (now (marks .entry))) (rowsIn (p .rows) (now (rows .entry)) (now (pool .entry))))
+        (now (marks .entry)) (now (marks .exit)) (now (rows .exit)) (now (pool .exit)) r ⌝ }
 {
     let count = gather(marks, span);
     let placed = place_row(&marks[..count], rows, pool, p);

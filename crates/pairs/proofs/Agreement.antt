@@ -1,23 +1,22 @@
 -- For the scale of a rule, pairs and codes are the construction's: the pair of a code, the edges that it allows, their
 -- targets, and whether the timer is reset.
 use mathlib.Core.Path.{_≡_, refl, sym, _∙_, ap, ap₂}
-use mathlib.Core.Bool.{Bool, true, false, _&&_, _||_}
+use mathlib.Core.Bool.{Bool, true, false, _&&_}
 use mathlib.Core.List.{List, [], _∷_}
 use Prim.Native.Nat.{ℕ, zero, suc, _+_, _*_, _^_, _≤_, _<_}
 use native.Mathlib.Omega.{arith}
 use lib.Dec.{eqb}
-use lib.ListN.{length, getD, take}
+use lib.ListN.{take}
 use lib.Seq.{getD-take}
 use Rattle.model.specs.Basics.{pick, quotient, remainder, bit}
 use Rattle.model.specs.Rules.{Atom, Edge, Rule, cm, baseCount}
 use Rattle.model.specs.Runs.{zeroedFrom, zeroed}
 use Rattle.model.specs.Construction.{regionOf, regionRelated, regionsHold, digitsOf, digitsCode, codeOf, locationOf, basesOf, allows, pairResets, rowResets, advanced, targetOf}
 use Rattle.model.proofs.Logic.{In, here, there}
-use Rattle.model.proofs.Valid.{AtomIn, EdgeIn}
+use Rattle.model.proofs.Valid.{EdgeIn}
 use Rattle.pairs.specs.declared.Scale.{Scale}
-use Rattle.pairs.specs.declared.Pair.{Pair}
 use Rattle.pairs.specs.declared.Input.{Input}
-use Rattle.pairs.specs.Pairs.{Scaled, radix, unpacked, movedBases, pairAllows, pairTarget, pairResetsOn, pairResetsBy, rowResetsBy}
+use Rattle.pairs.specs.Pairs.{Scaled, radix, unpacked, movedBases, pairAllows, pairTarget, pairResetsBy, rowResetsBy}
 
 -- the first k of n digits; bases are moved one by one
 digits-take : (k n m x : ℕ) → k ≤ n → take k (digitsOf n m x) ≡ digitsOf k m x

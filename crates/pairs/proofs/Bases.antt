@@ -2,16 +2,15 @@
 use mathlib.Core.Path.{_≡_, refl, sym, _∙_, ap}
 use mathlib.Core.Bool.{Bool, true, false}
 use mathlib.Core.List.{List, [], _∷_, _++_, append-assoc, append-nil}
-use Prim.Native.Nat.{ℕ, zero, suc, _+_, _-_, _*_, _/_, _%_, _^_, _≤_, _<_}
+use Prim.Native.Nat.{ℕ, suc, _+_, _-_, _*_, _/_, _%_, _^_, _≤_, _<_}
 use native.Mathlib.Omega.{arith}
 use native.Mathlib.Nat.{div-eq-of-lt, pow-le-pow-right, pow-le-pow-left, pow-zero, pow-suc, le-trans, mul-le-mul}
 use native.Mathlib.Numerals.{add-one}
-use lib.Dec.{eqb, ltb}
-use lib.ListN.{length, getD, set, take, drop, length-set, length-drop}
+use lib.ListN.{length, getD, set, take, drop, length-set}
 use lib.Seq.{take-suc-set, drop-cons, take-length, drop-length, take-nil}
 use borrow.Author.Tests.{lt-ltb, le-ltb}
 use Rattle.model.specs.Basics.{pick, bit, quotient, remainder}
-use Rattle.model.specs.Runs.{zeroedFrom, zeroed}
+use Rattle.model.specs.Runs.{zeroedFrom}
 use Rattle.model.specs.Construction.{digitsCode, digitsOf, advanced}
 use Rattle.model.proofs.Logic.{quotient-is, remainder-is}
 use Rattle.pairs.specs.declared.Scale.{Scale}

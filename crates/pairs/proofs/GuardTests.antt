@@ -2,19 +2,18 @@
 -- the edge table.
 use mathlib.Core.Path.{_≡_, refl, sym, _∙_, ap}
 use mathlib.Core.Bool.{Bool, true, false, _&&_, _||_, not}
-use mathlib.Core.List.{List, [], _∷_}
-use Prim.Native.Nat.{ℕ, zero, suc, _+_, _-_, _*_, _≤_, _<_}
+use mathlib.Core.List.{List, []}
+use Prim.Native.Nat.{ℕ, _+_, _-_, _*_, _≤_, _<_}
 use native.Mathlib.Omega.{arith}
 use native.Mathlib.Nat.{add-assoc}
 use native.Mathlib.Numerals.{add-one}
 use lib.Dec.{eqb, ltb, leb}
-use lib.ListN.{length, getD, drop, List·getD-eq-default}
+use lib.ListN.{length, getD, drop}
 use lib.Seq.{getD-drop, drop-cons, drop-length}
 use borrow.Author.Tests.{lt-ltb, le-ltb, le-leb, eq-eqb, ne-eqb, not-true, not-false}
-use Rattle.model.specs.Basics.{pick}
-use Rattle.model.specs.Rules.{Atom, Edge}
+use Rattle.model.specs.Rules.{Edge}
 use Rattle.model.specs.Runs.{related}
-use Rattle.model.specs.Construction.{topInterval, regionOf, regionRelated, regionsHold}
+use Rattle.model.specs.Construction.{regionOf, regionRelated, regionsHold}
 use Rattle.model.specs.Layout.{edgeFields, edgeWidth, atomsIn, edgeIn, edgesIn}
 use Rattle.model.proofs.EdgeTable.{atoms-rest, edges-rest}
 use Rattle.pairs.specs.declared.Pair.{Pair}
