@@ -58,7 +58,8 @@ codes-set i zero (x ∷ m) h =
     (λ e. rw (codes-one i x m e) (sym (with-head i i (codesFrom (suc i) m) refl))))
 codes-set i (suc k) (x ∷ m) h =
     let a : i + suc k ≡ suc i + k = omega arith in
-    let on : codesFrom (suc i) (set m k 1) ≡ withCode (suc i + k) (codesFrom (suc i) m) = codes-set (suc i) k m (omega arith) in
+    let on : codesFrom (suc i) (set m k 1) ≡ withCode (suc i + k) (codesFrom (suc i) m) =
+    codes-set (suc i) k m (omega arith) in
     by-test (eqb x 0) (λ e. codes-none i x (set m k 1) e ∙ (on ∙ (rw (a, codes-none i x m e))))
     (λ e.
     codes-one i x (set m k 1) e

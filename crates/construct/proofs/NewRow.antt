@@ -86,7 +86,8 @@ module _ {rows pool : List ℕ} {p : Progress} (held : Held rows pool p) where
   }
 
   -- the tables after one row more
-  module _ (x rows′ pool′ : List ℕ) (a b : ℕ) (has-room : p .rows < p .room) (in-pool : p .total + length x ≤ length pool)
+  module _ (x rows′ pool′ : List ℕ) (a b : ℕ) (has-room : p .rows < p .room)
+      (in-pool : p .total + length x ≤ length pool)
       (small : length x ≤ mostPairs) (is-a : a ≡ p .total) (is-b : b ≡ length x)
       (rows-now : rows′ ≡ set (set rows (2 * p .rows) a) (2 * p .rows + 1) b)
       (pool-now : pool′ ≡ take (p .total) pool ++ (x ++ drop (p .total + length x) pool)) where
@@ -106,12 +107,14 @@ module _ {rows pool : List ℕ} {p : Progress} (held : Held rows pool p) where
         ∙ filled-set (length rows) ns a (omega (arith, numbers-long)) in
         let longer : length (ns ++ (a ∷ [])) ≡ 2 * p .rows + 1 =
         length-append ns (a ∷ []) ∙ ap (λ (k : ℕ). k + 1) numbers-long in
-        let both : set (set rows (2 * p .rows) a) (2 * p .rows + 1) b ≡ filled (length rows) ((ns ++ (a ∷ [])) ++ (b ∷ [])) =
+        let two : List ℕ = (ns ++ (a ∷ [])) ++ (b ∷ []) in
+        let both : set (set rows (2 * p .rows) a) (2 * p .rows + 1) b ≡ filled (length rows) two =
         ap₂ (λ (l : List ℕ) (k : ℕ). set l k b) one (sym longer)
         ∙ filled-set (length rows) (ns ++ (a ∷ [])) b (omega (arith, longer)) in
         let same-numbers : (ns ++ (a ∷ [])) ++ (b ∷ []) ≡ rowNumbers 0 (rs ++ (x ∷ [])) =
         append-assoc ns (a ∷ []) (b ∷ [])
-        ∙ (ap₂ (λ (u v : ℕ). ns ++ (u ∷ v ∷ [])) (is-a ∙ (held .total-is ∙ omega arith)) is-b ∙ sym (rows-append 0 rs x)) in
+        ∙ (ap₂ (λ (u v : ℕ). ns ++ (u ∷ v ∷ [])) (is-a ∙ (held .total-is ∙ omega arith)) is-b
+        ∙ sym (rows-append 0 rs x)) in
         rows-now ∙ (both ∙ ap (filled (length rows)) same-numbers)
 
     new-pool : pool′ ≡ filled (length pool) (poolNumbers (rowsIn (p .rows) rows pool ++ (x ∷ [])))
@@ -120,7 +123,8 @@ module _ {rows pool : List ℕ} {p : Progress} (held : Held rows pool p) where
         let e : p .total ≡ length (poolNumbers rs) = held .total-is in
         pool-now
         ∙ (ap₂ (λ (n : ℕ) (l : List ℕ). take n l ++ (x ++ drop (n + length x) l)) e (held .pool-is)
-        ∙ (filled-lay (length pool) (poolNumbers rs) x (omega (arith, in-pool, e)) ∙ ap (filled (length pool)) (sym (pool-append rs x))))
+        ∙ (filled-lay (length pool) (poolNumbers rs) x (omega (arith, in-pool, e))
+        ∙ ap (filled (length pool)) (sym (pool-append rs x))))
 
     rows-long : length rows′ ≡ length rows
     rows-long = ap length rows-now ∙ simp length-set
@@ -232,8 +236,8 @@ module _ {rows pool : List ℕ} {p : Progress} (held : Held rows pool p) (x : Li
   pub placed-new :
       (rows′ pool′ : List ℕ) (answer : Placed) → f ≡ Nothing
       → Numbered (p .room) (rowsIn (p .rows) rows pool ++ (x ∷ [])) (p .rows) rows′ pool′ answer
-      → Numbered (p .room) (withRow x (rowsIn (p .rows) rows pool)) (numberOf x (rowsIn (p .rows) rows pool)) rows′ pool′
-      answer
+      → Numbered (p .room) (withRow x (rowsIn (p .rows) rows pool)) (numberOf x (rowsIn (p .rows) rows pool)) rows′
+      pool′ answer
   placed-new rows′ pool′ answer g added =
       let rs : List (List ℕ) = rowsIn (p .rows) rows pool in
       let new : length rs ≤ numberOf x rs = found-nothing x rs f is-found g in

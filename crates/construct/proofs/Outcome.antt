@@ -92,7 +92,8 @@ module _
 
   -- it has number 0
   pub start-fills :
-      {z : Scale} {cells rows pool : List ℕ} (each : ℕ) → CanBuild r z marks cells rows pool → length marks₁ ≡ length marks
+      {z : Scale} {cells rows pool : List ℕ} (each : ℕ) → CanBuild r z marks cells rows pool
+      → length marks₁ ≡ length marks
       → each ≡ r .symbols * width r
       → room * each ≤ length cells
       → p .number ≡ 0
@@ -227,7 +228,8 @@ module _ (h : Head) (t scratch cells rows pool : List ℕ) (passed : ruleRefusal
             cells-are =
                 rw f
                 (all-are .cells-are e
-                ∙ ap (λ (n : ℕ). filled n (cellNumbers (ruleIn h t) (rowsOf (ruleIn h t)) (rowsOf (ruleIn h t)))) cells-long);
+                ∙ ap (λ (n : ℕ). filled n (cellNumbers (ruleIn h t) (rowsOf (ruleIn h t)) (rowsOf (ruleIn h t))))
+                cells-long);
             rows-are =
                 rw f
                 (held .rows-are ∙ ap₂ (λ (n : ℕ) (x : List (List ℕ)). filled n (rowNumbers 0 x)) rows-long are);
@@ -238,7 +240,8 @@ module _ (h : Head) (t scratch cells rows pool : List ℕ) (passed : ruleRefusal
 
       -- 23 and 24: every table zero
       pub builds-unfit :
-          (cells″ rows″ pool″ : List ℕ) → (p .number ≡ 0 → ⊥) → cells″ ≡ zeros (length cells) → rows″ ≡ zeros (length rows)
+          (cells″ rows″ pool″ : List ℕ) → (p .number ≡ 0 → ⊥) → cells″ ≡ zeros (length cells)
+          → rows″ ≡ zeros (length rows)
           → pool″ ≡ zeros (length pool)
           → BuildsTable h t scratch scratch′ cells cells″ rows rows″ pool pool″ (notBuilt (p .number) 0)
       builds-unfit cells″ rows″ pool″ n a b c =
@@ -289,7 +292,8 @@ builds-unread h t scratch cells rows pool answer checked n =
     (tableRefusal (ruleIn h t) (length scratch) (length cells) (length rows) (length pool))
     refused in
     let not-zero : eqb (ruleRefusal h t .number) 0 ≡ false = ne-eqb (ruleRefusal h t .number) 0 refused in
-    let low : leb 23 (ruleRefusal h t .number) ≡ false = lt-leb 23 (ruleRefusal h t .number) (omega (arith, low-number h t)) in
+    let low : leb 23 (ruleRefusal h t .number) ≡ false =
+    lt-leb 23 (ruleRefusal h t .number) (omega (arith, low-number h t)) in
     record {
       answer-is = rw (f, not-zero, number-is, place-is);
       scratch-is = rw (f, not-zero, low);
@@ -298,7 +302,9 @@ builds-unread h t scratch cells rows pool answer checked n =
       pool-is = rw (f, not-zero, low);
     }
 
-pub rule-passes : (h : Head) (t : List ℕ) (answer : Answer) → ChecksRule h t answer → answer .number ≡ 0 → ruleRefusal h t .number ≡ 0
+pub rule-passes :
+    (h : Head) (t : List ℕ) (answer : Answer) → ChecksRule h t answer → answer .number ≡ 0
+    → ruleRefusal h t .number ≡ 0
 rule-passes h t answer checked e = sym (ap (λ (x : Answer). x .number) (checked .answer-is)) ∙ e
 
 -- the same outcome by another name
@@ -316,7 +322,8 @@ zeros-again s₁ s e = e ∙ ap zeros (sym (ap length e ∙ length-replicate (le
 
 -- the cells of a row
 pub each-is :
-    (h : Head) (t : List ℕ) {z : Scale} {marks : List ℕ} (symbols top : ℕ) → Ready (ruleIn h t) z marks → symbols ≡ h .symbols
+    (h : Head) (t : List ℕ) {z : Scale} {marks : List ℕ} (symbols top : ℕ) → Ready (ruleIn h t) z marks
+    → symbols ≡ h .symbols
     → top ≡ z .top
     → symbols * (2 * top + 2) ≡ ruleIn h t .symbols * width (ruleIn h t)
 each-is h t symbols top ready e f = ap₂ _*_ (e ∙ sym (symbols-of h t)) (width-is top ready f)

@@ -40,7 +40,9 @@ searching count rows pool codes =
 
 module _ {count row : ℕ} {rows pool codes : List ℕ} (inv : Searching count row rows pool codes) where
   rows-rest :
-      row < count → rowsHeld (count - row) row rows pool ≡ rowIn rows pool row ∷ rowsHeld (count - (row + 1)) (row + 1) rows pool
+      row < count
+      → rowsHeld (count - row) row rows pool
+      ≡ rowIn rows pool row ∷ rowsHeld (count - (row + 1)) (row + 1) rows pool
   rows-rest h = let a : count - row ≡ suc (count - (row + 1)) = omega arith in rw (a, add-one row)
 
   pub search-next :

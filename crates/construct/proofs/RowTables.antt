@@ -1,5 +1,5 @@
--- The row table and the pool as rows are put in: they spell the rows that they hold, one row more is two numbers and its
--- codes, and a row that does not fit is the first that does not, whatever comes after.
+-- The row table and the pool as rows are put in: they spell the rows that they hold, and one row more is two numbers
+-- and its codes.
 use mathlib.Core.Path.{_≡_, refl, sym, _∙_, ap}
 use mathlib.Core.List.{List, [], _∷_, _++_, append-assoc, append-nil}
 use Prim.Native.Nat.{ℕ, zero, suc, _+_, _-_, _*_, _≤_, _<_}
@@ -38,7 +38,9 @@ pub filled-lay :
     → take (length xs) (filled n xs) ++ (ys ++ drop (length xs + length ys) (filled n xs)) ≡ filled n (xs ++ ys)
 filled-lay n xs ys h =
     let e : n - length xs - length ys ≡ n - length (xs ++ ys) = rw (length-append xs ys) (omega arith) in
-    rw (take-append-seam xs (zeros (n - length xs)), drop-append-add xs (zeros (n - length xs)) (length ys), drop-zeros (length ys) (n - length xs), e)
+    let rest : drop (length xs + length ys) (filled n xs) ≡ zeros (n - length (xs ++ ys)) =
+    drop-append-add xs (zeros (n - length xs)) (length ys) ∙ (drop-zeros (length ys) (n - length xs) ∙ ap zeros e) in
+    rw (take-append-seam xs (zeros (n - length xs)), rest)
     (sym (append-assoc xs ys (zeros (n - length (xs ++ ys)))))
 
 -- one row more
@@ -73,7 +75,9 @@ module _ (rs : List (List ℕ)) (l m : ℕ) where
   row-in n h =
       rw (start-is n h, length-is n h) (pool-at rs n (zeros (m - length (poolNumbers rs))) h)
 
-start-within : (n : ℕ) (xs : List (List ℕ)) → n < length xs → startOf n xs + length (rowAt xs n) ≤ length (poolNumbers xs)
+start-within :
+    (n : ℕ) (xs : List (List ℕ)) → n < length xs
+    → startOf n xs + length (rowAt xs n) ≤ length (poolNumbers xs)
 start-within n [] h = absurd (omega arith)
 start-within zero (x ∷ xs) h = rw (length-append x (poolNumbers xs)) (omega arith)
 start-within (suc n) (x ∷ xs) h =

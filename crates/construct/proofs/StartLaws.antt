@@ -1,5 +1,5 @@
--- From the head record to the start row: the scale of a rule that passed, the room for rows, and the start row marked and
--- given number 0.
+-- From the head record to the start row: the scale of a rule that passed, the room for rows, and the start row marked
+-- and given number 0.
 use mathlib.Core.Path.{_≡_, refl, sym, _∙_, ap, ap₂, subst}
 use mathlib.Core.Bool.{Bool, true, false, not}
 use mathlib.Core.List.{List, [], _∷_, _++_}
@@ -73,7 +73,8 @@ module _ (h : Head) (t : List ℕ) (passed : ruleRefusal h t .number ≡ 0) wher
       → weight ≤ mostPairs
   unfolding pairCount
   weight-most top clocks weight e k w =
-      let p : 1 * weight ≤ ruleIn h t .locations * weight = mul-le-mul-right weight (valid-is .sizes .locations-least) in
+      let p : 1 * weight ≤ ruleIn h t .locations * weight =
+      mul-le-mul-right weight (valid-is .sizes .locations-least) in
       let q : ruleIn h t .locations * weight ≡ pairCount (ruleIn h t) =
       ap (λ (n : ℕ). ruleIn h t .locations * n) (weight-is top clocks weight e k w) in
       omega (arith, valid-is .pairs-most)
@@ -100,7 +101,8 @@ pairs-are h t z l w s e f = ap₂ _*_ (e ∙ sym (locations-of h t)) (f ∙ s .w
 
 -- the room for rows
 pub room-is :
-    (cells rows each n inner room : ℕ) → n ≡ quotient cells each → inner ≡ lesser (rows / 2) n → room ≡ lesser 4096 inner
+    (cells rows each n inner room : ℕ) → n ≡ quotient cells each → inner ≡ lesser (rows / 2) n
+    → room ≡ lesser 4096 inner
     → room ≡ lesser mostRows (lesser (rows / 2) (quotient cells each))
 room-is cells rows each n inner room a b c = rw (c, b, a)
 

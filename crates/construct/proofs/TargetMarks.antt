@@ -53,7 +53,8 @@ pub record Pairing
     (h : Head) (t : List ℕ) (at : Input) (timer : Bool) (x e : ℕ) (row marks : List ℕ) (span : Span) : Type 0 where
   pub turns : e ≤ h .count
   pub marks-are :
-      MarksAre (pairTargets (ruleIn h t) (at .symbol) (at .interval) timer x (take e (ruleIn h t .edges)) row) marks span
+      MarksAre (pairTargets (ruleIn h t) (at .symbol) (at .interval) timer x (take e (ruleIn h t .edges)) row) marks
+      span
 
 pub pairing-start :
     (h : Head) (t : List ℕ) (at : Input) (timer : Bool) (x : ℕ) (marks : List ℕ) (span : Span) → InSpan marks span
@@ -206,7 +207,9 @@ module _
   rowing-end l = rw (take-all n row l) at (inv .marks-are)
 
 -- marks of another length are ready too
-pub ready-again : {r : Rule} {z : Scale} {lent : List ℕ} (marks : List ℕ) → Ready r z lent → length marks ≡ length lent → Ready r z marks
+pub ready-again :
+    {r : Rule} {z : Scale} {lent : List ℕ} (marks : List ℕ) → Ready r z lent → length marks ≡ length lent
+    → Ready r z marks
 ready-again marks ready e = record {
   valid = ready .valid;
   scaled = ready .scaled;

@@ -24,8 +24,8 @@ pub record CanLeave (r : Rule) (z : Scale) (marks rows pool : List ℕ) (p : Pro
 
 -- one cell, and the row that it leads to
 pub record CellMade
-    (r : Rule) (row : ℕ) (at : Input) (rs : List (List ℕ)) (room : ℕ) (marks marks′ rows′ pool′ : List ℕ) (answer : Filled)
-    : Type 0 where
+    (r : Rule) (row : ℕ) (at : Input) (rs : List (List ℕ)) (room : ℕ) (marks marks′ rows′ pool′ : List ℕ)
+    (answer : Filled) : Type 0 where
   pub marks-zero : marks′ ≡ zeros (length marks)
   pub grown :
       Grown room (withRow (nextRow r (at .symbol) (at .interval) (rowAt rs row)) rs) rows′ pool′ (answer .progress)
@@ -44,8 +44,8 @@ pub record CanFill
 
 -- the cells of a row at a symbol
 pub record SymbolFilled
-    (r : Rule) (row s : ℕ) (rs : List (List ℕ)) (room : ℕ) (marks marks′ cells cells′ rows′ pool′ : List ℕ) (p : Progress)
-    : Type 0 where
+    (r : Rule) (row s : ℕ) (rs : List (List ℕ)) (room : ℕ) (marks marks′ cells cells′ rows′ pool′ : List ℕ)
+    (p : Progress) : Type 0 where
   pub marks-zero : marks′ ≡ zeros (length marks)
   pub grown : Grown room (byIntervals (width r) 0 r s (rowAt rs row) rs) rows′ pool′ p
   pub cells-are :

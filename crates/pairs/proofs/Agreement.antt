@@ -69,8 +69,10 @@ module _ {r : Rule} {z : Scale} (scaled : Scaled r z) where
       → pairAllows (z .top) at (unpacked z x) e ≡ allows r (at .symbol) (at .interval) x e
   unfolding allows
   allows-is at x e v =
-      let g : regionsHold (z .top) (at .interval) (unpacked z x .bases) (e .atoms) ≡ regionsHold (cm r) (at .interval) (basesOf r x) (e .atoms) =
-      guard-take (r .clocks) (z .top) (at .interval) (unpacked z x .bases) (e .atoms) (λ a i. v .atoms-in a i .clock-below)
+      let holds : ℕ → List ℕ → Bool = λ c bs. regionsHold c (at .interval) bs (e .atoms) in
+      let g : holds (z .top) (unpacked z x .bases) ≡ holds (cm r) (basesOf r x) =
+      guard-take (r .clocks) (z .top) (at .interval) (unpacked z x .bases) (e .atoms)
+      (λ a i. v .atoms-in a i .clock-below)
       ∙ ap₂ (λ (c : ℕ) (bs : List ℕ). regionsHold c (at .interval) bs (e .atoms)) (scaled .top-is) (bases-are x) in
       ap₂ (λ (l : ℕ) (t : Bool). eqb (e .source) l && eqb (e .symbol) (at .symbol) && t) (location-is x) g
 
@@ -78,7 +80,8 @@ module _ {r : Rule} {z : Scale} (scaled : Scaled r z) where
       (i : ℕ) (timer : Bool) (x : ℕ) (e : Edge) → pairTarget z i timer (unpacked z x) e ≡ targetOf r i timer x e
   unfolding targetOf codeOf
   target-is i timer x e =
-      let b : take (z .clocks) (movedBases (e .resets) timer (z .top) i (unpacked z x .bases)) ≡ movedBases (e .resets) timer (cm r) i (basesOf r x) =
+      let moved : List ℕ = movedBases (e .resets) timer (z .top) i (unpacked z x .bases) in
+      let b : take (z .clocks) moved ≡ movedBases (e .resets) timer (cm r) i (basesOf r x) =
       ap (λ (k : ℕ). take k (movedBases (e .resets) timer (z .top) i (unpacked z x .bases))) (scaled .clocks-are)
       ∙ (take-moved (r .clocks) (e .resets) timer (z .top) i (unpacked z x .bases)
       ∙ ap₂ (λ (c : ℕ) (bs : List ℕ). movedBases (e .resets) timer c i bs) (scaled .top-is) (bases-are x)) in

@@ -65,13 +65,14 @@ module _ {m x k rest : ℕ} {bases : List ℕ} (inv : Taking m x k rest bases) w
       → Taking m x (k + 1) (rest / m) (set bases k digit)
   taking-next digit p h e =
       let a : 4 - k ≡ suc (4 - (k + 1)) = omega arith in
+      let to-come : List ℕ = digitsOf (4 - (k + 1)) m (rest / m) in
       let front : take (k + 1) (set bases k digit) ≡ take k bases ++ (digit ∷ []) =
       rw (add-one k) (take-suc-set bases k digit (omega (arith, inv .long))) in
       record {
         turns = omega arith;
         long = length-set bases k digit ∙ inv .long;
         all-are =
-            rw (front, append-assoc (take k bases) (digit ∷ []) (digitsOf (4 - (k + 1)) m (rest / m)), e, ← remainder-is rest m p, ← quotient-is rest m p)
+            rw (front, append-assoc (take k bases) (digit ∷ []) to-come, e, ← remainder-is rest m p, ← quotient-is rest m p)
             (rw a at (inv .all-are));
       }
 
@@ -123,13 +124,15 @@ module _ {mask : ℕ} {timer : Bool} {c i k : ℕ} {bases next : List ℕ} (inv 
   moving-next b h e =
       let front : take (k + 1) (set next k b) ≡ take k next ++ (b ∷ []) =
       rw (add-one k) (take-suc-set next k b (omega (arith, inv .next-long))) in
-      let rest : List ℕ = zeroedFrom (suc k) mask (pick timer (advanced c i (drop (suc k) bases)) (drop (suc k) bases)) in
+      let later : List ℕ = drop (suc k) bases in
+      let rest : List ℕ = zeroedFrom (suc k) mask (pick timer (advanced c i later) later) in
+      let inside : k < length bases = omega (arith, inv .long) in
       record {
         turns = omega arith;
         long = inv .long;
         next-long = length-set next k b ∙ inv .next-long;
         all-are =
-            rw (front, add-one k, append-assoc (take k next) (b ∷ []) rest, e, ← moved-rest mask timer c i k bases (omega (arith, inv .long)))
+            rw (front, add-one k, append-assoc (take k next) (b ∷ []) rest, e, ← moved-rest mask timer c i k bases inside)
             (inv .all-are);
       }
 

@@ -63,7 +63,8 @@ atom-place :
     (c i : ℕ) (bases t : List ℕ) (at k : ℕ)
     → atomAt c i bases t (at + 5 + k) ≡ atomAt c i bases (drop edgeFields (drop at t)) k
 atom-place c i bases t at k =
-    let e : (n : ℕ) → getD (drop edgeFields (drop at t)) n 0 ≡ getD t (at + 5 + n) 0 = λ n. getD-drop edgeFields (drop at t) n 0 ∙ (getD-drop at t (5 + n) 0 ∙ rw (← add-assoc at 5 n)) in
+    let e : (n : ℕ) → getD (drop edgeFields (drop at t)) n 0 ≡ getD t (at + 5 + n) 0 =
+    λ n. getD-drop edgeFields (drop at t) n 0 ∙ (getD-drop at t (5 + n) 0 ∙ rw (← add-assoc at 5 n)) in
     rw (e k, e (k + 1), e (k + 2), ← add-assoc (at + 5) k 1, ← add-assoc (at + 5) k 2)
 
 -- The guard of the edge at a place, with the atoms still to come, is its whole guard.
@@ -158,7 +159,8 @@ module _ (c : ℕ) (at : Input) (p : Pair) (t : List ℕ) (e n : ℕ) (is-e : n 
   same-edge source symbol read r s l y d h g =
       let k : getD (drop (29 * e) t) 0 0 ≡ p .location = first-field t (29 * e) ∙ (rw (← is-e) (sym s ∙ l)) in
       let m : getD (drop (29 * e) t) 2 0 ≡ at .symbol = sym (rw is-e (field-at t (29 * e) 2)) ∙ (sym y ∙ (h ∙ d)) in
-      rw (eq-eqb (getD (drop (29 * e) t) 0 0) (p .location) k, eq-eqb (getD (drop (29 * e) t) 2 0) (at .symbol) m) (rw is-e at g)
+      rw (eq-eqb (getD (drop (29 * e) t) 0 0) (p .location) k, eq-eqb (getD (drop (29 * e) t) 2 0) (at .symbol) m)
+      (rw is-e at g)
 
 -- the target of a pair, from what was read of the edge
 pub target-is :

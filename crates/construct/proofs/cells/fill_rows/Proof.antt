@@ -1,5 +1,5 @@
--- `construct::cells::fill_rows` meets its contract: the cells of the rows so far stand from place 0 on, and discovery from
--- here gives the rows of the rule.
+-- `construct::cells::fill_rows` meets its contract: the cells of the rows so far stand from place 0 on, and discovery
+-- from here gives the rows of the rule.
 use mathlib.Core.Path.{_≡_, refl, _∙_}
 use Prim.Native.Nat.{suc, _-_}
 use native.Mathlib.Omega.{arith}
