@@ -19,7 +19,8 @@ use Rattle.pairs.specs.declared.Scale.{Scale}
 use Rattle.construct.specs.declared.Progress.{Progress}
 use Rattle.construct.specs.Marks.{Ready}
 use Rattle.construct.specs.Rows.{rowsIn, Held, Grown}
-use Rattle.construct.specs.Cells.{laid, CanFill, RowFilled, CanFillAll, AllFilled}
+use Rattle.construct.specs.Lent.{laid}
+use Rattle.construct.specs.Cells.{CanFill, RowFilled, CanFillAll, AllFilled}
 use Rattle.construct.proofs.RowSearch.{rows-length}
 use Rattle.construct.proofs.TargetMarks.{ready-again}
 use Rattle.construct.proofs.Laying.{laid-filled, numbers-snoc}
@@ -67,8 +68,8 @@ module _
   module _ {marks′ cells′ rows′ pool′ : List ℕ} {p′ : Progress} (l : n < p .rows)
       (filled-row : RowFilled r n (rowsIn (p .rows) rows pool) (p .room) marks marks′ cells cells′ rows′ pool′ p′) where
     grown-is :
-        Grown room (bySymbols (r .symbols) 0 r (rowAt (rowsIn (p .rows) rows pool) n) (rowsIn (p .rows) rows pool)) rows′
-        pool′ p′
+        Grown room (bySymbols (r .symbols) 0 r (rowAt (rowsIn (p .rows) rows pool) n) (rowsIn (p .rows) rows pool))
+        rows′ pool′ p′
     grown-is =
         subst
         (λ (k : ℕ).

@@ -11,7 +11,7 @@ use Rattle.model.specs.Rules.{Rule}
 use Rattle.model.specs.Construction.{width, nextRow, numberOf, withRow, cellOf}
 use Rattle.model.specs.Tables.{cellsFrom, symbolCells, cellNumbers}
 use Rattle.model.proofs.RowNumbers.{number-stays, with-has, with-number}
-use Rattle.construct.specs.Cells.{laid}
+use Rattle.construct.specs.Lent.{laid}
 use Rattle.construct.proofs.RowTables.{filled-lay}
 
 pub laid-none : (was : List ℕ) (at : ℕ) → was ≡ laid was at []
@@ -31,8 +31,10 @@ module _ (was : List ℕ) (at : ℕ) (u : List ℕ) (inside : at + length u ≤ 
   laid-set v h =
       let k : at + length (u ++ (v ∷ [])) ≡ suc (at + length u) = rw (length-append u (v ∷ [])) (omega arith) in
       let rest : List ℕ = drop (suc (at + length u)) was in
-      let there : set ((take at was ++ u) ++ (getD was (at + length u) 0 ∷ rest)) (at + length u) v ≡ (take at was ++ u) ++ (v ∷ rest) =
-      set-at (take at was ++ u) (getD was (at + length u) 0) rest v (at + length u) front in
+      let first : List ℕ = take at was ++ u in
+      let next : ℕ = getD was (at + length u) 0 in
+      let there : set (first ++ (next ∷ rest)) (at + length u) v ≡ first ++ (v ∷ rest) =
+      set-at first next rest v (at + length u) front in
       rw (split, drop-cons was (at + length u) 0 h, there, k)
       (append-assoc (take at was) u (v ∷ drop (suc (at + length u)) was)
       ∙ ap (λ (l : List ℕ). take at was ++ l) (sym (append-assoc u (v ∷ []) (drop (suc (at + length u)) was))))

@@ -126,6 +126,13 @@ module _ {rows pool : List ℕ} {p : Progress} (held : Held rows pool p) where
         ∙ (filled-lay (length pool) (poolNumbers rs) x (omega (arith, in-pool, e))
         ∙ ap (filled (length pool)) (sym (pool-append rs x))))
 
+    total-then :
+        length (poolNumbers (rowsIn (p .rows) rows pool ++ (x ∷ []))) ≡ p .total + length x
+    total-then =
+        let rs : List (List ℕ) = rowsIn (p .rows) rows pool in
+        ap length (pool-append rs x)
+        ∙ (length-append (poolNumbers rs) x ∙ ap (λ (k : ℕ). k + length x) (sym (held .total-is)))
+
     rows-long : length rows′ ≡ length rows
     rows-long = ap length rows-now ∙ simp length-set
 
@@ -133,8 +140,7 @@ module _ {rows pool : List ℕ} {p : Progress} (held : Held rows pool p) where
     pool-long =
         ap length new-pool
         ∙ filled-length (length pool) (poolNumbers (rowsIn (p .rows) rows pool ++ (x ∷ [])))
-        (omega
-        (arith, ap length (pool-append (rowsIn (p .rows) rows pool) x), length-append (poolNumbers (rowsIn (p .rows) rows pool)) x, held .total-is, in-pool))
+        (omega (arith, total-then, in-pool))
 
     rows-then : rowsIn (p .rows + 1) rows′ pool′ ≡ rowsIn (p .rows) rows pool ++ (x ∷ [])
     rows-then =
@@ -155,9 +161,7 @@ module _ {rows pool : List ℕ} {p : Progress} (held : Held rows pool p) where
           rows-are = rw (rows-then, rows-long) new-rows;
           pool-is = rw (rows-then, pool-long) new-pool;
           total-is =
-              rw rows-then
-              (omega
-              (arith, ap length (pool-append (rowsIn (p .rows) rows pool) x), length-append (poolNumbers (rowsIn (p .rows) rows pool)) x, held .total-is));
+              rw rows-then (sym total-then);
           in-room = omega arith;
           in-pool = rw pool-long in-pool;
           total-most = omega (arith, held .total-most);

@@ -18,7 +18,8 @@ use Rattle.pairs.specs.declared.Scale.{Scale}
 use Rattle.construct.specs.declared.Progress.{Progress}
 use Rattle.construct.specs.Marks.{Ready}
 use Rattle.construct.specs.Rows.{rowsIn, Held, Grown}
-use Rattle.construct.specs.Cells.{laid, CanFill, SymbolFilled, RowFilled}
+use Rattle.construct.specs.Lent.{laid}
+use Rattle.construct.specs.Cells.{CanFill, SymbolFilled, RowFilled}
 use Rattle.construct.proofs.RowSearch.{rows-length}
 use Rattle.construct.proofs.TargetMarks.{ready-again}
 use Rattle.construct.proofs.Laying.{laid-none, laid-join, symbols-snoc}
@@ -98,7 +99,8 @@ module _
           (inv .row-is)
           (subst
           (λ (n : ℕ).
-          Grown n (byIntervals (width r) 0 r s (rowAt (rowsIn (p .rows) rows pool) row) (rowsIn (p .rows) rows pool)) rows′
+          Grown n (byIntervals (width r) 0 r s (rowAt (rowsIn (p .rows) rows pool) row) (rowsIn (p .rows) rows pool))
+          rows′
           pool′ p′)
           (inv .room-kept)
           (filled .grown))
@@ -122,7 +124,8 @@ module _
           refused = λ e.
               unfit-extends (grown-is .refused e)
               (subst
-              (λ (x : List (List ℕ)). Extends (byIntervals (width r) 0 r s (rowAt rs row) (rowsIn (p .rows) rows pool)) x)
+              (λ (x : List (List ℕ)).
+              Extends (byIntervals (width r) 0 r s (rowAt rs row) (rowsIn (p .rows) rows pool)) x)
               turn-is
               (grows-extends
               (symbols-grow (r .symbols - (s + 1)) (s + 1) r (rowAt rs row)
@@ -159,7 +162,9 @@ module _
           let written : cells′ ≡ laid cells ((row * r .symbols + s) * width r) v =
           subst
           (λ (y : List ℕ).
-          cells′ ≡ laid cells ((row * r .symbols + s) * width r) (cellsFrom (width r) 0 r (byIntervals (width r) 0 r s y old ++ more) y s))
+          cells′
+          ≡ laid cells ((row * r .symbols + s) * width r)
+          (cellsFrom (width r) 0 r (byIntervals (width r) 0 r s y old ++ more) y s))
           (inv .row-is)
           (filled .cells-are e more) in
           let z : 0 + s ≡ s = omega arith in

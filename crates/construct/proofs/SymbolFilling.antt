@@ -23,7 +23,8 @@ use Rattle.construct.specs.declared.Progress.{Progress}
 use Rattle.construct.specs.declared.Filled.{Filled}
 use Rattle.construct.specs.Marks.{Ready}
 use Rattle.construct.specs.Rows.{rowsIn, Held, Unfit, Grown}
-use Rattle.construct.specs.Cells.{CanLeave, CellMade, laid, CanFill, SymbolFilled}
+use Rattle.construct.specs.Lent.{laid}
+use Rattle.construct.specs.Cells.{CanLeave, CellMade, CanFill, SymbolFilled}
 use Rattle.construct.proofs.RowSearch.{rows-length}
 use Rattle.construct.proofs.TargetMarks.{ready-again}
 use Rattle.construct.proofs.Laying.{laid-none, laid-store, cells-snoc, cell-stays}
@@ -119,7 +120,9 @@ module _
         same-next
         (subst
         (λ (n : ℕ).
-        Grown n (withRow (nextRow r (at′ .symbol) (at′ .interval) (rowAt (rowsIn (p .rows) rows pool) row)) (rowsIn (p .rows) rows pool))
+        Grown n
+        (withRow (nextRow r (at′ .symbol) (at′ .interval) (rowAt (rowsIn (p .rows) rows pool) row))
+        (rowsIn (p .rows) rows pool))
         rows′ pool′ (answer .progress))
         (inv .room-kept)
         (made .grown))

@@ -60,7 +60,9 @@ pub fn build_table(
     rows: &mut [u32],
     pool: &mut [u32],
 ) -> Building
-    ensures { λ r. ⌜ BuildsTable head (now (edges .entry)) (now (scratch .entry)) (now (scratch .exit)) (now (cells .entry)) (now (cells .exit)) (now (rows .entry)) (now (rows .exit)) (now (pool .entry)) (now (pool .exit)) r ⌝ }
+    ensures { λ r.
+        ⌜ BuildsTable head (now (edges .entry)) (now (scratch .entry)) (now (scratch .exit)) (now (cells .entry))
+        (now (cells .exit)) (now (rows .entry)) (now (rows .exit)) (now (pool .entry)) (now (pool .exit)) r ⌝ }
 {
     let checked = check_rule(head, edges);
     if checked.number != 0 {

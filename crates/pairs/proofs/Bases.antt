@@ -72,8 +72,9 @@ module _ {m x k rest : ℕ} {bases : List ℕ} (inv : Taking m x k rest bases) w
         turns = omega arith;
         long = length-set bases k digit ∙ inv .long;
         all-are =
-            rw (front, append-assoc (take k bases) (digit ∷ []) to-come, e, ← remainder-is rest m p, ← quotient-is rest m p)
-            (rw a at (inv .all-are));
+            rw (front, append-assoc (take k bases) (digit ∷ []) to-come, e)
+            (rw (← remainder-is rest m p, ← quotient-is rest m p)
+            (rw a at (inv .all-are)));
       }
 
   pub taking-end : 4 ≤ k → bases ≡ digitsOf 4 m x
@@ -132,8 +133,8 @@ module _ {mask : ℕ} {timer : Bool} {c i k : ℕ} {bases next : List ℕ} (inv 
         long = inv .long;
         next-long = length-set next k b ∙ inv .next-long;
         all-are =
-            rw (front, add-one k, append-assoc (take k next) (b ∷ []) rest, e, ← moved-rest mask timer c i k bases inside)
-            (inv .all-are);
+            rw (front, add-one k, append-assoc (take k next) (b ∷ []) rest, e)
+            (rw (← moved-rest mask timer c i k bases inside) (inv .all-are));
       }
 
   pub moving-end : 4 ≤ k → next ≡ movedBases mask timer c i bases
