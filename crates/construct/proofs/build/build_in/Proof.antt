@@ -5,7 +5,8 @@ use borrow.Author.Needs.{needs}
 use Rattle.model.specs.Tables.{rowRoom}
 use Rattle.model.specs.Layout.{ruleIn}
 use Rattle.model.specs.Basics.{zeros}
-use Rattle.construct.proofs.Outcome.{builds-done, builds-unfit, builds-as, can-build, same-building}
+use Rattle.construct.proofs.Beginning.{can-build}
+use Rattle.construct.proofs.Outcome.{builds-done, builds-unfit, builds-as, same-building}
 use Rattle.construct.proofs.build.build_in.Statement.{statement}
 use Rattle.construct.proofs.build.build_in.Tie as tie
 

@@ -5,7 +5,7 @@ use native.Mathlib.Omega.{arith}
 use lib.ListN.{length}
 use borrow.Author.Needs.{needs}
 use Rattle.model.specs.Layout.{ruleIn}
-use Rattle.construct.proofs.Outcome.{room-few, room-rows, room-cells, room-of, each-is, start-refused, start-fills, start-done}
+use Rattle.construct.proofs.Beginning.{room-few, room-rows, room-cells, room-of, each-is, start-refused, start-fills, start-done}
 use Rattle.construct.proofs.StartLaws.{can-start, start-row}
 use Rattle.construct.proofs.SymbolFilling.{symbols-few}
 use Rattle.construct.proofs.build.fill_tables.Statement.{statement}
