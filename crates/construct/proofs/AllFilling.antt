@@ -1,12 +1,12 @@
--- All rows, as they are found: the cells of the rows so far stand from place 0 on, and discovery from here gives the rows
--- of the rule.
-use mathlib.Core.Path.{_≡_, refl, sym, _∙_, ap, ap₂, subst}
-use mathlib.Core.List.{List, [], _∷_, _++_, append-assoc, append-nil}
-use Prim.Native.Nat.{ℕ, zero, suc, _+_, _-_, _*_, _≤_, _<_}
+-- All rows, as they are found: the cells of the rows so far stand from place 0 on, and discovery from here gives the
+-- rows of the rule.
+use mathlib.Core.Path.{_≡_, refl, sym, _∙_, ap, subst}
+use mathlib.Core.List.{List, [], _∷_, _++_, append-nil}
+use Prim.Native.Nat.{ℕ, suc, _+_, _-_, _*_, _≤_, _<_}
 use native.Mathlib.Omega.{arith}
 use native.Mathlib.Nat.{mul-le-mul-right}
 use native.Mathlib.Numerals.{add-one}
-use lib.ListN.{length, getD, take, drop, length-replicate}
+use lib.ListN.{length, take, length-replicate}
 use lib.Seq.{take-suc, take-append-le, take-all, length-take-le}
 use Rattle.model.specs.Basics.{zeros, filled}
 use Rattle.model.specs.Rules.{Rule}
@@ -19,7 +19,8 @@ use Rattle.pairs.specs.declared.Scale.{Scale}
 use Rattle.construct.specs.declared.Progress.{Progress}
 use Rattle.construct.specs.Marks.{Ready}
 use Rattle.construct.specs.Rows.{rowsIn, Held, Grown}
-use Rattle.construct.specs.Cells.{laid, CanFill, RowFilled, CanFillAll, AllFilled}
+use Rattle.construct.specs.Lent.{laid}
+use Rattle.construct.specs.Cells.{CanFill, RowFilled, CanFillAll, AllFilled}
 use Rattle.construct.proofs.RowSearch.{rows-length}
 use Rattle.construct.proofs.TargetMarks.{ready-again}
 use Rattle.construct.proofs.Laying.{laid-filled, numbers-snoc}
@@ -66,11 +67,14 @@ module _
 
   module _ {marks′ cells′ rows′ pool′ : List ℕ} {p′ : Progress} (l : n < p .rows)
       (filled-row : RowFilled r n (rowsIn (p .rows) rows pool) (p .room) marks marks′ cells cells′ rows′ pool′ p′) where
-    grown-is : Grown room (bySymbols (r .symbols) 0 r (rowAt (rowsIn (p .rows) rows pool) n) (rowsIn (p .rows) rows pool)) rows′ pool′ p′
+    grown-is :
+        Grown room (bySymbols (r .symbols) 0 r (rowAt (rowsIn (p .rows) rows pool) n) (rowsIn (p .rows) rows pool))
+        rows′ pool′ p′
     grown-is =
         subst
         (λ (k : ℕ).
-        Grown k (bySymbols (r .symbols) 0 r (rowAt (rowsIn (p .rows) rows pool) n) (rowsIn (p .rows) rows pool)) rows′ pool′ p′)
+        Grown k (bySymbols (r .symbols) 0 r (rowAt (rowsIn (p .rows) rows pool) n) (rowsIn (p .rows) rows pool))
+        rows′ pool′ p′)
         (inv .room-kept)
         (filled-row .grown)
 
@@ -125,7 +129,8 @@ module _
         let ext : Extends old new = grows-extends (symbols-grow (r .symbols) 0 r x old) in
         let xs : List ℕ = cellNumbers r (new ++ more) (take n old) in
         let ys : List ℕ = symbolCells (r .symbols) 0 r (new ++ more) x in
-        let before : cells ≡ filled (length cells₀) xs = rw (extends-more ext more) (inv .cells-are (ext .added ++ more)) in
+        let before : cells ≡ filled (length cells₀) xs =
+        rw (extends-more ext more) (inv .cells-are (ext .added ++ more)) in
         let inside : n < length old = omega (arith, count-is) in
         let xs-long : length xs ≡ n * (r .symbols * width r) =
         cell-numbers-length r (new ++ more) (take n old) ∙ rw (length-take-le n old (omega arith)) in
@@ -140,7 +145,8 @@ module _
         ap (cellNumbers r (new ++ more)) first ∙ numbers-snoc r (new ++ more) (take n old) x in
         filled-row .cells-are e more
         ∙ (ap (λ (t : List ℕ). laid t (n * r .symbols * width r) ys) before
-        ∙ (laid-filled (length cells₀) (n * r .symbols * width r) xs ys place (omega (arith, xs-long, ys-long, all-fit, fits))
+        ∙ (laid-filled (length cells₀) (n * r .symbols * width r) xs ys place
+        (omega (arith, xs-long, ys-long, all-fit, fits))
         ∙ ap (filled (length cells₀)) (sym snoc)))
 
     pub all-next :

@@ -1,22 +1,20 @@
 -- A cell is made of the row that a row leads to, found or added, and of whether the timer is reset; and the cells of a
 -- symbol, of a row and of all rows one after another, each with the number that its next row keeps.
-use mathlib.Core.Path.{_≡_, refl, sym, _∙_, ap, ap₂, subst}
+use mathlib.Core.Path.{_≡_, sym, _∙_, ap, ap₂, subst}
 use mathlib.Core.Bool.{Bool, true, false}
-use mathlib.Core.List.{List, [], _∷_, _++_, append-assoc, append-nil}
+use mathlib.Core.List.{List}
 use Prim.Native.Nat.{ℕ, zero, suc, _+_, _-_, _*_, _≤_, _<_}
 use native.Mathlib.Omega.{arith}
 use lib.ListN.{length, getD, take, drop}
 use Rattle.model.specs.Basics.{oneIf, zeros}
 use Rattle.model.specs.Rules.{Rule}
-use Rattle.model.specs.Construction.{rowResets, nextRow, rowAt, numberOf, withRow, mostRows, cellOf}
-use Rattle.model.specs.Tables.{rowWidth}
+use Rattle.model.specs.Construction.{rowResets, nextRow, rowAt, numberOf, withRow, cellOf}
 use Rattle.pairs.specs.declared.Input.{Input}
 use Rattle.construct.specs.declared.Marked.{Marked}
 use Rattle.construct.specs.declared.Progress.{Progress}
 use Rattle.construct.specs.declared.Placed.{Placed}
-use Rattle.construct.specs.declared.Filled.{Filled}
-use Rattle.construct.specs.Marks.{codesIn, MarksAre, NextMarked}
-use Rattle.construct.specs.Rows.{rowIn, rowsHeld, rowsIn, Within, Held, Grown, Numbered, MarksNumbered}
+use Rattle.construct.specs.Marks.{codesIn, NextMarked}
+use Rattle.construct.specs.Rows.{rowIn, rowsHeld, rowsIn, Held, Grown, MarksNumbered}
 use Rattle.construct.specs.Cells.{CellMade}
 use Rattle.construct.proofs.RowTables.{row-within}
 

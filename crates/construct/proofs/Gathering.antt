@@ -1,5 +1,5 @@
 -- Gathering in place: codes found so far at the front, zero behind them, marks not yet looked at in their places.
-use mathlib.Core.Path.{_≡_, refl, sym, _∙_, ap, subst}
+use mathlib.Core.Path.{_≡_, refl, sym, _∙_, ap}
 use mathlib.Core.Bool.{Bool, true, false}
 use mathlib.Core.List.{List, [], _∷_, _++_, append-assoc, append-nil}
 use Prim.Native.Nat.{ℕ, zero, suc, _+_, _-_, _≤_, _<_}
@@ -7,10 +7,10 @@ use native.Mathlib.Omega.{arith}
 use native.Mathlib.Numerals.{add-one}
 use native.Mathlib.Nat.{add-zero}
 use lib.Dec.{eqb}
-use lib.ListN.{length, getD, set, take, drop, replicate, length-append, length-replicate, length-set, take-append-drop, replicate-append-replicate, length-drop}
+use lib.ListN.{length, getD, set, take, drop, length-append, length-replicate, length-set, take-append-drop, replicate-append-replicate}
 use lib.Seq.{take-suc, drop-cons, set-at, getD-at, length-take-le}
 use borrow.Author.Tests.{eq-eqb, ne-eqb}
-use Rattle.model.specs.Basics.{pick, zeros, filled}
+use Rattle.model.specs.Basics.{pick, zeros}
 use Rattle.model.specs.Rules.{mostPairs}
 use Rattle.construct.specs.declared.Span.{Span}
 use Rattle.construct.specs.Marks.{codesFrom, codesIn, InSpan, Gathered}

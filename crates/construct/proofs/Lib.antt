@@ -1,14 +1,19 @@
+-- Marks as a set, gathered in place; the targets of a row
 pub mod MarkLaws
 pub mod Gathering
 pub mod TargetMarks
+-- Rows: looked for, held in their tables, one more or none that fits
 pub mod RowSearch
 pub mod RowTables
 pub mod NewRow
 pub mod PlacedMarks
+-- Cells: one, of a symbol, of a row, of all rows
 pub mod CellLaws
 pub mod Laying
 pub mod SymbolFilling
 pub mod RowFilling
 pub mod AllFilling
+-- The whole build
 pub mod StartLaws
+pub mod Beginning
 pub mod Outcome

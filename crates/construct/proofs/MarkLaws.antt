@@ -1,23 +1,23 @@
 -- Marks as a set: the codes that are marked rise, and one mark more puts one code in.
 use mathlib.Core.Path.{_≡_, refl, sym, _∙_, ap}
-use mathlib.Core.Bool.{Bool, true, false}
-use mathlib.Core.List.{List, [], _∷_, _++_, append-nil}
+use mathlib.Core.Bool.{true, false}
+use mathlib.Core.List.{List, [], _∷_, _++_}
 use Prim.Native.Nat.{ℕ, zero, suc, _+_, _-_, _*_, _≤_, _<_}
 use native.Mathlib.Omega.{arith}
 use native.Mathlib.Nat.{add-zero}
 use native.Mathlib.Numerals.{add-one}
-use lib.Dec.{eqb, ltb}
-use lib.ListN.{length, getD, set, take, drop, replicate, length-set, length-replicate, List·getD-eq-default, getD-replicate}
+use lib.Dec.{eqb}
+use lib.ListN.{length, getD, set, length-set, length-replicate, List·getD-eq-default, getD-replicate}
 use lib.Seq.{getD-set-other}
 use borrow.Author.Tests.{lt-ltb, le-ltb, le-leb, lt-leb, eq-eqb, ne-eqb}
 use Rattle.model.specs.Basics.{pick, lesser, zeros, bit, bitsFrom}
 use Rattle.model.specs.Layout.{locationsIn}
 use Rattle.model.specs.Rules.{mostPairs}
 use Rattle.model.specs.Construction.{withCode}
-use Rattle.model.proofs.Logic.{by-test, Two, two, less, least}
+use Rattle.model.proofs.Logic.{by-test, two, less, least}
 use Rattle.model.proofs.Masks.{Asc}
 use Rattle.construct.specs.declared.Span.{Span}
-use Rattle.construct.specs.Marks.{codesFrom, codesIn, InSpan, CanMark, MarksAre, startCodesBy, CanStart}
+use Rattle.construct.specs.Marks.{codesFrom, codesIn, CanMark, MarksAre, startCodesBy, CanStart}
 
 -- a code put into a row, by where it stands
 with-first : (x : ℕ) (ys : List ℕ) → Asc (suc x) ys → withCode x ys ≡ x ∷ ys
@@ -58,7 +58,8 @@ codes-set i zero (x ∷ m) h =
     (λ e. rw (codes-one i x m e) (sym (with-head i i (codesFrom (suc i) m) refl))))
 codes-set i (suc k) (x ∷ m) h =
     let a : i + suc k ≡ suc i + k = omega arith in
-    let on : codesFrom (suc i) (set m k 1) ≡ withCode (suc i + k) (codesFrom (suc i) m) = codes-set (suc i) k m (omega arith) in
+    let on : codesFrom (suc i) (set m k 1) ≡ withCode (suc i + k) (codesFrom (suc i) m) =
+    codes-set (suc i) k m (omega arith) in
     by-test (eqb x 0) (λ e. codes-none i x (set m k 1) e ∙ (on ∙ (rw (a, codes-none i x m e))))
     (λ e.
     codes-one i x (set m k 1) e

@@ -1,16 +1,15 @@
 -- A new row: it gets the next number, or it is the first that does not fit, whatever rows come after.
 use mathlib.Core.Path.{_≡_, refl, sym, _∙_, ap, ap₂}
 use mathlib.Core.List.{List, [], _∷_, _++_, append-assoc}
-use Prim.Native.Nat.{ℕ, zero, suc, _+_, _-_, _*_, _≤_, _<_}
+use Prim.Native.Nat.{ℕ, suc, _+_, _-_, _*_, _≤_, _<_}
 use native.Mathlib.Omega.{arith}
-use native.Mathlib.Numerals.{add-one}
 use lib.Dec.{ltb}
-use lib.ListN.{length, getD, set, take, drop, length-append, length-set}
-use borrow.Author.Tests.{ltb-true, ltb-false, lt-ltb, le-ltb}
-use Rattle.model.specs.Basics.{pick, zeros, filled, Refusal, refusal, fine}
+use lib.ListN.{length, set, take, drop, length-append, length-set}
+use borrow.Author.Tests.{ltb-true, ltb-false}
+use Rattle.model.specs.Basics.{filled, refusal}
 use Rattle.model.specs.Rules.{mostPairs}
-use Rattle.model.specs.Construction.{rowAt, numberOf, withRow, mostRows}
-use Rattle.model.specs.Tables.{rowWidth, rowNumbers, poolNumbers, fitRefusal}
+use Rattle.model.specs.Construction.{numberOf, withRow}
+use Rattle.model.specs.Tables.{rowNumbers, poolNumbers, fitRefusal}
 use Rattle.model.proofs.Logic.{by-test}
 use Rattle.model.proofs.TablePlaces.{row-numbers-length}
 use Rattle.model.proofs.TableRoom.{fit-23, fit-24, fit-on}
@@ -19,9 +18,9 @@ use Rattle.construct.specs.declared.Found.{Found}
 use Rattle.construct.specs.declared.Found.the-variants.{At, Nothing}
 use Rattle.construct.specs.declared.Progress.{Progress}
 use Rattle.construct.specs.declared.Placed.{Placed}
-use Rattle.construct.specs.Rows.{rowsIn, foundIn, Within, Held, Unfit, Grown, Numbered}
+use Rattle.construct.specs.Rows.{rowsIn, foundIn, Held, Unfit, Numbered}
 use Rattle.construct.proofs.RowSearch.{rows-length}
-use Rattle.construct.proofs.RowTables.{filled-length, filled-set, filled-lay, rows-append, pool-append, rows-again, row-within}
+use Rattle.construct.proofs.RowTables.{filled-length, filled-set, filled-lay, rows-append, pool-append, rows-again}
 
 -- rows that fit are passed
 fit-through :
@@ -87,7 +86,8 @@ module _ {rows pool : List ℕ} {p : Progress} (held : Held rows pool p) where
   }
 
   -- the tables after one row more
-  module _ (x rows′ pool′ : List ℕ) (a b : ℕ) (has-room : p .rows < p .room) (in-pool : p .total + length x ≤ length pool)
+  module _ (x rows′ pool′ : List ℕ) (a b : ℕ) (has-room : p .rows < p .room)
+      (in-pool : p .total + length x ≤ length pool)
       (small : length x ≤ mostPairs) (is-a : a ≡ p .total) (is-b : b ≡ length x)
       (rows-now : rows′ ≡ set (set rows (2 * p .rows) a) (2 * p .rows + 1) b)
       (pool-now : pool′ ≡ take (p .total) pool ++ (x ++ drop (p .total + length x) pool)) where
@@ -107,12 +107,14 @@ module _ {rows pool : List ℕ} {p : Progress} (held : Held rows pool p) where
         ∙ filled-set (length rows) ns a (omega (arith, numbers-long)) in
         let longer : length (ns ++ (a ∷ [])) ≡ 2 * p .rows + 1 =
         length-append ns (a ∷ []) ∙ ap (λ (k : ℕ). k + 1) numbers-long in
-        let both : set (set rows (2 * p .rows) a) (2 * p .rows + 1) b ≡ filled (length rows) ((ns ++ (a ∷ [])) ++ (b ∷ [])) =
+        let two : List ℕ = (ns ++ (a ∷ [])) ++ (b ∷ []) in
+        let both : set (set rows (2 * p .rows) a) (2 * p .rows + 1) b ≡ filled (length rows) two =
         ap₂ (λ (l : List ℕ) (k : ℕ). set l k b) one (sym longer)
         ∙ filled-set (length rows) (ns ++ (a ∷ [])) b (omega (arith, longer)) in
         let same-numbers : (ns ++ (a ∷ [])) ++ (b ∷ []) ≡ rowNumbers 0 (rs ++ (x ∷ [])) =
         append-assoc ns (a ∷ []) (b ∷ [])
-        ∙ (ap₂ (λ (u v : ℕ). ns ++ (u ∷ v ∷ [])) (is-a ∙ (held .total-is ∙ omega arith)) is-b ∙ sym (rows-append 0 rs x)) in
+        ∙ (ap₂ (λ (u v : ℕ). ns ++ (u ∷ v ∷ [])) (is-a ∙ (held .total-is ∙ omega arith)) is-b
+        ∙ sym (rows-append 0 rs x)) in
         rows-now ∙ (both ∙ ap (filled (length rows)) same-numbers)
 
     new-pool : pool′ ≡ filled (length pool) (poolNumbers (rowsIn (p .rows) rows pool ++ (x ∷ [])))
@@ -121,7 +123,15 @@ module _ {rows pool : List ℕ} {p : Progress} (held : Held rows pool p) where
         let e : p .total ≡ length (poolNumbers rs) = held .total-is in
         pool-now
         ∙ (ap₂ (λ (n : ℕ) (l : List ℕ). take n l ++ (x ++ drop (n + length x) l)) e (held .pool-is)
-        ∙ (filled-lay (length pool) (poolNumbers rs) x (omega (arith, in-pool, e)) ∙ ap (filled (length pool)) (sym (pool-append rs x))))
+        ∙ (filled-lay (length pool) (poolNumbers rs) x (omega (arith, in-pool, e))
+        ∙ ap (filled (length pool)) (sym (pool-append rs x))))
+
+    total-then :
+        length (poolNumbers (rowsIn (p .rows) rows pool ++ (x ∷ []))) ≡ p .total + length x
+    total-then =
+        let rs : List (List ℕ) = rowsIn (p .rows) rows pool in
+        ap length (pool-append rs x)
+        ∙ (length-append (poolNumbers rs) x ∙ ap (λ (k : ℕ). k + length x) (sym (held .total-is)))
 
     rows-long : length rows′ ≡ length rows
     rows-long = ap length rows-now ∙ simp length-set
@@ -130,8 +140,7 @@ module _ {rows pool : List ℕ} {p : Progress} (held : Held rows pool p) where
     pool-long =
         ap length new-pool
         ∙ filled-length (length pool) (poolNumbers (rowsIn (p .rows) rows pool ++ (x ∷ [])))
-        (omega
-        (arith, ap length (pool-append (rowsIn (p .rows) rows pool) x), length-append (poolNumbers (rowsIn (p .rows) rows pool)) x, held .total-is, in-pool))
+        (omega (arith, total-then, in-pool))
 
     rows-then : rowsIn (p .rows + 1) rows′ pool′ ≡ rowsIn (p .rows) rows pool ++ (x ∷ [])
     rows-then =
@@ -152,9 +161,7 @@ module _ {rows pool : List ℕ} {p : Progress} (held : Held rows pool p) where
           rows-are = rw (rows-then, rows-long) new-rows;
           pool-is = rw (rows-then, pool-long) new-pool;
           total-is =
-              rw rows-then
-              (omega
-              (arith, ap length (pool-append (rowsIn (p .rows) rows pool) x), length-append (poolNumbers (rowsIn (p .rows) rows pool)) x, held .total-is));
+              rw rows-then (sym total-then);
           in-room = omega arith;
           in-pool = rw pool-long in-pool;
           total-most = omega (arith, held .total-most);
@@ -233,8 +240,8 @@ module _ {rows pool : List ℕ} {p : Progress} (held : Held rows pool p) (x : Li
   pub placed-new :
       (rows′ pool′ : List ℕ) (answer : Placed) → f ≡ Nothing
       → Numbered (p .room) (rowsIn (p .rows) rows pool ++ (x ∷ [])) (p .rows) rows′ pool′ answer
-      → Numbered (p .room) (withRow x (rowsIn (p .rows) rows pool)) (numberOf x (rowsIn (p .rows) rows pool)) rows′ pool′
-      answer
+      → Numbered (p .room) (withRow x (rowsIn (p .rows) rows pool)) (numberOf x (rowsIn (p .rows) rows pool)) rows′
+      pool′ answer
   placed-new rows′ pool′ answer g added =
       let rs : List (List ℕ) = rowsIn (p .rows) rows pool in
       let new : length rs ≤ numberOf x rs = found-nothing x rs f is-found g in

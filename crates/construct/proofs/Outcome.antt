@@ -1,121 +1,34 @@
 -- What the builder leaves and answers, from how the filling ended: the tables of the rule's rows, or 23 or 24 and zero.
-use mathlib.Core.Path.{_≡_, refl, sym, _∙_, ap, ap₂, subst, subst⁻¹}
-use mathlib.Core.Bool.{Bool, true, false, not}
-use mathlib.Core.List.{List, [], _∷_, _++_, append-nil}
-use Prim.Native.Nat.{ℕ, zero, suc, _+_, _-_, _*_, _/_, _≤_, _<_}
+use mathlib.Core.Path.{_≡_, sym, _∙_, ap, ap₂, subst, subst⁻¹}
+use mathlib.Core.Bool.{true, false, not}
+use mathlib.Core.List.{List, [], _++_, append-nil}
+use Prim.Native.Nat.{ℕ, _+_, _-_, _≤_, _<_}
 use native.Mathlib.Omega.{arith}
-use native.Mathlib.Nat.{mul-le-mul-right, mul-le-mul-left, div-add-mod'}
 use lib.Dec.{eqb, ltb, leb}
-use lib.ListN.{length, length-replicate}
+use lib.ListN.{length}
 use borrow.Author.Tests.{lt-ltb, le-ltb, le-leb, lt-leb, ne-eqb}
 use Rattle.model.specs.declared.Head.{Head}
 use Rattle.model.specs.declared.Answer.{Answer}
 use Rattle.model.specs.declared.Built.{Built}
 use Rattle.model.specs.declared.Building.{Building}
-use Rattle.model.specs.Basics.{pick, lesser, quotient, zeros, filled, maskOf, Refusal, refusal, fine, refuse, passes, _⨾_}
-use Rattle.model.specs.Rules.{Rule, cm, pairCount}
-use Rattle.model.specs.Construction.{width, startRow, mostRows, rowsFrom, rowsOf}
-use Rattle.model.specs.Layout.{edgeNeed, ruleIn, isReadable, ruleRefusal, locationsIn}
-use Rattle.model.specs.Tables.{rowWidth, cellNumbers, rowNumbers, poolNumbers, builtBy, builtOf, noBuilt, tablesBy, tablesOf, rowRoom, fitRefusal, tableRefusal}
-use Rattle.model.specs.Promises.{buildRefusal, buildingOf, tablesMade, leaves, BuildsTable, answerOf, ChecksRule}
-use Rattle.model.proofs.Logic.{lesser-left, lesser-right, quotient-is}
+use Rattle.model.specs.Basics.{zeros, filled, Refusal, refusal, fine, refuse}
+use Rattle.model.specs.Rules.{pairCount}
+use Rattle.model.specs.Construction.{rowsOf}
+use Rattle.model.specs.Layout.{edgeNeed, ruleIn, isReadable, ruleRefusal}
+use Rattle.model.specs.Tables.{cellNumbers, rowNumbers, poolNumbers, builtOf, tablesBy, tablesOf, rowRoom, fitRefusal, tableRefusal}
+use Rattle.model.specs.Promises.{buildRefusal, BuildsTable, ChecksRule}
 use Rattle.model.proofs.Refusals.{on-pass, on-refused, refuse-fine, refuse-met}
 use Rattle.model.proofs.Numbers.{Among, none, some, among-refuse, among-then}
-use Rattle.model.proofs.Readable.{passes-valid}
-use Rattle.model.proofs.RowNumbers.{Extends}
-use Rattle.model.proofs.Discovery.{grows-extends, rows-grow}
 use Rattle.pairs.specs.declared.Scale.{Scale}
 use Rattle.pairs.specs.Pairs.{Scaled}
 use Rattle.construct.specs.declared.Progress.{Progress}
-use Rattle.construct.specs.Marks.{Ready, startCodesBy}
-use Rattle.construct.specs.Rows.{rowsIn, Held, Unfit, Grown}
-use Rattle.construct.specs.Cells.{CanFillAll, AllFilled}
-use Rattle.construct.specs.Builds.{RoomIn, StartPlaced, CanBuild, notBuilt, builtFrom}
+use Rattle.construct.specs.Rows.{rowsIn, Held, Unfit}
+use Rattle.construct.specs.Cells.{AllFilled}
+use Rattle.construct.specs.Builds.{notBuilt, builtFrom}
 use Rattle.construct.proofs.RowSearch.{rows-length}
 use Rattle.construct.proofs.NewRow.{passes-held}
-use Rattle.construct.proofs.TargetMarks.{ready-again}
-use Rattle.construct.proofs.SymbolFilling.{unfit-extends, symbols-of, width-is}
-use Rattle.construct.proofs.StartLaws.{clocks-of, locations-of, final-mask, start-row}
-
--- The room for rows: at most 4,096, and the row table and the cell table have places for them.
-below-quotient : (n a b : ℕ) → n ≤ quotient a b → n * b ≤ a
-below-quotient n a zero h = omega arith
-below-quotient n a (suc b) h = omega (arith, mul-le-mul-right (suc b) h, div-add-mod' a (suc b))
-
-module _ (cells rows each room : ℕ) (is-room : room ≡ lesser mostRows (lesser (rows / 2) (quotient cells each))) where
-  inner-most : room ≤ lesser (rows / 2) (quotient cells each)
-  inner-most = rw is-room (lesser-right mostRows (lesser (rows / 2) (quotient cells each)))
-
-  pub room-few : room ≤ mostRows
-  room-few = rw is-room (lesser-left mostRows (lesser (rows / 2) (quotient cells each)))
-
-  pub room-rows : 2 * room ≤ rows
-  room-rows = omega (arith, inner-most, lesser-left (rows / 2) (quotient cells each))
-
-  pub room-cells : room * each ≤ cells
-  room-cells =
-      below-quotient room cells each (omega (arith, inner-most, lesser-right (rows / 2) (quotient cells each)))
-
-pub room-of :
-    (r : Rule) (cells rows each room : ℕ) → each ≡ r .symbols * width r
-    → room ≡ lesser mostRows (lesser (rows / 2) (quotient cells each))
-    → room ≡ rowRoom r cells rows
-unfolding rowRoom
-room-of r cells rows each room e h = h ∙ rw e
-
--- From the start row on: refused at once, or all rows to be filled.
-rows-begin : (r : Rule) → Extends (startRow r ∷ []) (rowsOf r)
-unfolding rowsOf
-rows-begin r = grows-extends (rows-grow (suc mostRows) 0 r (startRow r ∷ []))
-
-module _
-    (r : Rule) {starts weight room : ℕ} {marks marks₁ rows₁ pool₁ : List ℕ} {p : Progress}
-    (is-start : startCodesBy weight (locationsIn starts) ≡ startRow r)
-    (placed : StartPlaced starts weight room marks marks₁ rows₁ pool₁ p) where
-  grown-start : Grown room (startRow r ∷ []) rows₁ pool₁ p
-  grown-start = subst (λ (x : List ℕ). Grown room (x ∷ []) rows₁ pool₁ p) is-start (placed .grown)
-
-  -- the start row does not fit
-  pub start-refused :
-      (cells : List ℕ) (whole : ℕ) → room ≡ whole → (p .number ≡ 0 → ⊥)
-      → AllFilled r whole marks marks₁ cells cells rows₁ pool₁ p
-  start-refused cells whole e n = record {
-    marks-zero = placed .marks-zero;
-    grown = record {
-      held = λ q. absurd (n q);
-      rows-are = λ q. absurd (n q);
-      refused = λ q. rw (← e) (unfit-extends (grown-start .refused q) (rows-begin r));
-      room-kept = grown-start .room-kept ∙ e;
-    };
-    cells-are = λ q. absurd (n q);
-  }
-
-  -- it has number 0
-  pub start-fills :
-      {z : Scale} {cells rows pool : List ℕ} (each : ℕ) → CanBuild r z marks cells rows pool → length marks₁ ≡ length marks
-      → each ≡ r .symbols * width r
-      → room * each ≤ length cells
-      → p .number ≡ 0
-      → CanFillAll r z marks₁ cells rows₁ pool₁ p
-  start-fills each can long e fits q = record {
-    ready = ready-again marks₁ (can .ready) long;
-    marks-zero = placed .marks-zero ∙ ap zeros (sym long);
-    held = grown-start .held q;
-    start-is = grown-start .rows-are q;
-    cells-fit = rw (grown-start .room-kept, ← e) fits;
-    cells-zero = can .cells-zero;
-  }
-
-  pub start-done :
-      {marks′ cells cells′ rows′ pool′ : List ℕ} {p′ : Progress} (whole : ℕ) → length marks₁ ≡ length marks
-      → room ≡ whole
-      → AllFilled r (p .room) marks₁ marks′ cells cells′ rows′ pool′ p′
-      → AllFilled r whole marks marks′ cells cells′ rows′ pool′ p′
-  start-done {rows′ = rows′} {pool′ = pool′} {p′ = p′} whole long e all = record {
-    marks-zero = all .marks-zero ∙ ap zeros long;
-    grown = subst (λ (n : ℕ). Grown n (rowsOf r) rows′ pool′ p′) (grown-start .room-kept ∙ e) (all .grown);
-    cells-are = all .cells-are;
-  }
+use Rattle.construct.proofs.SymbolFilling.{symbols-of}
+use Rattle.construct.proofs.StartLaws.{clocks-of, locations-of, final-mask}
 
 -- the built record, field by field
 pub same-built :
@@ -227,7 +140,8 @@ module _ (h : Head) (t scratch cells rows pool : List ℕ) (passed : ruleRefusal
             cells-are =
                 rw f
                 (all-are .cells-are e
-                ∙ ap (λ (n : ℕ). filled n (cellNumbers (ruleIn h t) (rowsOf (ruleIn h t)) (rowsOf (ruleIn h t)))) cells-long);
+                ∙ ap (λ (n : ℕ). filled n (cellNumbers (ruleIn h t) (rowsOf (ruleIn h t)) (rowsOf (ruleIn h t))))
+                cells-long);
             rows-are =
                 rw f
                 (held .rows-are ∙ ap₂ (λ (n : ℕ) (x : List (List ℕ)). filled n (rowNumbers 0 x)) rows-long are);
@@ -238,7 +152,8 @@ module _ (h : Head) (t scratch cells rows pool : List ℕ) (passed : ruleRefusal
 
       -- 23 and 24: every table zero
       pub builds-unfit :
-          (cells″ rows″ pool″ : List ℕ) → (p .number ≡ 0 → ⊥) → cells″ ≡ zeros (length cells) → rows″ ≡ zeros (length rows)
+          (cells″ rows″ pool″ : List ℕ) → (p .number ≡ 0 → ⊥) → cells″ ≡ zeros (length cells)
+          → rows″ ≡ zeros (length rows)
           → pool″ ≡ zeros (length pool)
           → BuildsTable h t scratch scratch′ cells cells″ rows rows″ pool pool″ (notBuilt (p .number) 0)
       builds-unfit cells″ rows″ pool″ n a b c =
@@ -289,7 +204,8 @@ builds-unread h t scratch cells rows pool answer checked n =
     (tableRefusal (ruleIn h t) (length scratch) (length cells) (length rows) (length pool))
     refused in
     let not-zero : eqb (ruleRefusal h t .number) 0 ≡ false = ne-eqb (ruleRefusal h t .number) 0 refused in
-    let low : leb 23 (ruleRefusal h t .number) ≡ false = lt-leb 23 (ruleRefusal h t .number) (omega (arith, low-number h t)) in
+    let low : leb 23 (ruleRefusal h t .number) ≡ false =
+    lt-leb 23 (ruleRefusal h t .number) (omega (arith, low-number h t)) in
     record {
       answer-is = rw (f, not-zero, number-is, place-is);
       scratch-is = rw (f, not-zero, low);
@@ -298,7 +214,9 @@ builds-unread h t scratch cells rows pool answer checked n =
       pool-is = rw (f, not-zero, low);
     }
 
-pub rule-passes : (h : Head) (t : List ℕ) (answer : Answer) → ChecksRule h t answer → answer .number ≡ 0 → ruleRefusal h t .number ≡ 0
+pub rule-passes :
+    (h : Head) (t : List ℕ) (answer : Answer) → ChecksRule h t answer → answer .number ≡ 0
+    → ruleRefusal h t .number ≡ 0
 rule-passes h t answer checked e = sym (ap (λ (x : Answer). x .number) (checked .answer-is)) ∙ e
 
 -- the same outcome by another name
@@ -309,40 +227,6 @@ pub builds-as :
     → BuildsTable h t scratch scratch′ cells cells′ rows rows′ pool pool′ again
 builds-as {h} {t} {scratch} {scratch′} {cells} {cells′} {rows} {rows′} {pool} {pool′} again b e =
     subst⁻¹ (λ (x : Building). BuildsTable h t scratch scratch′ cells cells′ rows rows′ pool pool′ x) e b
-
--- a table that was cleared
-pub zeros-again : (s₁ s : List ℕ) → s₁ ≡ zeros (length s) → s₁ ≡ zeros (length s₁)
-zeros-again s₁ s e = e ∙ ap zeros (sym (ap length e ∙ length-replicate (length s) 0))
-
--- the cells of a row
-pub each-is :
-    (h : Head) (t : List ℕ) {z : Scale} {marks : List ℕ} (symbols top : ℕ) → Ready (ruleIn h t) z marks → symbols ≡ h .symbols
-    → top ≡ z .top
-    → symbols * (2 * top + 2) ≡ ruleIn h t .symbols * width (ruleIn h t)
-each-is h t symbols top ready e f = ap₂ _*_ (e ∙ sym (symbols-of h t)) (width-is top ready f)
-
--- a scale and tables to build in
-pub can-build :
-    (h : Head) (t : List ℕ) (z : Scale) (scratch scratch₁ cells cells₁ rows rows₁ pool pool₁ : List ℕ)
-    → ruleRefusal h t .number ≡ 0
-    → Scaled (ruleIn h t) z
-    → pairCount (ruleIn h t) ≤ length scratch
-    → scratch₁ ≡ zeros (length scratch)
-    → cells₁ ≡ zeros (length cells)
-    → rows₁ ≡ zeros (length rows)
-    → pool₁ ≡ zeros (length pool)
-    → CanBuild (ruleIn h t) z scratch₁ cells₁ rows₁ pool₁
-can-build h t z scratch scratch₁ cells cells₁ rows rows₁ pool pool₁ passed scaled long a b c d = record {
-  ready = record {
-    valid = passes-valid h t passed;
-    scaled = scaled;
-    marks-long = omega (arith, ap length a, length-replicate {A = ℕ} (length scratch) 0);
-  };
-  marks-zero = zeros-again scratch₁ scratch a;
-  cells-zero = zeros-again cells₁ cells b;
-  rows-zero = zeros-again rows₁ rows c;
-  pool-zero = zeros-again pool₁ pool d;
-}
 
 pub same-building :
     {b c : Built} → b ≡ c

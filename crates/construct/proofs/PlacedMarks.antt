@@ -1,15 +1,15 @@
 -- Gathered marks as a row: its codes at the front are handed to the search, then cleared.
-use mathlib.Core.Path.{_≡_, refl, sym, _∙_, ap, subst}
-use mathlib.Core.List.{List, [], _∷_, _++_}
-use Prim.Native.Nat.{ℕ, _+_, _-_, _≤_, _<_}
+use mathlib.Core.Path.{_≡_, sym, _∙_, ap, subst}
+use mathlib.Core.List.{List, _++_}
+use Prim.Native.Nat.{ℕ, _+_, _-_, _≤_}
 use native.Mathlib.Omega.{arith}
-use lib.ListN.{length, take, drop, length-append, length-replicate, replicate-append-replicate}
+use lib.ListN.{length, take, drop, length-append, replicate-append-replicate}
 use lib.Seq.{take-at, drop-at, length-take-le}
-use Rattle.model.specs.Basics.{zeros, filled}
+use Rattle.model.specs.Basics.{zeros}
 use Rattle.model.specs.Rules.{mostPairs}
 use Rattle.model.specs.Construction.{numberOf, withRow}
 use Rattle.construct.specs.declared.Placed.{Placed}
-use Rattle.construct.specs.Marks.{codesIn, Gathered}
+use Rattle.construct.specs.Marks.{Gathered}
 use Rattle.construct.specs.Rows.{Numbered, MarksNumbered}
 
 module _ {row m gathered : List ℕ} {n : ℕ} (g : Gathered row m gathered n) (long : length gathered ≡ length m) where

@@ -1,19 +1,16 @@
 -- The search among the rows: the rows still to come have the number that all have, while none passed is equal.
 use mathlib.Core.Path.{_≡_, refl, sym, _∙_, ap}
-use mathlib.Core.Bool.{Bool, true, false}
-use mathlib.Core.List.{List, [], _∷_}
+use mathlib.Core.Bool.{true, false}
+use mathlib.Core.List.{List, _∷_}
 use Prim.Native.Nat.{ℕ, zero, suc, _+_, _-_, _*_, _≤_, _<_}
 use native.Mathlib.Omega.{arith}
 use native.Mathlib.Numerals.{add-one}
-use lib.Dec.{eqb, ltb}
 use lib.ListN.{length, getD, take, drop, length-take, length-drop}
 use lib.Seq.{ext-getD, getD-take, getD-drop}
 use borrow.Author.Tests.{lt-ltb, le-ltb}
-use Rattle.model.specs.Basics.{pick, same}
+use Rattle.model.specs.Basics.{same}
 use Rattle.model.specs.Construction.{numberFrom, numberOf}
-use Rattle.model.specs.Tables.{rowWidth}
 use Rattle.model.proofs.Logic.{by-test, same-equal, same-self}
-use Rattle.construct.specs.declared.Found.{Found}
 use Rattle.construct.specs.declared.Found.the-variants.{At, Nothing}
 use Rattle.construct.specs.Rows.{rowIn, rowsHeld, rowsIn, foundIn, Within}
 
@@ -43,7 +40,9 @@ searching count rows pool codes =
 
 module _ {count row : ℕ} {rows pool codes : List ℕ} (inv : Searching count row rows pool codes) where
   rows-rest :
-      row < count → rowsHeld (count - row) row rows pool ≡ rowIn rows pool row ∷ rowsHeld (count - (row + 1)) (row + 1) rows pool
+      row < count
+      → rowsHeld (count - row) row rows pool
+      ≡ rowIn rows pool row ∷ rowsHeld (count - (row + 1)) (row + 1) rows pool
   rows-rest h = let a : count - row ≡ suc (count - (row + 1)) = omega arith in rw (a, add-one row)
 
   pub search-next :

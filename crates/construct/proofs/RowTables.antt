@@ -1,22 +1,19 @@
--- The row table and the pool as rows are put in: they spell the rows that they hold, one row more is two numbers and its
--- codes, and a row that does not fit is the first that does not, whatever comes after.
-use mathlib.Core.Path.{_≡_, refl, sym, _∙_, ap, ap₂}
+-- The row table and the pool as rows are put in: they spell the rows that they hold, and one row more is two numbers
+-- and its codes.
+use mathlib.Core.Path.{_≡_, refl, sym, _∙_, ap}
 use mathlib.Core.List.{List, [], _∷_, _++_, append-assoc, append-nil}
 use Prim.Native.Nat.{ℕ, zero, suc, _+_, _-_, _*_, _≤_, _<_}
 use native.Mathlib.Omega.{arith}
 use native.Mathlib.Nat.{add-zero}
-use lib.ListN.{length, getD, set, take, drop, replicate, length-append, length-replicate, length-set, drop-of-length-le}
-use lib.Seq.{set-at, take-append-seam, drop-append-add, drop-cons, drop-length}
-use Rattle.model.specs.Basics.{zeros, filled, Refusal, refusal}
-use Rattle.model.specs.Rules.{mostPairs}
-use Rattle.model.specs.Construction.{rowAt, mostRows}
-use Rattle.model.specs.Tables.{rowWidth, rowNumbers, poolNumbers, fitRefusal}
+use lib.ListN.{length, getD, set, take, drop, length-append, length-replicate, drop-of-length-le}
+use lib.Seq.{set-at, take-append-seam, drop-append-add, drop-cons}
+use Rattle.model.specs.Basics.{zeros, filled}
+use Rattle.model.specs.Construction.{rowAt}
+use Rattle.model.specs.Tables.{rowWidth, rowNumbers, poolNumbers}
 use Rattle.model.proofs.Logic.{first-part}
 use Rattle.model.proofs.TablePlaces.{startOf, start-number, length-number, row-numbers-length, pool-at}
-use Rattle.model.proofs.TableRoom.{fit-23, fit-24, fit-on}
 use Rattle.construct.specs.declared.Progress.{Progress}
-use Rattle.construct.specs.declared.Placed.{Placed}
-use Rattle.construct.specs.Rows.{rowIn, rowsHeld, rowsIn, Within, Held, Unfit, Numbered}
+use Rattle.construct.specs.Rows.{rowIn, rowsHeld, rowsIn, Within, Held}
 use Rattle.construct.proofs.RowSearch.{rows-length}
 
 -- a table that begins with a list, and one number or one list more
@@ -41,7 +38,9 @@ pub filled-lay :
     → take (length xs) (filled n xs) ++ (ys ++ drop (length xs + length ys) (filled n xs)) ≡ filled n (xs ++ ys)
 filled-lay n xs ys h =
     let e : n - length xs - length ys ≡ n - length (xs ++ ys) = rw (length-append xs ys) (omega arith) in
-    rw (take-append-seam xs (zeros (n - length xs)), drop-append-add xs (zeros (n - length xs)) (length ys), drop-zeros (length ys) (n - length xs), e)
+    let rest : drop (length xs + length ys) (filled n xs) ≡ zeros (n - length (xs ++ ys)) =
+    drop-append-add xs (zeros (n - length xs)) (length ys) ∙ (drop-zeros (length ys) (n - length xs) ∙ ap zeros e) in
+    rw (take-append-seam xs (zeros (n - length xs)), rest)
     (sym (append-assoc xs ys (zeros (n - length (xs ++ ys)))))
 
 -- one row more
@@ -76,7 +75,9 @@ module _ (rs : List (List ℕ)) (l m : ℕ) where
   row-in n h =
       rw (start-is n h, length-is n h) (pool-at rs n (zeros (m - length (poolNumbers rs))) h)
 
-start-within : (n : ℕ) (xs : List (List ℕ)) → n < length xs → startOf n xs + length (rowAt xs n) ≤ length (poolNumbers xs)
+start-within :
+    (n : ℕ) (xs : List (List ℕ)) → n < length xs
+    → startOf n xs + length (rowAt xs n) ≤ length (poolNumbers xs)
 start-within n [] h = absurd (omega arith)
 start-within zero (x ∷ xs) h = rw (length-append x (poolNumbers xs)) (omega arith)
 start-within (suc n) (x ∷ xs) h =

@@ -1,35 +1,33 @@
--- From the head record to the start row: the scale of a rule that passed, the room for rows, and the start row marked and
--- given number 0.
+-- From the head record to the start row: the scale of a rule that passed, the room for rows, and the start row marked
+-- and given number 0.
 use mathlib.Core.Path.{_≡_, refl, sym, _∙_, ap, ap₂, subst}
 use mathlib.Core.Bool.{Bool, true, false, not}
 use mathlib.Core.List.{List, [], _∷_, _++_}
 use Prim.Native.Nat.{ℕ, zero, suc, _+_, _-_, _*_, _/_, _^_, _≤_, _<_}
 use native.Mathlib.Omega.{arith}
-use native.Mathlib.Nat.{mul-le-mul-right, div-add-mod'}
-use lib.Dec.{eqb, ltb, leb}
-use lib.ListN.{length, getD}
+use native.Mathlib.Nat.{mul-le-mul-right}
+use lib.Dec.{eqb, ltb}
+use lib.ListN.{length}
 use borrow.Author.Tests.{le-leb, not-false, eqb-true, eqb-false}
 use Rattle.model.specs.declared.Head.{Head}
-use Rattle.model.specs.Basics.{pick, lesser, quotient, zeros, filled, bit, bitsFrom, maskOf, refuse}
-use Rattle.model.specs.Rules.{Rule, cm, baseCount, pairCount, mostPairs, validRule}
-use Rattle.model.specs.Construction.{width, digitsCode, codeOf, withCode, startBases, startCodes, startRow, mostRows, rowsOf}
+use Rattle.model.specs.Basics.{pick, lesser, quotient, zeros, bit, bitsFrom, maskOf, refuse}
+use Rattle.model.specs.Rules.{Rule, cm, baseCount, pairCount, mostPairs}
+use Rattle.model.specs.Construction.{digitsCode, codeOf, withCode, startBases, startCodes, startRow, mostRows}
 use Rattle.model.specs.Layout.{edgeNeed, locationsIn, ruleIn, isReadable, ruleRefusal}
-use Rattle.model.specs.Tables.{rowWidth, rowRoom}
-use Rattle.edges.specs.Powers.{smallPower}
-use Rattle.model.proofs.Logic.{by-test, or-cases, In, here, there, lesser-left, lesser-right, quotient-is}
+use Rattle.model.proofs.Logic.{by-test, In, here, there}
 use Rattle.model.proofs.Refusals.{refused-false, then-passes}
 use Rattle.model.proofs.Valid.{Valid, valid-of, cm-most}
-use Rattle.model.proofs.Readable.{Readable, readable-of, passes-valid}
+use Rattle.model.proofs.Readable.{readable-of, passes-valid}
 use Rattle.model.proofs.Rising.{rises-below}
 use Rattle.model.proofs.Codes.{start-bases, code-below}
+use Rattle.edges.specs.Powers.{smallPower}
 use Rattle.pairs.specs.declared.Scale.{Scale}
 use Rattle.pairs.specs.Pairs.{Scaled}
 use Rattle.construct.specs.declared.Span.{Span}
-use Rattle.construct.specs.declared.Progress.{Progress}
 use Rattle.construct.specs.declared.Placed.{Placed}
 use Rattle.construct.specs.Marks.{codesIn, MarksAre, startCodesBy, CanStart, Ready}
-use Rattle.construct.specs.Rows.{rowsIn, Held, Grown, MarksNumbered}
-use Rattle.construct.specs.Builds.{RoomIn, CanPlaceStart, StartPlaced}
+use Rattle.construct.specs.Rows.{Held, Grown, MarksNumbered}
+use Rattle.construct.specs.Builds.{RoomIn, StartPlaced}
 
 -- the fields of the rule that a head record spells
 pub clocks-of : (h : Head) (t : List ℕ) → ruleIn h t .clocks ≡ h .clocks
@@ -75,7 +73,8 @@ module _ (h : Head) (t : List ℕ) (passed : ruleRefusal h t .number ≡ 0) wher
       → weight ≤ mostPairs
   unfolding pairCount
   weight-most top clocks weight e k w =
-      let p : 1 * weight ≤ ruleIn h t .locations * weight = mul-le-mul-right weight (valid-is .sizes .locations-least) in
+      let p : 1 * weight ≤ ruleIn h t .locations * weight =
+      mul-le-mul-right weight (valid-is .sizes .locations-least) in
       let q : ruleIn h t .locations * weight ≡ pairCount (ruleIn h t) =
       ap (λ (n : ℕ). ruleIn h t .locations * n) (weight-is top clocks weight e k w) in
       omega (arith, valid-is .pairs-most)
@@ -102,7 +101,8 @@ pairs-are h t z l w s e f = ap₂ _*_ (e ∙ sym (locations-of h t)) (f ∙ s .w
 
 -- the room for rows
 pub room-is :
-    (cells rows each n inner room : ℕ) → n ≡ quotient cells each → inner ≡ lesser (rows / 2) n → room ≡ lesser 4096 inner
+    (cells rows each n inner room : ℕ) → n ≡ quotient cells each → inner ≡ lesser (rows / 2) n
+    → room ≡ lesser 4096 inner
     → room ≡ lesser mostRows (lesser (rows / 2) (quotient cells each))
 room-is cells rows each n inner room a b c = rw (c, b, a)
 

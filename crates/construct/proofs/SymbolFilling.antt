@@ -1,16 +1,16 @@
 -- The cells of a row at a symbol, interval by interval: those so far are laid in their place, and the rows found so far
 -- lead to the same rows as those before.
-use mathlib.Core.Path.{_≡_, refl, sym, _∙_, ap, ap₂, subst}
-use mathlib.Core.List.{List, [], _∷_, _++_, append-assoc, append-nil}
-use Prim.Native.Nat.{ℕ, zero, suc, _+_, _-_, _*_, _^_, _≤_, _<_}
+use mathlib.Core.Path.{_≡_, refl, sym, _∙_, ap, subst}
+use mathlib.Core.List.{List, [], _∷_, _++_, append-assoc}
+use Prim.Native.Nat.{ℕ, suc, _+_, _-_, _*_, _^_, _≤_, _<_}
 use native.Mathlib.Omega.{arith}
-use native.Mathlib.Nat.{mul-le-mul, mul-le-mul-left, mul-le-mul-right}
+use native.Mathlib.Nat.{mul-le-mul, mul-le-mul-right}
 use native.Mathlib.Numerals.{add-one}
-use lib.ListN.{length, getD, set, take, drop, length-set, length-append, length-replicate}
+use lib.ListN.{length, set, length-set, length-replicate}
 use Rattle.model.specs.declared.Head.{Head}
 use Rattle.model.specs.Basics.{zeros}
-use Rattle.model.specs.Rules.{Rule, cm}
-use Rattle.model.specs.Construction.{width, nextRow, rowAt, withRow, byIntervals, bySymbols, cellOf}
+use Rattle.model.specs.Rules.{Rule}
+use Rattle.model.specs.Construction.{width, nextRow, rowAt, withRow, byIntervals, cellOf}
 use Rattle.model.specs.Tables.{cellsFrom}
 use Rattle.model.specs.Layout.{ruleIn}
 use Rattle.model.proofs.Valid.{valid-of}
@@ -23,7 +23,8 @@ use Rattle.construct.specs.declared.Progress.{Progress}
 use Rattle.construct.specs.declared.Filled.{Filled}
 use Rattle.construct.specs.Marks.{Ready}
 use Rattle.construct.specs.Rows.{rowsIn, Held, Unfit, Grown}
-use Rattle.construct.specs.Cells.{CanLeave, CellMade, laid, CanFill, SymbolFilled}
+use Rattle.construct.specs.Lent.{laid}
+use Rattle.construct.specs.Cells.{CanLeave, CellMade, CanFill, SymbolFilled}
 use Rattle.construct.proofs.RowSearch.{rows-length}
 use Rattle.construct.proofs.TargetMarks.{ready-again}
 use Rattle.construct.proofs.Laying.{laid-none, laid-store, cells-snoc, cell-stays}
@@ -107,15 +108,21 @@ module _
   module _ {at′ : Input} {marks′ rows′ pool′ : List ℕ} {answer : Filled} (l : i < width r)
       (is-symbol : at′ .symbol ≡ s) (is-interval : at′ .interval ≡ i)
       (made : CellMade r row at′ (rowsIn (p .rows) rows pool) (p .room) marks marks′ rows′ pool′ answer) where
-    same-next : nextRow r (at′ .symbol) (at′ .interval) (rowAt (rowsIn (p .rows) rows pool) row) ≡ nextRow r s i (rowAt rs row)
+    same-next :
+        nextRow r (at′ .symbol) (at′ .interval) (rowAt (rowsIn (p .rows) rows pool) row)
+        ≡ nextRow r s i (rowAt rs row)
     same-next = rw (is-symbol, is-interval, inv .row-is)
 
-    grown-is : Grown room (withRow (nextRow r s i (rowAt rs row)) (rowsIn (p .rows) rows pool)) rows′ pool′ (answer .progress)
+    grown-is :
+        Grown room (withRow (nextRow r s i (rowAt rs row)) (rowsIn (p .rows) rows pool)) rows′ pool′ (answer .progress)
     grown-is =
-        subst (λ (x : List ℕ). Grown room (withRow x (rowsIn (p .rows) rows pool)) rows′ pool′ (answer .progress)) same-next
+        subst (λ (x : List ℕ). Grown room (withRow x (rowsIn (p .rows) rows pool)) rows′ pool′ (answer .progress))
+        same-next
         (subst
         (λ (n : ℕ).
-        Grown n (withRow (nextRow r (at′ .symbol) (at′ .interval) (rowAt (rowsIn (p .rows) rows pool) row)) (rowsIn (p .rows) rows pool))
+        Grown n
+        (withRow (nextRow r (at′ .symbol) (at′ .interval) (rowAt (rowsIn (p .rows) rows pool) row))
+        (rowsIn (p .rows) rows pool))
         rows′ pool′ (answer .progress))
         (inv .room-kept)
         (made .grown))
@@ -142,7 +149,9 @@ module _
         rows-are = λ e. absurd (n e);
         refused = λ e.
             unfit-extends (grown-is .refused e)
-            (subst (λ (x : List (List ℕ)). Extends (withRow (nextRow r s i (rowAt rs row)) (rowsIn (p .rows) rows pool)) x) turn-is
+            (subst
+            (λ (x : List (List ℕ)). Extends (withRow (nextRow r s i (rowAt rs row)) (rowsIn (p .rows) rows pool)) x)
+            turn-is
             (grows-extends
             (intervals-grow (width r - (i + 1)) (i + 1) r s (rowAt rs row)
             (withRow (nextRow r s i (rowAt rs row)) (rowsIn (p .rows) rows pool)))));
@@ -153,11 +162,13 @@ module _
 
     -- else the cell is written
     cells-next :
-        (cells′ : List ℕ) → answer .progress .number ≡ 0 → at + i < length cells₀ → cells′ ≡ set cells (at + i) (answer .cell)
+        (cells′ : List ℕ) → answer .progress .number ≡ 0 → at + i < length cells₀
+        → cells′ ≡ set cells (at + i) (answer .cell)
         → (more : List (List ℕ))
         → cells′
         ≡ laid cells₀ at
-        (cellsFrom (i + 1) 0 r (withRow (nextRow r s i (rowAt rs row)) (rowsIn (p .rows) rows pool) ++ more) (rowAt rs row) s)
+        (cellsFrom (i + 1) 0 r (withRow (nextRow r s i (rowAt rs row)) (rowsIn (p .rows) rows pool) ++ more)
+        (rowAt rs row) s)
     cells-next cells′ e fits w more =
         let x : List ℕ = rowAt rs row in
         let old : List (List ℕ) = rowsIn (p .rows) rows pool in
@@ -170,9 +181,10 @@ module _
         made .cell-is e ∙ (rw (is-symbol, is-interval, inv .row-is) (sym (cell-stays r s i x old more))) in
         let n : length (cellsFrom i 0 r (new ++ more) x s) ≡ i = cells-length r (new ++ more) i 0 x s in
         let z : 0 + i ≡ i = omega arith in
-        let snoc : cellsFrom (i + 1) 0 r (new ++ more) x s ≡ cellsFrom i 0 r (new ++ more) x s ++ (cellOf r (new ++ more) x s i ∷ []) =
+        let done : List ℕ = cellsFrom i 0 r (new ++ more) x s in
+        let snoc : cellsFrom (i + 1) 0 r (new ++ more) x s ≡ done ++ (cellOf r (new ++ more) x s i ∷ []) =
         rw (add-one i) (cells-snoc r (new ++ more) i 0 x s ∙ rw z) in
-        laid-store cells₀ cells cells′ at i (cellsFrom i 0 r (new ++ more) x s) (answer .cell) (cellOf r (new ++ more) x s i) (sym n)
+        laid-store cells₀ cells cells′ at i done (answer .cell) (cellOf r (new ++ more) x s i) (sym n)
         fits
         before
         cell
@@ -180,7 +192,8 @@ module _
         ∙ ap (laid cells₀ at) (sym snoc)
 
     pub filling-next :
-        (cells′ : List ℕ) → answer .progress .number ≡ 0 → at + i < length cells₀ → cells′ ≡ set cells (at + i) (answer .cell)
+        (cells′ : List ℕ) → answer .progress .number ≡ 0 → at + i < length cells₀
+        → cells′ ≡ set cells (at + i) (answer .cell)
         → Filling r row s at rs room marks₀ cells₀ (i + 1) marks′ cells′ rows′ pool′ (answer .progress)
     filling-next cells′ e fits w =
         let old : List (List ℕ) = rowsIn (p .rows) rows pool in
@@ -209,7 +222,8 @@ module _
       → at + i < length cells₀
   filling-fits wide e l g f place =
       rw (place, e)
-      (place-fits row (r .symbols) s (width r) i room (length cells₀) (omega (arith, inv .row-below, inv .held .in-room, inv .room-kept))
+      (place-fits row (r .symbols) s (width r) i room (length cells₀)
+      (omega (arith, inv .row-below, inv .held .in-room, inv .room-kept))
       g
       (rw e at l)
       f)

@@ -2,19 +2,19 @@
 use mathlib.Core.Path.{_≡_, refl, sym, _∙_, ap, ap₂}
 use mathlib.Core.Bool.{Bool, true, false}
 use mathlib.Core.List.{List, [], _∷_, _++_}
-use Prim.Native.Nat.{ℕ, zero, suc, _+_, _-_, _*_, _≤_, _<_}
+use Prim.Native.Nat.{ℕ, _+_, _-_, _*_, _≤_, _<_}
 use native.Mathlib.Omega.{arith}
 use native.Mathlib.Numerals.{add-one}
 use lib.ListN.{length, getD, take, drop}
 use lib.Seq.{take-suc, take-all}
 use Rattle.model.specs.declared.Head.{Head}
 use Rattle.model.specs.Basics.{pick, zeros}
-use Rattle.model.specs.Rules.{Edge, Rule, pairCount, mostPairs, validRule}
+use Rattle.model.specs.Rules.{Edge, Rule, pairCount}
 use Rattle.model.specs.Runs.{noEdge}
 use Rattle.model.specs.Layout.{edgeWidth, edgeIn, edgesIn, ruleIn}
 use Rattle.model.specs.Construction.{withCode, allows, rowResets, targetOf, pairTargets, rowTargets, nextRow}
-use Rattle.model.proofs.Logic.{In, in-at}
-use Rattle.model.proofs.Valid.{Valid, valid-of, EdgeIn}
+use Rattle.model.proofs.Logic.{in-at}
+use Rattle.model.proofs.Valid.{valid-of, EdgeIn}
 use Rattle.model.proofs.EdgeTable.{edges-length, edge-at}
 use Rattle.model.proofs.CodeBounds.{target-below}
 use Rattle.pairs.specs.declared.Scale.{Scale}
@@ -23,7 +23,6 @@ use Rattle.pairs.specs.declared.Input.{Input}
 use Rattle.pairs.specs.Pairs.{unpacked, pairAllows, pairTarget, rowResetsBy}
 use Rattle.pairs.proofs.Agreement.{allows-is, target-is, row-resets-is}
 use Rattle.construct.specs.declared.Span.{Span}
-use Rattle.construct.specs.declared.Marked.{Marked}
 use Rattle.construct.specs.Marks.{codesIn, InSpan, CanMark, MarksAre, Ready, NextMarked}
 use Rattle.construct.proofs.MarkLaws.{no-marks}
 
@@ -54,7 +53,8 @@ pub record Pairing
     (h : Head) (t : List ℕ) (at : Input) (timer : Bool) (x e : ℕ) (row marks : List ℕ) (span : Span) : Type 0 where
   pub turns : e ≤ h .count
   pub marks-are :
-      MarksAre (pairTargets (ruleIn h t) (at .symbol) (at .interval) timer x (take e (ruleIn h t .edges)) row) marks span
+      MarksAre (pairTargets (ruleIn h t) (at .symbol) (at .interval) timer x (take e (ruleIn h t .edges)) row) marks
+      span
 
 pub pairing-start :
     (h : Head) (t : List ℕ) (at : Input) (timer : Bool) (x : ℕ) (marks : List ℕ) (span : Span) → InSpan marks span
@@ -207,7 +207,9 @@ module _
   rowing-end l = rw (take-all n row l) at (inv .marks-are)
 
 -- marks of another length are ready too
-pub ready-again : {r : Rule} {z : Scale} {lent : List ℕ} (marks : List ℕ) → Ready r z lent → length marks ≡ length lent → Ready r z marks
+pub ready-again :
+    {r : Rule} {z : Scale} {lent : List ℕ} (marks : List ℕ) → Ready r z lent → length marks ≡ length lent
+    → Ready r z marks
 ready-again marks ready e = record {
   valid = ready .valid;
   scaled = ready .scaled;

@@ -3,7 +3,7 @@
 use mathlib.Core.Path.{_≡_}
 use mathlib.Core.List.{List, [], _∷_, _++_}
 use Prim.Native.Nat.{ℕ, _+_, _*_, _≤_, _<_}
-use lib.ListN.{length, take, drop}
+use lib.ListN.{length}
 use Rattle.model.specs.Basics.{zeros, filled}
 use Rattle.model.specs.Rules.{Rule}
 use Rattle.model.specs.Construction.{width, startRow, nextRow, rowAt, withRow, byIntervals, bySymbols, rowsOf, cellOf}
@@ -12,6 +12,7 @@ use Rattle.pairs.specs.declared.Scale.{Scale}
 use Rattle.pairs.specs.declared.Input.{Input}
 use Rattle.construct.specs.declared.Progress.{Progress}
 use Rattle.construct.specs.declared.Filled.{Filled}
+use Rattle.construct.specs.Lent.{laid}
 use Rattle.construct.specs.Marks.{Ready}
 use Rattle.construct.specs.Rows.{rowsIn, Held, Grown}
 
@@ -24,17 +25,13 @@ pub record CanLeave (r : Rule) (z : Scale) (marks rows pool : List ℕ) (p : Pro
 
 -- one cell, and the row that it leads to
 pub record CellMade
-    (r : Rule) (row : ℕ) (at : Input) (rs : List (List ℕ)) (room : ℕ) (marks marks′ rows′ pool′ : List ℕ) (answer : Filled)
-    : Type 0 where
+    (r : Rule) (row : ℕ) (at : Input) (rs : List (List ℕ)) (room : ℕ) (marks marks′ rows′ pool′ : List ℕ)
+    (answer : Filled) : Type 0 where
   pub marks-zero : marks′ ≡ zeros (length marks)
   pub grown :
       Grown room (withRow (nextRow r (at .symbol) (at .interval) (rowAt rs row)) rs) rows′ pool′ (answer .progress)
   pub cell-is :
       answer .progress .number ≡ 0 → answer .cell ≡ cellOf r rs (rowAt rs row) (at .symbol) (at .interval)
-
--- a lent table after numbers were written at a place, the rest not touched
-abbrev pub laid : List ℕ → ℕ → List ℕ → List ℕ
-laid was at new = take at was ++ (new ++ drop (at + length new) was)
 
 -- there are cells for as many rows as there is room for
 pub record CanFill
@@ -44,8 +41,8 @@ pub record CanFill
 
 -- the cells of a row at a symbol
 pub record SymbolFilled
-    (r : Rule) (row s : ℕ) (rs : List (List ℕ)) (room : ℕ) (marks marks′ cells cells′ rows′ pool′ : List ℕ) (p : Progress)
-    : Type 0 where
+    (r : Rule) (row s : ℕ) (rs : List (List ℕ)) (room : ℕ) (marks marks′ cells cells′ rows′ pool′ : List ℕ)
+    (p : Progress) : Type 0 where
   pub marks-zero : marks′ ≡ zeros (length marks)
   pub grown : Grown room (byIntervals (width r) 0 r s (rowAt rs row) rs) rows′ pool′ p
   pub cells-are :

@@ -1,3 +1,4 @@
+pub mod Lent
 pub mod Marks
 pub mod Rows
 pub mod Cells

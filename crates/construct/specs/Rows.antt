@@ -4,9 +4,9 @@ use mathlib.Core.List.{List, [], _∷_, _++_}
 use Prim.Native.Nat.{ℕ, zero, suc, _+_, _*_, _≤_, _<_}
 use lib.Dec.{ltb}
 use lib.ListN.{length, getD, take, drop}
-use Rattle.model.specs.Basics.{pick, zeros, filled, Refusal, refusal}
+use Rattle.model.specs.Basics.{pick, zeros, filled, refusal}
 use Rattle.model.specs.Rules.{mostPairs}
-use Rattle.model.specs.Construction.{numberOf, withRow, mostRows}
+use Rattle.model.specs.Construction.{numberOf, mostRows}
 use Rattle.model.specs.Tables.{rowWidth, rowNumbers, poolNumbers, fitRefusal}
 use Rattle.construct.specs.declared.Found.{Found}
 use Rattle.construct.specs.declared.Found.the-variants.{At, Nothing}

@@ -47,7 +47,9 @@ pub(crate) fn place_start(
     room: usize,
 ) -> Progress
     requires { ⌜ CanPlaceStart starts weight (now marks) (now rows) (now pool) room ⌝ }
-    ensures { λ r. ⌜ StartPlaced starts weight room (now (marks .entry)) (now (marks .exit)) (now (rows .exit)) (now (pool .exit)) r ⌝ }
+    ensures { λ r.
+        ⌜ StartPlaced starts weight room (now (marks .entry)) (now (marks .exit)) (now (rows .exit)) (now (pool .exit))
+        r ⌝ }
 {
     let span = mark_starts(starts, weight, marks);
     let none = Progress {
@@ -71,7 +73,11 @@ pub(crate) fn fill_tables(
     pool: &mut [u32],
 ) -> Progress
     requires { ⌜ CanBuild (ruleIn head (now edges)) scale (now marks) (now cells) (now rows) (now pool) ⌝ }
-    ensures { λ r. ⌜ AllFilled (ruleIn head (now (edges .entry))) (rowRoom (ruleIn head (now (edges .entry))) (length (now (cells .entry))) (length (now (rows .entry)))) (now (marks .entry)) (now (marks .exit)) (now (cells .entry)) (now (cells .exit)) (now (rows .exit)) (now (pool .exit)) r ⌝ }
+    ensures { λ r.
+        ⌜ AllFilled (ruleIn head (now (edges .entry)))
+        (rowRoom (ruleIn head (now (edges .entry))) (length (now (cells .entry))) (length (now (rows .entry))))
+        (now (marks .entry)) (now (marks .exit)) (now (cells .entry)) (now (cells .exit)) (now (rows .exit))
+        (now (pool .exit)) r ⌝ }
 {
     let each = wide32(head.symbols) * (2 * wide8(scale.top) + 2);
     let room = row_room(cells.len(), rows.len(), each);
@@ -132,7 +138,10 @@ pub(crate) fn built_from(head: Head, scale: Scale, p: Progress) -> Built
 }
 
 pub(crate) fn clear_tables(cells: &mut [u32], rows: &mut [u32], pool: &mut [u32])
-    ensures { λ _. ⌜ (now (cells .exit) ≡ zeros (length (now (cells .entry)))) × (now (rows .exit) ≡ zeros (length (now (rows .entry)))) × (now (pool .exit) ≡ zeros (length (now (pool .entry)))) ⌝ }
+    ensures { λ _.
+        ⌜ (now (cells .exit) ≡ zeros (length (now (cells .entry))))
+        × (now (rows .exit) ≡ zeros (length (now (rows .entry))))
+        × (now (pool .exit) ≡ zeros (length (now (pool .entry)))) ⌝ }
 {
     clear(cells);
     clear(rows);
@@ -152,7 +161,9 @@ pub(crate) fn build_in(
     requires { ⌜ ruleRefusal head (now edges) .number ≡ 0 ⌝ }
     requires { ⌜ Scaled (ruleIn head (now edges)) scale ⌝ }
     requires { ⌜ pairCount (ruleIn head (now edges)) ≤ length (now scratch) ⌝ }
-    ensures { λ r. ⌜ BuildsTable head (now (edges .entry)) (now (scratch .entry)) (now (scratch .exit)) (now (cells .entry)) (now (cells .exit)) (now (rows .entry)) (now (rows .exit)) (now (pool .entry)) (now (pool .exit)) r ⌝ }
+    ensures { λ r.
+        ⌜ BuildsTable head (now (edges .entry)) (now (scratch .entry)) (now (scratch .exit)) (now (cells .entry))
+        (now (cells .exit)) (now (rows .entry)) (now (rows .exit)) (now (pool .entry)) (now (pool .exit)) r ⌝ }
 {
     clear(scratch);
     clear_tables(cells, rows, pool);
@@ -179,7 +190,9 @@ pub(crate) fn build_checked(
     pool: &mut [u32],
 ) -> Building
     requires { ⌜ ruleRefusal head (now edges) .number ≡ 0 ⌝ }
-    ensures { λ r. ⌜ BuildsTable head (now (edges .entry)) (now (scratch .entry)) (now (scratch .exit)) (now (cells .entry)) (now (cells .exit)) (now (rows .entry)) (now (rows .exit)) (now (pool .entry)) (now (pool .exit)) r ⌝ }
+    ensures { λ r.
+        ⌜ BuildsTable head (now (edges .entry)) (now (scratch .entry)) (now (scratch .exit)) (now (cells .entry))
+        (now (cells .exit)) (now (rows .entry)) (now (rows .exit)) (now (pool .entry)) (now (pool .exit)) r ⌝ }
 {
     let scale = scale_of(head, edges);
     let pairs = wide32(head.locations) * wide32(scale.weight);

@@ -42,7 +42,10 @@ pub(crate) fn make_cell(
     p: Progress,
 ) -> Filled
     requires { ⌜ CanLeave (ruleIn head (now edges)) scale (now marks) (now rows) (now pool) p row ⌝ }
-    ensures { λ r. ⌜ CellMade (ruleIn head (now (edges .entry))) row input (rowsIn (p .rows) (now (rows .entry)) (now (pool .entry))) (p .room) (now (marks .entry)) (now (marks .exit)) (now (rows .exit)) (now (pool .exit)) r ⌝ }
+    ensures { λ r.
+        ⌜ CellMade (ruleIn head (now (edges .entry))) row input
+        (rowsIn (p .rows) (now (rows .entry)) (now (pool .entry))) (p .room) (now (marks .entry)) (now (marks .exit))
+        (now (rows .exit)) (now (pool .exit)) r ⌝ }
 {
     let start = wide32(rows[2 * row]);
     let end = start + wide32(rows[2 * row + 1]);
@@ -78,7 +81,10 @@ pub(crate) fn fill_symbol(
 ) -> Progress
     requires { ⌜ CanFill (ruleIn head (now edges)) scale (now marks) (now cells) (now rows) (now pool) p row ⌝ }
     requires { ⌜ symbol < head .symbols ⌝ }
-    ensures { λ r. ⌜ SymbolFilled (ruleIn head (now (edges .entry))) row symbol (rowsIn (p .rows) (now (rows .entry)) (now (pool .entry))) (p .room) (now (marks .entry)) (now (marks .exit)) (now (cells .entry)) (now (cells .exit)) (now (rows .exit)) (now (pool .exit)) r ⌝ }
+    ensures { λ r.
+        ⌜ SymbolFilled (ruleIn head (now (edges .entry))) row symbol
+        (rowsIn (p .rows) (now (rows .entry)) (now (pool .entry))) (p .room) (now (marks .entry)) (now (marks .exit))
+        (now (cells .entry)) (now (cells .exit)) (now (rows .exit)) (now (pool .exit)) r ⌝ }
 {
     let width = 2 * wide8(scale.top) + 2;
     let at = place_of(row, wide32(head.symbols), wide32(symbol), width);
@@ -113,7 +119,10 @@ pub(crate) fn fill_row(
     p: Progress,
 ) -> Progress
     requires { ⌜ CanFill (ruleIn head (now edges)) scale (now marks) (now cells) (now rows) (now pool) p row ⌝ }
-    ensures { λ r. ⌜ RowFilled (ruleIn head (now (edges .entry))) row (rowsIn (p .rows) (now (rows .entry)) (now (pool .entry))) (p .room) (now (marks .entry)) (now (marks .exit)) (now (cells .entry)) (now (cells .exit)) (now (rows .exit)) (now (pool .exit)) r ⌝ }
+    ensures { λ r.
+        ⌜ RowFilled (ruleIn head (now (edges .entry))) row
+        (rowsIn (p .rows) (now (rows .entry)) (now (pool .entry))) (p .room) (now (marks .entry)) (now (marks .exit))
+        (now (cells .entry)) (now (cells .exit)) (now (rows .exit)) (now (pool .exit)) r ⌝ }
 {
     let mut progress = p;
     let mut symbol: u32 = 0;
@@ -150,7 +159,9 @@ pub(crate) fn fill_rows(
     p: Progress,
 ) -> Progress
     requires { ⌜ CanFillAll (ruleIn head (now edges)) scale (now marks) (now cells) (now rows) (now pool) p ⌝ }
-    ensures { λ r. ⌜ AllFilled (ruleIn head (now (edges .entry))) (p .room) (now (marks .entry)) (now (marks .exit)) (now (cells .entry)) (now (cells .exit)) (now (rows .exit)) (now (pool .exit)) r ⌝ }
+    ensures { λ r.
+        ⌜ AllFilled (ruleIn head (now (edges .entry))) (p .room) (now (marks .entry)) (now (marks .exit))
+        (now (cells .entry)) (now (cells .exit)) (now (rows .exit)) (now (pool .exit)) r ⌝ }
 {
     let mut progress = p;
     let mut row: usize = 0;

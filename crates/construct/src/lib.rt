@@ -13,42 +13,42 @@ mod marks;
 mod rows;
 
 // The marks of a row lie from `low` on and below `past`.
-pub struct Span {
-    pub low: usize,
-    pub past: usize,
+pub(crate) struct Span {
+    pub(crate) low: usize,
+    pub(crate) past: usize,
 }
 
 // What the marks of a next row come with: whether the timer is reset, and where they lie.
-pub struct Marked {
-    pub timer: bool,
-    pub span: Span,
+pub(crate) struct Marked {
+    pub(crate) timer: bool,
+    pub(crate) span: Span,
 }
 
 // Where a set of codes is found among the rows already numbered.
-pub enum Found {
+pub(crate) enum Found {
     At(usize),
     Nothing,
 }
 
 // How far the rows are numbered: their count, how much of the pool they fill, and how many there is room for.
 // The number is 23 or 24 where the next did not fit, else 0.
-pub struct Progress {
-    pub number: u8,
-    pub rows: usize,
-    pub total: usize,
-    pub room: usize,
+pub(crate) struct Progress {
+    pub(crate) number: u8,
+    pub(crate) rows: usize,
+    pub(crate) total: usize,
+    pub(crate) room: usize,
 }
 
 // A set of codes with its row number.
-pub struct Placed {
-    pub row: usize,
-    pub progress: Progress,
+pub(crate) struct Placed {
+    pub(crate) row: usize,
+    pub(crate) progress: Progress,
 }
 
 // A cell, and how far the rows are numbered with the row that it leads to.
-pub struct Filled {
-    pub cell: u32,
-    pub progress: Progress,
+pub(crate) struct Filled {
+    pub(crate) cell: u32,
+    pub(crate) progress: Progress,
 }
 
 // The table of a rule: 20, 21, 22, then 23 or 24 at the first row that does not fit.
@@ -60,7 +60,9 @@ pub fn build_table(
     rows: &mut [u32],
     pool: &mut [u32],
 ) -> Building
-    ensures { λ r. ⌜ BuildsTable head (now (edges .entry)) (now (scratch .entry)) (now (scratch .exit)) (now (cells .entry)) (now (cells .exit)) (now (rows .entry)) (now (rows .exit)) (now (pool .entry)) (now (pool .exit)) r ⌝ }
+    ensures { λ r.
+        ⌜ BuildsTable head (now (edges .entry)) (now (scratch .entry)) (now (scratch .exit)) (now (cells .entry))
+        (now (cells .exit)) (now (rows .entry)) (now (rows .exit)) (now (pool .entry)) (now (pool .exit)) r ⌝ }
 {
     let checked = check_rule(head, edges);
     if checked.number != 0 {

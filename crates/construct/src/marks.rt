@@ -88,7 +88,11 @@ pub(crate) fn mark_pair(
 ) -> Span
     requires { ⌜ Ready (ruleIn head (now edges)) scale (now marks) ⌝ }
     requires { ⌜ InSpan (now marks) before ⌝ }
-    ensures { λ r. ⌜ MarksAre (pairTargets (ruleIn head (now (edges .entry))) (input .symbol) (input .interval) timer code (ruleIn head (now (edges .entry)) .edges) (codesIn (now (marks .entry)))) (now (marks .exit)) r ⌝ }
+    ensures { λ r.
+        ⌜ MarksAre
+        (pairTargets (ruleIn head (now (edges .entry))) (input .symbol) (input .interval) timer code
+        (ruleIn head (now (edges .entry)) .edges) (codesIn (now (marks .entry))))
+        (now (marks .exit)) r ⌝ }
 {
     let pair = unpack(scale, code);
     let mut span = before;
@@ -115,7 +119,10 @@ pub(crate) fn mark_row(
 ) -> Span
     requires { ⌜ Ready (ruleIn head (now edges)) scale (now marks) ⌝ }
     requires { ⌜ now marks ≡ zeros (length (now marks)) ⌝ }
-    ensures { λ r. ⌜ MarksAre (rowTargets (ruleIn head (now (edges .entry))) (input .symbol) (input .interval) timer (now (row .entry)) []) (now (marks .exit)) r ⌝ }
+    ensures { λ r.
+        ⌜ MarksAre
+        (rowTargets (ruleIn head (now (edges .entry))) (input .symbol) (input .interval) timer (now (row .entry)) [])
+        (now (marks .exit)) r ⌝ }
 {
     let mut span = Span {
         low: marks.len(),

@@ -2,7 +2,8 @@
 ghost use mathlib.Core.Path.{_≡_};
 ghost use mathlib.Core.List.{_∷_, _++_, []};
 ghost use Prim.Native.Nat.{_+_, _≤_};
-ghost use lib.ListN.{length, take, drop};
+ghost use Rattle.construct.specs.Lent.{laid};
+ghost use lib.ListN.{length};
 ghost use Rattle.model.specs.Rules.{mostPairs};
 ghost use Rattle.model.specs.Construction.{numberOf, withRow};
 ghost use Rattle.construct.specs.Marks.{codesIn, InSpan};
@@ -47,7 +48,7 @@ pub(crate) fn find_row(rows: &[u32], pool: &[u32], count: usize, codes: &[u32]) 
 // Copies `codes` into the pool.
 pub(crate) fn copy_codes(codes: &[u32], pool: &mut [u32], at: usize)
     requires { ⌜ at + length (now codes) ≤ length (now pool) ⌝ }
-    ensures { λ _. ⌜ now (pool .exit) ≡ take at (now (pool .entry)) ++ (now (codes .entry) ++ drop (at + length (now (codes .entry))) (now (pool .entry))) ⌝ }
+    ensures { λ _. ⌜ now (pool .exit) ≡ laid (now (pool .entry)) at (now (codes .entry)) ⌝ }
 {
     let mut j: usize = 0;
     while j < codes.len() {
@@ -60,7 +61,10 @@ pub(crate) fn copy_codes(codes: &[u32], pool: &mut [u32], at: usize)
 pub(crate) fn add_row(codes: &[u32], rows: &mut [u32], pool: &mut [u32], p: Progress) -> Placed
     requires { ⌜ Held (now rows) (now pool) p ⌝ }
     requires { ⌜ length (now codes) ≤ mostPairs ⌝ }
-    ensures { λ r. ⌜ Numbered (p .room) (rowsIn (p .rows) (now (rows .entry)) (now (pool .entry)) ++ (now (codes .entry) ∷ [])) (p .rows) (now (rows .exit)) (now (pool .exit)) r ⌝ }
+    ensures { λ r.
+        ⌜ Numbered (p .room)
+        (rowsIn (p .rows) (now (rows .entry)) (now (pool .entry)) ++ (now (codes .entry) ∷ [])) (p .rows)
+        (now (rows .exit)) (now (pool .exit)) r ⌝ }
 {
     let row = p.rows;
     let total = p.total;
@@ -105,7 +109,11 @@ pub(crate) fn add_row(codes: &[u32], rows: &mut [u32], pool: &mut [u32], p: Prog
 pub(crate) fn place_row(codes: &[u32], rows: &mut [u32], pool: &mut [u32], p: Progress) -> Placed
     requires { ⌜ Held (now rows) (now pool) p ⌝ }
     requires { ⌜ length (now codes) ≤ mostPairs ⌝ }
-    ensures { λ r. ⌜ Numbered (p .room) (withRow (now (codes .entry)) (rowsIn (p .rows) (now (rows .entry)) (now (pool .entry)))) (numberOf (now (codes .entry)) (rowsIn (p .rows) (now (rows .entry)) (now (pool .entry)))) (now (rows .exit)) (now (pool .exit)) r ⌝ }
+    ensures { λ r.
+        ⌜ Numbered (p .room)
+        (withRow (now (codes .entry)) (rowsIn (p .rows) (now (rows .entry)) (now (pool .entry))))
+        (numberOf (now (codes .entry)) (rowsIn (p .rows) (now (rows .entry)) (now (pool .entry))))
+        (now (rows .exit)) (now (pool .exit)) r ⌝ }
 {
     let found = find_row(rows, pool, p.rows, codes);
     let Found::At(row) = found else {
@@ -124,7 +132,11 @@ pub(crate) fn place_marks(
 ) -> Placed
     requires { ⌜ InSpan (now marks) span ⌝ }
     requires { ⌜ Held (now rows) (now pool) p ⌝ }
-    ensures { λ r. ⌜ MarksNumbered (p .room) (withRow (codesIn (now (marks .entry))) (rowsIn (p .rows) (now (rows .entry)) (now (pool .entry)))) (numberOf (codesIn (now (marks .entry))) (rowsIn (p .rows) (now (rows .entry)) (now (pool .entry)))) (now (marks .entry)) (now (marks .exit)) (now (rows .exit)) (now (pool .exit)) r ⌝ }
+    ensures { λ r.
+        ⌜ MarksNumbered (p .room)
+        (withRow (codesIn (now (marks .entry))) (rowsIn (p .rows) (now (rows .entry)) (now (pool .entry))))
+        (numberOf (codesIn (now (marks .entry))) (rowsIn (p .rows) (now (rows .entry)) (now (pool .entry))))
+        (now (marks .entry)) (now (marks .exit)) (now (rows .exit)) (now (pool .exit)) r ⌝ }
 {
     let count = gather(marks, span);
     let placed = place_row(&marks[..count], rows, pool, p);

@@ -1,23 +1,22 @@
 -- For the scale of a rule, pairs and codes are the construction's: the pair of a code, the edges that it allows, their
 -- targets, and whether the timer is reset.
 use mathlib.Core.Path.{_≡_, refl, sym, _∙_, ap, ap₂}
-use mathlib.Core.Bool.{Bool, true, false, _&&_, _||_}
+use mathlib.Core.Bool.{Bool, true, false, _&&_}
 use mathlib.Core.List.{List, [], _∷_}
 use Prim.Native.Nat.{ℕ, zero, suc, _+_, _*_, _^_, _≤_, _<_}
 use native.Mathlib.Omega.{arith}
 use lib.Dec.{eqb}
-use lib.ListN.{length, getD, take}
+use lib.ListN.{take}
 use lib.Seq.{getD-take}
 use Rattle.model.specs.Basics.{pick, quotient, remainder, bit}
 use Rattle.model.specs.Rules.{Atom, Edge, Rule, cm, baseCount}
 use Rattle.model.specs.Runs.{zeroedFrom, zeroed}
 use Rattle.model.specs.Construction.{regionOf, regionRelated, regionsHold, digitsOf, digitsCode, codeOf, locationOf, basesOf, allows, pairResets, rowResets, advanced, targetOf}
 use Rattle.model.proofs.Logic.{In, here, there}
-use Rattle.model.proofs.Valid.{AtomIn, EdgeIn}
+use Rattle.model.proofs.Valid.{EdgeIn}
 use Rattle.pairs.specs.declared.Scale.{Scale}
-use Rattle.pairs.specs.declared.Pair.{Pair}
 use Rattle.pairs.specs.declared.Input.{Input}
-use Rattle.pairs.specs.Pairs.{Scaled, radix, unpacked, movedBases, pairAllows, pairTarget, pairResetsOn, pairResetsBy, rowResetsBy}
+use Rattle.pairs.specs.Pairs.{Scaled, radix, unpacked, movedBases, pairAllows, pairTarget, pairResetsBy, rowResetsBy}
 
 -- the first k of n digits; bases are moved one by one
 digits-take : (k n m x : ℕ) → k ≤ n → take k (digitsOf n m x) ≡ digitsOf k m x
@@ -70,8 +69,10 @@ module _ {r : Rule} {z : Scale} (scaled : Scaled r z) where
       → pairAllows (z .top) at (unpacked z x) e ≡ allows r (at .symbol) (at .interval) x e
   unfolding allows
   allows-is at x e v =
-      let g : regionsHold (z .top) (at .interval) (unpacked z x .bases) (e .atoms) ≡ regionsHold (cm r) (at .interval) (basesOf r x) (e .atoms) =
-      guard-take (r .clocks) (z .top) (at .interval) (unpacked z x .bases) (e .atoms) (λ a i. v .atoms-in a i .clock-below)
+      let holds : ℕ → List ℕ → Bool = λ c bs. regionsHold c (at .interval) bs (e .atoms) in
+      let g : holds (z .top) (unpacked z x .bases) ≡ holds (cm r) (basesOf r x) =
+      guard-take (r .clocks) (z .top) (at .interval) (unpacked z x .bases) (e .atoms)
+      (λ a i. v .atoms-in a i .clock-below)
       ∙ ap₂ (λ (c : ℕ) (bs : List ℕ). regionsHold c (at .interval) bs (e .atoms)) (scaled .top-is) (bases-are x) in
       ap₂ (λ (l : ℕ) (t : Bool). eqb (e .source) l && eqb (e .symbol) (at .symbol) && t) (location-is x) g
 
@@ -79,7 +80,8 @@ module _ {r : Rule} {z : Scale} (scaled : Scaled r z) where
       (i : ℕ) (timer : Bool) (x : ℕ) (e : Edge) → pairTarget z i timer (unpacked z x) e ≡ targetOf r i timer x e
   unfolding targetOf codeOf
   target-is i timer x e =
-      let b : take (z .clocks) (movedBases (e .resets) timer (z .top) i (unpacked z x .bases)) ≡ movedBases (e .resets) timer (cm r) i (basesOf r x) =
+      let moved : List ℕ = movedBases (e .resets) timer (z .top) i (unpacked z x .bases) in
+      let b : take (z .clocks) moved ≡ movedBases (e .resets) timer (cm r) i (basesOf r x) =
       ap (λ (k : ℕ). take k (movedBases (e .resets) timer (z .top) i (unpacked z x .bases))) (scaled .clocks-are)
       ∙ (take-moved (r .clocks) (e .resets) timer (z .top) i (unpacked z x .bases)
       ∙ ap₂ (λ (c : ℕ) (bs : List ℕ). movedBases (e .resets) timer c i bs) (scaled .top-is) (bases-are x)) in

@@ -2,16 +2,15 @@
 use mathlib.Core.Path.{_≡_, refl, sym, _∙_, ap}
 use mathlib.Core.Bool.{Bool, true, false}
 use mathlib.Core.List.{List, [], _∷_, _++_, append-assoc, append-nil}
-use Prim.Native.Nat.{ℕ, zero, suc, _+_, _-_, _*_, _/_, _%_, _^_, _≤_, _<_}
+use Prim.Native.Nat.{ℕ, suc, _+_, _-_, _*_, _/_, _%_, _^_, _≤_, _<_}
 use native.Mathlib.Omega.{arith}
 use native.Mathlib.Nat.{div-eq-of-lt, pow-le-pow-right, pow-le-pow-left, pow-zero, pow-suc, le-trans, mul-le-mul}
 use native.Mathlib.Numerals.{add-one}
-use lib.Dec.{eqb, ltb}
-use lib.ListN.{length, getD, set, take, drop, length-set, length-drop}
+use lib.ListN.{length, getD, set, take, drop, length-set}
 use lib.Seq.{take-suc-set, drop-cons, take-length, drop-length, take-nil}
 use borrow.Author.Tests.{lt-ltb, le-ltb}
 use Rattle.model.specs.Basics.{pick, bit, quotient, remainder}
-use Rattle.model.specs.Runs.{zeroedFrom, zeroed}
+use Rattle.model.specs.Runs.{zeroedFrom}
 use Rattle.model.specs.Construction.{digitsCode, digitsOf, advanced}
 use Rattle.model.proofs.Logic.{quotient-is, remainder-is}
 use Rattle.pairs.specs.declared.Scale.{Scale}
@@ -66,14 +65,16 @@ module _ {m x k rest : ℕ} {bases : List ℕ} (inv : Taking m x k rest bases) w
       → Taking m x (k + 1) (rest / m) (set bases k digit)
   taking-next digit p h e =
       let a : 4 - k ≡ suc (4 - (k + 1)) = omega arith in
+      let to-come : List ℕ = digitsOf (4 - (k + 1)) m (rest / m) in
       let front : take (k + 1) (set bases k digit) ≡ take k bases ++ (digit ∷ []) =
       rw (add-one k) (take-suc-set bases k digit (omega (arith, inv .long))) in
       record {
         turns = omega arith;
         long = length-set bases k digit ∙ inv .long;
         all-are =
-            rw (front, append-assoc (take k bases) (digit ∷ []) (digitsOf (4 - (k + 1)) m (rest / m)), e, ← remainder-is rest m p, ← quotient-is rest m p)
-            (rw a at (inv .all-are));
+            rw (front, append-assoc (take k bases) (digit ∷ []) to-come, e)
+            (rw (← remainder-is rest m p, ← quotient-is rest m p)
+            (rw a at (inv .all-are)));
       }
 
   pub taking-end : 4 ≤ k → bases ≡ digitsOf 4 m x
@@ -124,14 +125,16 @@ module _ {mask : ℕ} {timer : Bool} {c i k : ℕ} {bases next : List ℕ} (inv 
   moving-next b h e =
       let front : take (k + 1) (set next k b) ≡ take k next ++ (b ∷ []) =
       rw (add-one k) (take-suc-set next k b (omega (arith, inv .next-long))) in
-      let rest : List ℕ = zeroedFrom (suc k) mask (pick timer (advanced c i (drop (suc k) bases)) (drop (suc k) bases)) in
+      let later : List ℕ = drop (suc k) bases in
+      let rest : List ℕ = zeroedFrom (suc k) mask (pick timer (advanced c i later) later) in
+      let inside : k < length bases = omega (arith, inv .long) in
       record {
         turns = omega arith;
         long = inv .long;
         next-long = length-set next k b ∙ inv .next-long;
         all-are =
-            rw (front, add-one k, append-assoc (take k next) (b ∷ []) rest, e, ← moved-rest mask timer c i k bases (omega (arith, inv .long)))
-            (inv .all-are);
+            rw (front, add-one k, append-assoc (take k next) (b ∷ []) rest, e)
+            (rw (← moved-rest mask timer c i k bases inside) (inv .all-are));
       }
 
   pub moving-end : 4 ≤ k → next ≡ movedBases mask timer c i bases

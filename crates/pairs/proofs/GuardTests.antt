@@ -2,19 +2,18 @@
 -- the edge table.
 use mathlib.Core.Path.{_≡_, refl, sym, _∙_, ap}
 use mathlib.Core.Bool.{Bool, true, false, _&&_, _||_, not}
-use mathlib.Core.List.{List, [], _∷_}
-use Prim.Native.Nat.{ℕ, zero, suc, _+_, _-_, _*_, _≤_, _<_}
+use mathlib.Core.List.{List, []}
+use Prim.Native.Nat.{ℕ, _+_, _-_, _*_, _≤_, _<_}
 use native.Mathlib.Omega.{arith}
 use native.Mathlib.Nat.{add-assoc}
 use native.Mathlib.Numerals.{add-one}
 use lib.Dec.{eqb, ltb, leb}
-use lib.ListN.{length, getD, drop, List·getD-eq-default}
+use lib.ListN.{length, getD, drop}
 use lib.Seq.{getD-drop, drop-cons, drop-length}
 use borrow.Author.Tests.{lt-ltb, le-ltb, le-leb, eq-eqb, ne-eqb, not-true, not-false}
-use Rattle.model.specs.Basics.{pick}
-use Rattle.model.specs.Rules.{Atom, Edge}
+use Rattle.model.specs.Rules.{Edge}
 use Rattle.model.specs.Runs.{related}
-use Rattle.model.specs.Construction.{topInterval, regionOf, regionRelated, regionsHold}
+use Rattle.model.specs.Construction.{regionOf, regionRelated, regionsHold}
 use Rattle.model.specs.Layout.{edgeFields, edgeWidth, atomsIn, edgeIn, edgesIn}
 use Rattle.model.proofs.EdgeTable.{atoms-rest, edges-rest}
 use Rattle.pairs.specs.declared.Pair.{Pair}
@@ -64,7 +63,8 @@ atom-place :
     (c i : ℕ) (bases t : List ℕ) (at k : ℕ)
     → atomAt c i bases t (at + 5 + k) ≡ atomAt c i bases (drop edgeFields (drop at t)) k
 atom-place c i bases t at k =
-    let e : (n : ℕ) → getD (drop edgeFields (drop at t)) n 0 ≡ getD t (at + 5 + n) 0 = λ n. getD-drop edgeFields (drop at t) n 0 ∙ (getD-drop at t (5 + n) 0 ∙ rw (← add-assoc at 5 n)) in
+    let e : (n : ℕ) → getD (drop edgeFields (drop at t)) n 0 ≡ getD t (at + 5 + n) 0 =
+    λ n. getD-drop edgeFields (drop at t) n 0 ∙ (getD-drop at t (5 + n) 0 ∙ rw (← add-assoc at 5 n)) in
     rw (e k, e (k + 1), e (k + 2), ← add-assoc (at + 5) k 1, ← add-assoc (at + 5) k 2)
 
 -- The guard of the edge at a place, with the atoms still to come, is its whole guard.
@@ -159,7 +159,8 @@ module _ (c : ℕ) (at : Input) (p : Pair) (t : List ℕ) (e n : ℕ) (is-e : n 
   same-edge source symbol read r s l y d h g =
       let k : getD (drop (29 * e) t) 0 0 ≡ p .location = first-field t (29 * e) ∙ (rw (← is-e) (sym s ∙ l)) in
       let m : getD (drop (29 * e) t) 2 0 ≡ at .symbol = sym (rw is-e (field-at t (29 * e) 2)) ∙ (sym y ∙ (h ∙ d)) in
-      rw (eq-eqb (getD (drop (29 * e) t) 0 0) (p .location) k, eq-eqb (getD (drop (29 * e) t) 2 0) (at .symbol) m) (rw is-e at g)
+      rw (eq-eqb (getD (drop (29 * e) t) 0 0) (p .location) k, eq-eqb (getD (drop (29 * e) t) 2 0) (at .symbol) m)
+      (rw is-e at g)
 
 -- the target of a pair, from what was read of the edge
 pub target-is :

@@ -1,7 +1,7 @@
 -- Pairs, their codes and where edges lead from them, by the numbers that the code holds: the clocks, cm and the weight
 -- of a location. For the numbers of a rule they are the construction's own (proofs/Agreement.antt).
 use mathlib.Core.Path.{_≡_}
-use mathlib.Core.Bool.{Bool, true, false, _&&_, _||_}
+use mathlib.Core.Bool.{Bool, false, _&&_, _||_}
 use mathlib.Core.List.{List, [], _∷_}
 use Prim.Native.Nat.{ℕ, suc, _+_, _*_, _/_, _^_, _≤_}
 use lib.Dec.{eqb, ltb, leb}
@@ -9,7 +9,7 @@ use lib.ListN.{take}
 use Rattle.model.specs.Basics.{pick, quotient, remainder, bit}
 use Rattle.model.specs.Rules.{Edge, Rule, cm, baseCount}
 use Rattle.model.specs.Runs.{zeroed}
-use Rattle.model.specs.Construction.{regionOf, regionsHold, digitsCode, digitsOf, advanced}
+use Rattle.model.specs.Construction.{regionsHold, digitsCode, digitsOf, advanced}
 use Rattle.pairs.specs.declared.Scale.{Scale}
 use Rattle.pairs.specs.declared.Pair.{Pair}
 use Rattle.pairs.specs.declared.Input.{Input}

@@ -54,7 +54,11 @@ pub fn meets(relation: usize, value: usize, limit: usize) -> bool
 // Does the atom at a place of the edge table hold?
 pub(crate) fn atom_holds(edges: &[u16], at: usize, top: u8, interval: u32, bases: [u16; 4]) -> bool
     requires { ⌜ at < 2 ^ 40 ⌝ }
-    ensures { λ r. ⌜ r ≡ regionRelated (getD (now (edges .entry)) (at + 1) 0) (regionOf top (getD bases (getD (now (edges .entry)) at 0) 0) interval) (getD (now (edges .entry)) (at + 2) 0) ⌝ }
+    ensures { λ r.
+        ⌜ r
+        ≡ regionRelated (getD (now (edges .entry)) (at + 1) 0)
+        (regionOf top (getD bases (getD (now (edges .entry)) at 0) 0) interval)
+        (getD (now (edges .entry)) (at + 2) 0) ⌝ }
 {
     let base = base_of(bases, number_at(edges, at));
     let place = region(wide8(top), base, wide32(interval));

@@ -1,37 +1,27 @@
 -- `construct::cells::cell_of` meets its contract.
-use Rattle.construct.proofs.CellLaws.{cell-reset, cell-kept}
 use borrow.Author.Needs.{needs}
+use Rattle.construct.proofs.CellLaws.{cell-reset, cell-kept}
 use Rattle.construct.proofs.cells.cell_of.Statement.{statement}
 use Rattle.construct.proofs.cells.cell_of.Tie as tie
-use Rattle.construct.proofs.cells.cell_of.Reads as reads
-use Rattle.construct.proofs.cells.cell_of.Lts as lts
-use Rattle.construct.proofs.lent.narrow32.Reads as narrow32-reads
 
--- src/cells.rt:25:25
 mul-narrow32 : tie.Need-mul-narrow32
 mul-narrow32 c = search needs
 
--- src/cells.rt:25:25
 add-narrow32 : tie.Need-add-narrow32
 add-narrow32 c = search needs
 
--- src/cells.rt:25:9
 narrow32-requires : tie.Need-narrow32-requires
 narrow32-requires c κs = search needs
 
--- src/cells.rt:25:9
 returns : tie.Need-returns
 returns c = cell-reset _ _ _ (c .before .if1 .taken) (c .narrow32 .ensures)
 
--- src/cells.rt:27:14
 mul-narrow32-2 : tie.Need-mul-narrow32-2
 mul-narrow32-2 c = search needs
 
--- src/cells.rt:27:5
 narrow32-requires-2 : tie.Need-narrow32-requires-2
 narrow32-requires-2 c κs = search needs
 
--- src/cells.rt:20:1
 returns-2 : tie.Need-returns-2
 returns-2 c = cell-kept _ _ _ (c .before .if1 .left) (c .narrow322 .ensures)
 

@@ -1,95 +1,94 @@
--- `construct::cells::fill_rows` meets its contract: the cells of the rows so far stand from place 0 on, and discovery from
--- here gives the rows of the rule.
-use Rattle.construct.proofs.AllFilling.{FillingAll, all-start, all-can, all-refused, all-next, all-end}
+-- `construct::cells::fill_rows` meets its contract: the cells of the rows so far stand from place 0 on, and discovery
+-- from here gives the rows of the rule.
+use mathlib.Core.Path.{_≡_, refl, _∙_}
+use Prim.Native.Nat.{suc, _-_}
+use native.Mathlib.Omega.{arith}
+use lib.ListN.{length}
+use borrow.Author.Needs.{needs}
 use Rattle.model.specs.Layout.{ruleIn}
 use Rattle.model.specs.Construction.{mostRows, rowsOf}
-use lib.ListN.{length, length-set, length-replicate}
-use native.Mathlib.Omega.{arith}
-use Prim.Native.Nat.{ℕ, suc, _+_, _-_, _*_, _≤_, _<_}
-use mathlib.Core.Path.{_≡_, refl, sym, _∙_, ap}
-use borrow.Author.Needs.{needs}
+use Rattle.construct.proofs.AllFilling.{FillingAll, all-start, all-can, all-refused, all-next, all-end}
 use Rattle.construct.proofs.cells.fill_rows.Statement.{statement}
 use Rattle.construct.proofs.cells.fill_rows.Tie as tie
-use Rattle.construct.proofs.cells.fill_rows.Reads as reads
-use Rattle.construct.proofs.cells.fill_rows.Lts as lts
-use Rattle.construct.proofs.cells.fill_row.Reads as fill-row-reads
 
 abbrev Inv-loop : tie.InvT-loop
 Inv-loop head edges scale marks₀ cells₀ rows₀ pool₀ progress₀ row₀ marks cells rows pool progress row =
     (length marks ≡ length marks₀) × (length rows ≡ length rows₀) × (length pool ≡ length pool₀)
-    × FillingAll (ruleIn head edges) (suc mostRows) (rowsOf (ruleIn head edges)) (progress₀ .room) marks₀ cells₀ row marks cells
+    × FillingAll (ruleIn head edges) (suc mostRows) (rowsOf (ruleIn head edges)) (progress₀ .room) marks₀ cells₀ row
+    marks cells
     rows pool progress
 
 abbrev μ-loop : tie.MeasureT-loop
 μ-loop head edges scale marks₀ cells₀ rows₀ pool₀ progress₀ row₀ marks cells rows pool progress row =
     mostRows - row
 
--- src/cells.rt:98:5
 loop-holds : tie.Need-loop-holds Inv-loop μ-loop
 loop-holds c = (refl, refl, refl, all-start _ _ _ _ _ _ _ (c .before .before .before .before .before .pre))
 
--- src/cells.rt:99:9
 fill-row-requires : tie.Need-fill-row-requires Inv-loop μ-loop
-fill-row-requires c κs = all-can (omega arith) (c .before .before .before .before .before .before .loop .inv .3) (c .before .before .before .before .before .before .before .before .before .before .before .before .pre .ready) (c .before .before .before .before .before .before .before .before .before .before .before .before .pre .cells-fit) (c .before .before .before .before .if1 .taken)
+fill-row-requires c κs =
+    let at-if1 = c .before .before .before .before in
+    let at-loop = at-if1 .before .before in
+    let start = at-loop .before .before .before .before .before .before in
+    all-can (omega arith) (at-loop .loop .inv .3) (start .pre .ready) (start .pre .cells-fit) (at-if1 .if1 .taken)
 
--- src/cells.rt:101:13
 same-length : tie.Need-same-length Inv-loop μ-loop
 same-length c = search needs
 
--- src/cells.rt:101:13
 same-length-2 : tie.Need-same-length-2 Inv-loop μ-loop
 same-length-2 c = search needs
 
--- src/cells.rt:101:13
 same-length-3 : tie.Need-same-length-3 Inv-loop μ-loop
 same-length-3 c = search needs
 
--- src/cells.rt:101:13
 same-length-4 : tie.Need-same-length-4 Inv-loop μ-loop
 same-length-4 c = search needs
 
--- src/cells.rt:101:13
 returns : tie.Need-returns Inv-loop μ-loop
-returns c = all-refused (omega arith) (c .before .before .before .before .before .before .before .before .before .before .before .before .before .before .before .before .before .loop .inv .3) (c .before .before .before .before .before .before .before .before .before .before .before .before .before .before .before .if1 .taken) (c .before .before .before .before .before .before .before .before .before .before .fill-row .ensures) (c .if2 .taken) refl
+returns c =
+    let after-fill-row = c .before .before .before .before .before .before .before .before .before .before in
+    let at-if1 = after-fill-row .before .before .before .before .before in
+    let at-loop = at-if1 .before .before in
+    all-refused (omega arith) (at-loop .loop .inv .3) (at-if1 .if1 .taken) (after-fill-row .fill-row .ensures)
+    (c .if2 .taken) refl
 
--- src/cells.rt:103:9
 add-row : tie.Need-add-row Inv-loop μ-loop
 add-row c = search needs
 
--- src/cells.rt:98:5
 loop-less : tie.Need-loop-less Inv-loop μ-loop
 loop-less c =
-    omega (arith, c .before .before .before .before .before .before .before .before .before .before .before .before .before .before .before .if1 .taken, c .before .before .before .before .before .before .before .before .before .before .before .before .before .before .before .before .before .loop .inv .3 .held .in-room, c .before .before .before .before .before .before .before .before .before .before .before .before .before .before .before .before .before .loop .inv .3 .held .room-most)
+    let at-if1 = c .before .before .before .before .before .before .before .before .before .before .before .before
+    .before .before .before in
+    let at-loop = at-if1 .before .before in
+    omega (arith, at-if1 .if1 .taken, at-loop .loop .inv .3 .held .in-room, at-loop .loop .inv .3 .held .room-most)
 
--- src/cells.rt:98:5
 loop-again : tie.Need-loop-again Inv-loop μ-loop
 loop-again c =
-    let l = c .before .before .before .before .before .before .before .before .before .before .before .before .before .before .before .before .before .loop in (
-      c .before .before .before .before .before .before .before .before .before .before .fill-row .kept .1 .1 .1 .1 .0 ∙ l .inv .0,
-      c .before .before .before .before .before .before .before .before .before .before .fill-row .kept .1 .1 .1 .1 .1 .1 .0 ∙ l .inv .1,
-      c .before .before .before .before .before .before .before .before .before .before .fill-row .kept .1 .1 .1 .1 .1 .1 .1 .0 ∙ l .inv .2,
-      all-next (omega arith) (l .inv .3) (c .before .before .before .before .before .before .before .before .before .before .before .before .before .before .before .if1 .taken) (c .before .before .before .before .before .before .before .before .before .before .fill-row .ensures) (c .if2 .left)
-          (c .before .before .before .before .before .before .before .before .before .before .fill-row .kept .1 .1 .1 .1 .1 .0)
-          (c .before .before .before .before .before .before .before .before .before .before .before .before .before .before .before .before .before .before .before .before .before .before .before .pre .cells-fit),
+    let after-fill-row = c .before .before .before .before .before .before .before .before .before .before in
+    let at-if1 = after-fill-row .before .before .before .before .before in
+    let at-loop = at-if1 .before .before in
+    let start = at-loop .before .before .before .before .before .before in
+    let l = at-loop .loop in (
+      after-fill-row .fill-row .kept .1 .1 .1 .1 .0 ∙ l .inv .0,
+      after-fill-row .fill-row .kept .1 .1 .1 .1 .1 .1 .0 ∙ l .inv .1,
+      after-fill-row .fill-row .kept .1 .1 .1 .1 .1 .1 .1 .0 ∙ l .inv .2,
+      all-next (omega arith) (l .inv .3) (at-if1 .if1 .taken) (after-fill-row .fill-row .ensures) (c .if2 .left)
+          (after-fill-row .fill-row .kept .1 .1 .1 .1 .1 .0)
+          (start .pre .cells-fit),
     )
 
--- src/cells.rt:92:1
 same-length-5 : tie.Need-same-length-5 Inv-loop μ-loop
 same-length-5 c = search needs
 
--- src/cells.rt:92:1
 same-length-6 : tie.Need-same-length-6 Inv-loop μ-loop
 same-length-6 c = search needs
 
--- src/cells.rt:92:1
 same-length-7 : tie.Need-same-length-7 Inv-loop μ-loop
 same-length-7 c = search needs
 
--- src/cells.rt:92:1
 same-length-8 : tie.Need-same-length-8 Inv-loop μ-loop
 same-length-8 c = search needs
 
--- src/cells.rt:92:1
 returns-2 : tie.Need-returns-2 Inv-loop μ-loop
 returns-2 c = all-end (omega arith) (c .before .before .loop .inv .3) (c .if1 .left) refl
 

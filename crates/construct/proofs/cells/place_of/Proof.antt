@@ -1,32 +1,37 @@
 -- `construct::cells::place_of` meets its contract: the products fit.
-use Rattle.construct.proofs.SymbolFilling.{place-most}
 use native.Mathlib.Omega.{arith}
-use Prim.Native.Nat.{_+_, _*_, _^_, _≤_}
 use borrow.Author.Needs.{needs}
+use Rattle.construct.proofs.SymbolFilling.{place-most}
 use Rattle.construct.proofs.cells.place_of.Statement.{statement}
 use Rattle.construct.proofs.cells.place_of.Tie as tie
-use Rattle.construct.proofs.cells.place_of.Reads as reads
-use Rattle.construct.proofs.cells.place_of.Lts as lts
 
--- src/cells.rt:48:6
 mul-result : tie.Need-mul-result
 mul-result c =
     let a = c .args in
-    omega (arith, place-most (a .row) (a .symbols) (a .symbol) (a .width) (c .pre .0) (c .pre .1) (c .pre .2) (c .pre .3) .0)
+    omega (
+      arith,
+      place-most (a .row) (a .symbols) (a .symbol) (a .width) (c .pre .0) (c .pre .1) (c .pre .2)
+          (c .pre .3) .0,
+    )
 
--- src/cells.rt:48:6
 add-result : tie.Need-add-result
 add-result c =
     let a = c .args in
-    omega (arith, place-most (a .row) (a .symbols) (a .symbol) (a .width) (c .pre .0) (c .pre .1) (c .pre .2) (c .pre .3) .0)
+    omega (
+      arith,
+      place-most (a .row) (a .symbols) (a .symbol) (a .width) (c .pre .0) (c .pre .1) (c .pre .2)
+          (c .pre .3) .0,
+    )
 
--- src/cells.rt:48:5
 mul-result-2 : tie.Need-mul-result-2
 mul-result-2 c =
     let a = c .args in
-    omega (arith, place-most (a .row) (a .symbols) (a .symbol) (a .width) (c .pre .0) (c .pre .1) (c .pre .2) (c .pre .3) .1)
+    omega (
+      arith,
+      place-most (a .row) (a .symbols) (a .symbol) (a .width) (c .pre .0) (c .pre .1) (c .pre .2)
+          (c .pre .3) .1,
+    )
 
--- src/cells.rt:44:1
 returns : tie.Need-returns
 returns c = search needs
 

@@ -1,17 +1,15 @@
 -- `construct::lent::clear` meets its contract: zero up to the place reached, as it was from there on.
-use Rattle.model.specs.Basics.{zeros}
-use borrow.Author.Fill.{fill-more}
-use lib.Seq.{drop-length}
-use lib.ListN.{length, drop}
-use native.Mathlib.Omega.{arith}
-use Prim.Native.Nat.{_≤_, _-_}
 use mathlib.Core.List.{_++_, append-nil}
 use mathlib.Core.Path.{_≡_, _∙_}
+use Prim.Native.Nat.{_≤_, _-_}
+use native.Mathlib.Omega.{arith}
+use lib.Seq.{drop-length}
+use lib.ListN.{length, drop}
+use borrow.Author.Fill.{fill-more}
 use borrow.Author.Needs.{needs}
+use Rattle.model.specs.Basics.{zeros}
 use Rattle.construct.proofs.lent.clear.Statement.{statement}
 use Rattle.construct.proofs.lent.clear.Tie as tie
-use Rattle.construct.proofs.lent.clear.Reads as reads
-use Rattle.construct.proofs.lent.clear.Lts as lts
 
 abbrev Inv-loop : tie.InvT-loop
 Inv-loop table₀ i₀ table i = (i ≤ length table₀) × (length table ≡ length table₀) × (table ≡ zeros i ++ drop i table₀)
@@ -19,27 +17,21 @@ Inv-loop table₀ i₀ table i = (i ≤ length table₀) × (length table ≡ le
 abbrev μ-loop : tie.MeasureT-loop
 μ-loop table₀ i₀ table i = length table₀ - i
 
--- src/lent.rt:28:5
 loop-holds : tie.Need-loop-holds Inv-loop μ-loop
 loop-holds c = search needs
 
--- src/lent.rt:29:9
 mul-table : tie.Need-mul-table Inv-loop μ-loop
 mul-table c = search needs
 
--- src/lent.rt:29:9
 slice-write-table : tie.Need-slice-write-table Inv-loop μ-loop
 slice-write-table c = search needs
 
--- src/lent.rt:30:9
 add-i : tie.Need-add-i Inv-loop μ-loop
 add-i c = search needs
 
--- src/lent.rt:28:5
 loop-less : tie.Need-loop-less Inv-loop μ-loop
 loop-less c = search needs
 
--- src/lent.rt:28:5
 loop-again : tie.Need-loop-again Inv-loop μ-loop
 loop-again c =
     let l = c .before .loop in (
@@ -48,11 +40,9 @@ loop-again c =
       rw (l .inv .2) (fill-more (l .i) 0 (c .before .before .args .table .now) (search needs)),
     )
 
--- src/lent.rt:24:1
 same-length : tie.Need-same-length Inv-loop μ-loop
 same-length c = search needs
 
--- src/lent.rt:24:1
 returns : tie.Need-returns Inv-loop μ-loop
 returns c =
     let l = c .before .loop in

@@ -1,16 +1,14 @@
 -- `construct::rows::copy_codes` meets its contract: the first j codes stand in the pool.
-use lib.Seq.{paste, paste-zero, paste-suc, take-length}
-use lib.ListN.{length, take, drop}
-use native.Mathlib.Numerals.{add-one}
-use native.Mathlib.Omega.{arith}
-use Prim.Native.Nat.{_+_, _-_, _≤_}
 use mathlib.Core.List.{append-assoc}
 use mathlib.Core.Path.{_≡_, refl, _∙_}
+use Prim.Native.Nat.{_+_, _-_, _≤_}
+use native.Mathlib.Numerals.{add-one}
+use native.Mathlib.Omega.{arith}
+use lib.Seq.{paste, paste-zero, paste-suc, take-length}
+use lib.ListN.{length, take, drop}
 use borrow.Author.Needs.{needs}
 use Rattle.construct.proofs.rows.copy_codes.Statement.{statement}
 use Rattle.construct.proofs.rows.copy_codes.Tie as tie
-use Rattle.construct.proofs.rows.copy_codes.Reads as reads
-use Rattle.construct.proofs.rows.copy_codes.Lts as lts
 
 abbrev Inv-loop : tie.InvT-loop
 Inv-loop codes pool₀ at j₀ pool j = (j ≤ length codes) × (length pool ≡ length pool₀) × (pool ≡ paste pool₀ at codes j)
@@ -18,39 +16,30 @@ Inv-loop codes pool₀ at j₀ pool j = (j ≤ length codes) × (length pool ≡
 abbrev μ-loop : tie.MeasureT-loop
 μ-loop codes pool₀ at j₀ pool j = length codes - j
 
--- src/rows.rt:49:5
 loop-holds : tie.Need-loop-holds Inv-loop μ-loop
 loop-holds c = (search needs, refl, paste-zero (c .args .pool .now) (c .args .at) (c .args .codes .now))
 
--- src/rows.rt:50:24
 mul-pool : tie.Need-mul-pool Inv-loop μ-loop
 mul-pool c = search needs
 
--- src/rows.rt:50:24
 shared-slice-read-pool : tie.Need-shared-slice-read-pool Inv-loop μ-loop
 shared-slice-read-pool c = search needs
 
--- src/rows.rt:50:14
 add-pool : tie.Need-add-pool Inv-loop μ-loop
 add-pool c = search needs
 
--- src/rows.rt:50:9
 mul-pool-2 : tie.Need-mul-pool-2 Inv-loop μ-loop
 mul-pool-2 c = search needs
 
--- src/rows.rt:50:9
 slice-write-pool : tie.Need-slice-write-pool Inv-loop μ-loop
 slice-write-pool c = search needs
 
--- src/rows.rt:51:9
 add-j : tie.Need-add-j Inv-loop μ-loop
 add-j c = search needs
 
--- src/rows.rt:49:5
 loop-less : tie.Need-loop-less Inv-loop μ-loop
 loop-less c = search needs
 
--- src/rows.rt:49:5
 loop-again : tie.Need-loop-again Inv-loop μ-loop
 loop-again c =
     let l = c .before .before .loop in
@@ -60,11 +49,9 @@ loop-again c =
       rw (l .inv .2, add-one) (paste-suc (a .pool .now) (a .at) (a .codes .now) (l .j) 0 (search needs) (search needs)),
     )
 
--- src/rows.rt:44:1
 same-length : tie.Need-same-length Inv-loop μ-loop
 same-length c = search needs
 
--- src/rows.rt:44:1
 returns : tie.Need-returns Inv-loop μ-loop
 returns c =
     let a = c .before .before .args in

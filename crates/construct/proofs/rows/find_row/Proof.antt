@@ -1,21 +1,19 @@
 -- `construct::rows::find_row` meets its contract: no row passed is equal, and no code passed in a row differs.
+use mathlib.Core.Logic.{⊎-elim}
+use mathlib.Core.Path.{_≡_}
+use Prim.Native.Nat.{ℕ, _+_, _-_, _≤_, _<_}
+use native.Mathlib.Omega.{arith}
+use lib.ListN.{length, getD}
+use borrow.Author.Count.{below-more}
+use borrow.Author.Needs.{needs, scaled-fits}
 use Rattle.construct.proofs.RowSearch.{Searching, searching, search-next, search-found, search-ends, row-fits, row-is, row-differs, row-longer}
 use Rattle.construct.specs.Rows.{rowIn}
-use borrow.Author.Count.{below-more}
-use lib.ListN.{length, getD}
-use native.Mathlib.Omega.{arith}
-use Prim.Native.Nat.{ℕ, _+_, _-_, _≤_, _<_}
-use mathlib.Core.Logic.{⊎-elim}
-use mathlib.Core.Path.{_≡_, refl, sym, _∙_, ap}
-use borrow.Author.Needs.{needs, scaled-fits}
 use Rattle.construct.proofs.rows.find_row.Statement.{statement}
 use Rattle.construct.proofs.rows.find_row.Tie as tie
-use Rattle.construct.proofs.rows.find_row.Reads as reads
-use Rattle.construct.proofs.rows.find_row.Lts as lts
-use Rattle.edges.proofs.wide32.Reads as wide32-reads
 
 abbrev Inv-codes : tie.InvT-codes
-Inv-codes rows pool count codes row start size j₀ j = (j ≤ size) × ((k : ℕ) → k < j → getD pool (start + k) 0 ≡ getD codes k 0)
+Inv-codes rows pool count codes row start size j₀ j = (j ≤ size) ×
+    ((k : ℕ) → k < j → getD pool (start + k) 0 ≡ getD codes k 0)
 
 abbrev μ-codes : tie.MeasureT-codes
 μ-codes rows pool count codes row start size j₀ j = size - j
@@ -44,89 +42,69 @@ fits w =
     row-fits (Entry w .args .codes .now) _ _ (Entry w .pre) (more w) (w .before .before .wide32 .ensures .0)
     (w .wide322 .ensures .0)
 
--- src/rows.rt:21:5
 loop-holds : tie.Need-loop-holds Inv-codes μ-codes Inv-loop μ-loop
 loop-holds c = searching _ _ _ _
 
--- src/rows.rt:25:33
 mul-wide32 : tie.Need-mul-wide32 Inv-codes μ-codes Inv-loop μ-loop
 mul-wide32 c = search needs
 
--- src/rows.rt:25:28
 mul-wide32-2 : tie.Need-mul-wide32-2 Inv-codes μ-codes Inv-loop μ-loop
 mul-wide32-2 c = search needs
 
--- src/rows.rt:25:28
 shared-slice-read-wide32 : tie.Need-shared-slice-read-wide32 Inv-codes μ-codes Inv-loop μ-loop
 shared-slice-read-wide32 c = search needs
 
--- src/rows.rt:25:13
 wide32-requires : tie.Need-wide32-requires Inv-codes μ-codes Inv-loop μ-loop
 wide32-requires c κs = search needs
 
--- src/rows.rt:26:32
 mul-wide32-3 : tie.Need-mul-wide32-3 Inv-codes μ-codes Inv-loop μ-loop
 mul-wide32-3 c = search needs
 
--- src/rows.rt:26:32
 add-wide32 : tie.Need-add-wide32 Inv-codes μ-codes Inv-loop μ-loop
 add-wide32 c = search needs
 
--- src/rows.rt:26:27
 mul-wide32-4 : tie.Need-mul-wide32-4 Inv-codes μ-codes Inv-loop μ-loop
 mul-wide32-4 c = search needs
 
--- src/rows.rt:26:27
 shared-slice-read-wide32-2 : tie.Need-shared-slice-read-wide32-2 Inv-codes μ-codes Inv-loop μ-loop
 shared-slice-read-wide32-2 c = search needs
 
--- src/rows.rt:26:13
 wide32-requires-2 : tie.Need-wide32-requires-2 Inv-codes μ-codes Inv-loop μ-loop
 wide32-requires-2 c κs = search needs
 
--- src/rows.rt:29:13
 codes-holds : tie.Need-codes-holds Inv-codes μ-codes Inv-loop μ-loop
 codes-holds c = search needs
 
--- src/rows.rt:30:25
 add-if3 : tie.Need-add-if3 Inv-codes μ-codes Inv-loop μ-loop
 add-if3 c = omega (arith, fits (c .before .before .before))
 
--- src/rows.rt:30:20
 mul-if3 : tie.Need-mul-if3 Inv-codes μ-codes Inv-loop μ-loop
 mul-if3 c =
-    scaled-fits _ (length (Entry (c .before .before .before) .args .pool .now)) 4 (omega (arith, fits (c .before .before .before)))
+    let after-place = c .before .before .before in
+    scaled-fits _ (length (Entry after-place .args .pool .now)) 4 (omega (arith, fits after-place))
     (search needs)
 
--- src/rows.rt:30:20
 shared-slice-read-if3 : tie.Need-shared-slice-read-if3 Inv-codes μ-codes Inv-loop μ-loop
 shared-slice-read-if3 c = omega (arith, fits (c .before .before .before .before))
 
--- src/rows.rt:30:39
 mul-if3-2 : tie.Need-mul-if3-2 Inv-codes μ-codes Inv-loop μ-loop
 mul-if3-2 c = search needs
 
--- src/rows.rt:30:39
 shared-slice-read-if3-2 : tie.Need-shared-slice-read-if3-2 Inv-codes μ-codes Inv-loop μ-loop
 shared-slice-read-if3-2 c = search needs
 
--- src/rows.rt:33:17
 add-j : tie.Need-add-j Inv-codes μ-codes Inv-loop μ-loop
 add-j c = search needs
 
--- src/rows.rt:29:13
 codes-less : tie.Need-codes-less Inv-codes μ-codes Inv-loop μ-loop
 codes-less c = search needs
 
--- src/rows.rt:29:13
 codes-again : tie.Need-codes-again Inv-codes μ-codes Inv-loop μ-loop
 codes-again c = (search needs, below-more _ _ (c .before .before .before .before .codes .inv .1) (c .if3 .left))
 
--- src/rows.rt:39:9
 add-row : tie.Need-add-row Inv-codes μ-codes Inv-loop μ-loop
 add-row c = search needs
 
--- src/rows.rt:21:5
 loop-less : tie.Need-loop-less Inv-codes μ-codes Inv-loop μ-loop
 loop-less c = search needs
 
@@ -150,25 +128,25 @@ other c e =
     (w .wide322 .ensures .0) (v .left) e)
     (c .if2 .came)
 
--- src/rows.rt:21:5
 loop-again : tie.Need-loop-again Inv-codes μ-codes Inv-loop μ-loop
 loop-again c =
     let w = c .before in
     search-next (w .before .before .before .before .before .loop .inv) (more w) (other c)
 
--- src/rows.rt:16:1
 returns : tie.Need-returns Inv-codes μ-codes Inv-loop μ-loop
 returns c = search-ends (c .before .loop .inv) (c .if1 .taken)
 
--- src/rows.rt:16:1
 returns-2 : tie.Need-returns-2 Inv-codes μ-codes Inv-loop μ-loop
 returns-2 c =
-    let w = c .before .before .before .before in
-    let e : c .before .before .codes .j ≡ w .wide322 .result = c .if4 .taken in
+    let at-codes = c .before .before in
+    let at-if2 = at-codes .before in
+    let w = at-if2 .before in
+    let e : at-codes .codes .j ≡ w .wide322 .result = c .if4 .taken in
     search-found (w .before .before .before .before .before .loop .inv) (more w)
-    (row-is (Entry w .args .codes .now) _ _ (Entry w .pre) (more w) (w .before .before .wide32 .ensures .0) (w .wide322 .ensures .0)
-    (c .before .before .before .if2 .taken)
-    (rw e at (c .before .before .codes .inv .1)))
+    (row-is (Entry w .args .codes .now) _ _ (Entry w .pre) (more w) (w .before .before .wide32 .ensures .0)
+    (w .wide322 .ensures .0)
+    (at-if2 .if2 .taken)
+    (rw e at (at-codes .codes .inv .1)))
 
 pub find-row-spec : {M : Type 1} → statement M
 find-row-spec =

@@ -1,89 +1,67 @@
 -- `pairs::codes::unpack` meets its contract: the digits taken off so far, with those to come, are those of the code.
-use Rattle.pairs.proofs.Bases.{Taking, taking-start, taking-next, taking-end, unpack-is}
-use mathlib.Core.Path.{_≡_, refl, sym, _∙_, ap}
+use mathlib.Core.Path.{refl}
+use Prim.Native.Nat.{_≤_, _<_, _-_}
 use native.Mathlib.Nat.{mod-lt}
 use native.Mathlib.Omega.{arith}
-use Prim.Native.Nat.{_≤_, _<_, _-_}
 use borrow.Author.Needs.{needs}
+use Rattle.pairs.proofs.Bases.{Taking, taking-start, taking-next, taking-end, unpack-is}
 use Rattle.pairs.proofs.codes.unpack.Statement.{statement}
 use Rattle.pairs.proofs.codes.unpack.Tie as tie
-use Rattle.pairs.proofs.codes.unpack.Reads as reads
-use Rattle.pairs.proofs.codes.unpack.Lts as lts
-use Rattle.edges.proofs.wide32.Reads as wide32-reads
-use Rattle.pairs.proofs.numbers.narrow16.Reads as narrow16-reads
-use Rattle.pairs.proofs.numbers.quotient.Reads as quotient-reads
-use Rattle.pairs.proofs.numbers.remainder.Reads as remainder-reads
-use Rattle.pairs.proofs.numbers.wide8.Reads as wide8-reads
 
 abbrev Inv-loop : tie.InvT-loop
-Inv-loop code weight radix whole location rest₀ bases₀ k₀ rest bases k = (0 < radix) × (radix ≤ 257) × Taking radix rest₀ k rest bases
+Inv-loop code weight radix whole location rest₀ bases₀ k₀ rest bases k = (0 < radix) × (radix ≤ 257) × Taking radix
+    rest₀ k rest bases
 
 abbrev μ-loop : tie.MeasureT-loop
 μ-loop code weight radix whole location rest₀ bases₀ k₀ rest bases k = 4 - k
 
--- src/codes.rt:13:9
 wide32-requires : tie.Need-wide32-requires Inv-loop μ-loop
 wide32-requires c κs = search needs
 
--- src/codes.rt:14:17
 wide8-requires : tie.Need-wide8-requires Inv-loop μ-loop
 wide8-requires c κs = search needs
 
--- src/codes.rt:14:17
 add-radix : tie.Need-add-radix Inv-loop μ-loop
 add-radix c = search needs
 
--- src/codes.rt:15:9
 wide32-requires-2 : tie.Need-wide32-requires-2 Inv-loop μ-loop
 wide32-requires-2 c κs = search needs
 
--- src/codes.rt:16:9
 quotient-requires : tie.Need-quotient-requires Inv-loop μ-loop
 quotient-requires c κs = search needs
 
--- src/codes.rt:17:9
 remainder-requires : tie.Need-remainder-requires Inv-loop μ-loop
 remainder-requires c κs = search needs
 
--- src/codes.rt:20:5
 loop-holds : tie.Need-loop-holds Inv-loop μ-loop
 loop-holds c = (search needs, search needs, taking-start _ _ _ refl)
 
--- src/codes.rt:21:29
 rem-narrow16 : tie.Need-rem-narrow16 Inv-loop μ-loop
 rem-narrow16 c = search needs
 
--- src/codes.rt:21:20
 narrow16-requires : tie.Need-narrow16-requires Inv-loop μ-loop
 narrow16-requires c κs = omega (arith, mod-lt (c .before .loop .rest) (c .before .loop .inv .0))
 
--- src/codes.rt:21:9
 mul-bases : tie.Need-mul-bases Inv-loop μ-loop
 mul-bases c = search needs
 
--- src/codes.rt:21:9
 array-write-bases : tie.Need-array-write-bases Inv-loop μ-loop
 array-write-bases c = search needs
 
--- src/codes.rt:22:16
 div-rest : tie.Need-div-rest Inv-loop μ-loop
 div-rest c = search needs
 
--- src/codes.rt:23:9
 add-k : tie.Need-add-k Inv-loop μ-loop
 add-k c = search needs
 
--- src/codes.rt:20:5
 loop-less : tie.Need-loop-less Inv-loop μ-loop
 loop-less c = search needs
 
--- src/codes.rt:20:5
 loop-again : tie.Need-loop-again Inv-loop μ-loop
 loop-again c =
     let l = c .before .before .loop in
     (search needs, search needs, taking-next (l .inv .2) _ (l .inv .0) (search needs) (c .narrow16 .ensures))
 
--- src/codes.rt:10:1
 returns : tie.Need-returns Inv-loop μ-loop
 returns c =
     let r = c .before .before in

@@ -1,34 +1,25 @@
 -- `pairs::guards::base_of` meets its contract: past the array the definitions read 0.
-use native.Mathlib.Omega.{arith}
+use mathlib.Core.Path.{sym}
 use Prim.Native.Nat.{_≤_}
 use lib.ListN.{length, List·getD-eq-default}
-use mathlib.Core.Path.{sym}
 use borrow.Author.Needs.{needs}
 use Rattle.pairs.proofs.guards.base_of.Statement.{statement}
 use Rattle.pairs.proofs.guards.base_of.Tie as tie
-use Rattle.pairs.proofs.guards.base_of.Reads as reads
-use Rattle.pairs.proofs.guards.base_of.Lts as lts
-use Rattle.edges.proofs.wide16.Reads as wide16-reads
 
--- src/guards.rt:18:9
 returns : tie.Need-returns
 returns c =
     let h : length (c .before .args .t1) ≤ c .before .args .clock = search needs in
     (sym (List·getD-eq-default (c .before .args .t1) 0 h), search needs)
 
--- src/guards.rt:20:12
 mul-wide16 : tie.Need-mul-wide16
 mul-wide16 c = search needs
 
--- src/guards.rt:20:12
 array-read-wide16 : tie.Need-array-read-wide16
 array-read-wide16 c = search needs
 
--- src/guards.rt:20:5
 wide16-requires : tie.Need-wide16-requires
 wide16-requires c κs = search needs
 
--- src/guards.rt:14:1
 returns-2 : tie.Need-returns-2
 returns-2 c = search needs
 

@@ -1,18 +1,9 @@
 -- `pairs::guards::guard_holds` meets its contract: what the atoms still to come say is what all say, until one fails.
-use borrow.Author.Tests.{not-true, not-false}
-use mathlib.Core.Path.{_≡_, sym, _∙_}
-use Rattle.pairs.proofs.GuardTests.{Guarded, guarded-start, guarded-next, guarded-fails, guarded-end}
-use Rattle.model.specs.Layout.{edgeFields}
-use lib.ListN.{length, getD, drop}
-use native.Mathlib.Omega.{arith}
-use Prim.Native.Nat.{_≤_, _<_, _-_, _+_, _*_}
+use Prim.Native.Nat.{_<_, _-_}
 use borrow.Author.Needs.{needs}
+use Rattle.pairs.proofs.GuardTests.{Guarded, guarded-start, guarded-next, guarded-fails, guarded-end}
 use Rattle.pairs.proofs.guards.guard_holds.Statement.{statement}
 use Rattle.pairs.proofs.guards.guard_holds.Tie as tie
-use Rattle.pairs.proofs.guards.guard_holds.Reads as reads
-use Rattle.pairs.proofs.guards.guard_holds.Lts as lts
-use Rattle.edges.proofs.number_at.Reads as number-at-reads
-use Rattle.pairs.proofs.guards.atom_holds.Reads as atom-holds-reads
 
 abbrev Inv-loop : tie.InvT-loop
 Inv-loop edges at top interval bases count j₀ j = (count < 65536) × Guarded top interval count j bases edges at
@@ -20,52 +11,48 @@ Inv-loop edges at top interval bases count j₀ j = (count < 65536) × Guarded t
 abbrev μ-loop : tie.MeasureT-loop
 μ-loop edges at top interval bases count j₀ j = count - j
 
--- src/guards.rt:66:34
 add-number-at : tie.Need-add-number-at Inv-loop μ-loop
 add-number-at c = search needs
 
--- src/guards.rt:66:9
 number-at-requires : tie.Need-number-at-requires Inv-loop μ-loop
 number-at-requires c κs = search needs
 
--- src/guards.rt:68:5
 loop-holds : tie.Need-loop-holds Inv-loop μ-loop
 loop-holds c = (search needs, guarded-start _ _ _ _ _ _ (c .number-at .ensures .0))
 
--- src/guards.rt:69:31
 add-atom-holds : tie.Need-add-atom-holds Inv-loop μ-loop
 add-atom-holds c = search needs
 
--- src/guards.rt:69:40
 mul-atom-holds : tie.Need-mul-atom-holds Inv-loop μ-loop
 mul-atom-holds c = search needs
 
--- src/guards.rt:69:31
 add-atom-holds-2 : tie.Need-add-atom-holds-2 Inv-loop μ-loop
 add-atom-holds-2 c = search needs
 
--- src/guards.rt:69:13
 atom-holds-requires : tie.Need-atom-holds-requires Inv-loop μ-loop
 atom-holds-requires c κs = search needs
 
--- src/guards.rt:70:13
 returns : tie.Need-returns Inv-loop μ-loop
-returns c = guarded-fails (c .before .before .before .loop .inv .1) _ (c .before .before .loop-test .taken) (c .before .atom-holds .ensures) (c .if1 .taken)
+returns c =
+    let in-loop = c .before .before in
+    let at-loop = in-loop .before in
+    guarded-fails (at-loop .loop .inv .1) _ (in-loop .loop-test .taken) (c .before .atom-holds .ensures) (c .if1 .taken)
 
--- src/guards.rt:72:9
 add-j : tie.Need-add-j Inv-loop μ-loop
 add-j c = search needs
 
--- src/guards.rt:68:5
 loop-less : tie.Need-loop-less Inv-loop μ-loop
 loop-less c = search needs
 
--- src/guards.rt:68:5
 loop-again : tie.Need-loop-again Inv-loop μ-loop
 loop-again c =
-    (search needs, guarded-next (c .before .before .before .loop .inv .1) _ (c .before .before .loop-test .taken) (c .before .atom-holds .ensures) (c .if1 .left))
+    let in-loop = c .before .before in
+    let at-loop = in-loop .before in (
+      search needs,
+      guarded-next (at-loop .loop .inv .1) _ (in-loop .loop-test .taken)
+          (c .before .atom-holds .ensures) (c .if1 .left),
+    )
 
--- src/guards.rt:62:1
 returns-2 : tie.Need-returns-2 Inv-loop μ-loop
 returns-2 c = guarded-end (c .before .loop .inv .1) (search needs)
 

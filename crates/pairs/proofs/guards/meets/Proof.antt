@@ -1,33 +1,28 @@
 -- `pairs::guards::meets` meets its contract, relation by relation.
 use Rattle.pairs.proofs.GuardTests.{related-less, related-at-most, related-equal, related-at-least, related-other}
-use borrow.Author.Tests.{eq-eqb, ne-eqb}
-use borrow.Author.Needs.{needs}
 use Rattle.pairs.proofs.guards.meets.Statement.{statement}
 use Rattle.pairs.proofs.guards.meets.Tie as tie
-use Rattle.pairs.proofs.guards.meets.Reads as reads
-use Rattle.pairs.proofs.guards.meets.Lts as lts
 
--- src/guards.rt:39:1
 returns : tie.Need-returns
 returns c = related-less (c .before .args .relation) (c .before .args .value) (c .before .args .limit) (c .match .keys1)
 
--- src/guards.rt:39:1
 returns-2 : tie.Need-returns-2
-returns-2 c = related-at-most (c .before .args .relation) (c .before .args .value) (c .before .args .limit) (c .match .keys2)
+returns-2 c =
+    related-at-most (c .before .args .relation) (c .before .args .value) (c .before .args .limit) (c .match .keys2)
 
--- src/guards.rt:39:1
 returns-3 : tie.Need-returns-3
-returns-3 c = related-equal (c .before .args .relation) (c .before .args .value) (c .before .args .limit) (c .match .keys3)
+returns-3 c =
+    related-equal (c .before .args .relation) (c .before .args .value) (c .before .args .limit) (c .match .keys3)
 
--- src/guards.rt:39:1
 returns-4 : tie.Need-returns-4
-returns-4 c = related-at-least (c .before .args .relation) (c .before .args .value) (c .before .args .limit) (c .match .keys4)
+returns-4 c =
+    related-at-least (c .before .args .relation) (c .before .args .value) (c .before .args .limit) (c .match .keys4)
 
--- src/guards.rt:39:1
 returns-5 : tie.Need-returns-5
 returns-5 c =
     let n = c .match .rest in
-    related-other (c .before .args .relation) (c .before .args .value) (c .before .args .limit) (n .0 .0 .0 .1) (n .0 .0 .1) (n .0 .1) (n .1)
+    related-other (c .before .args .relation) (c .before .args .value) (c .before .args .limit) (n .0 .0 .0 .1)
+    (n .0 .0 .1) (n .0 .1) (n .1)
 
 pub meets-spec : {M : Type 1} → statement M
 meets-spec = tie.close (tie.spec returns returns-2 returns-3 returns-4 returns-5)

@@ -1,48 +1,36 @@
 -- `pairs::guards::region` meets its contract, by its three ways.
-use Rattle.pairs.proofs.GuardTests.{region-above, region-past, region-within}
 use borrow.Author.Needs.{needs}
+use Rattle.pairs.proofs.GuardTests.{region-above, region-past, region-within}
 use Rattle.pairs.proofs.guards.region.Statement.{statement}
 use Rattle.pairs.proofs.guards.region.Tie as tie
-use Rattle.pairs.proofs.guards.region.Reads as reads
-use Rattle.pairs.proofs.guards.region.Lts as lts
 
--- src/guards.rt:29:16
 mul-result : tie.Need-mul-result
 mul-result c = search needs
 
--- src/guards.rt:29:16
 add-result : tie.Need-add-result
 add-result c = search needs
 
--- src/guards.rt:29:9
 returns : tie.Need-returns
 returns c = region-above _ _ _ (c .if1 .taken)
 
--- src/guards.rt:31:15
 mul-sum : tie.Need-mul-sum
 mul-sum c = search needs
 
--- src/guards.rt:31:15
 add-sum : tie.Need-add-sum
 add-sum c = search needs
 
--- src/guards.rt:32:8
 mul-if2 : tie.Need-mul-if2
 mul-if2 c = search needs
 
--- src/guards.rt:33:16
 mul-result-2 : tie.Need-mul-result-2
 mul-result-2 c = search needs
 
--- src/guards.rt:33:16
 add-result-2 : tie.Need-add-result-2
 add-result-2 c = search needs
 
--- src/guards.rt:33:9
 returns-2 : tie.Need-returns-2
 returns-2 c = region-past _ _ _ (c .before .if1 .left) (c .if2 .taken)
 
--- src/guards.rt:24:1
 returns-3 : tie.Need-returns-3
 returns-3 c = region-within _ _ _ (c .before .if1 .left) (c .if2 .left)
 

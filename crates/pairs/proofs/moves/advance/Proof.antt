@@ -1,56 +1,43 @@
 -- `pairs::moves::advance` meets its contract, above cm and up to it.
-use Rattle.pairs.proofs.Bases.{advanced-above, advanced-within}
 use borrow.Author.Needs.{needs}
+use Rattle.pairs.proofs.Bases.{advanced-above, advanced-within}
 use Rattle.pairs.proofs.moves.advance.Statement.{statement}
 use Rattle.pairs.proofs.moves.advance.Tie as tie
-use Rattle.pairs.proofs.moves.advance.Reads as reads
-use Rattle.pairs.proofs.moves.advance.Lts as lts
-use Rattle.edges.proofs.wide16.Reads as wide16-reads
-use Rattle.edges.proofs.wide32.Reads as wide32-reads
-use Rattle.pairs.proofs.numbers.narrow16.Reads as narrow16-reads
-use Rattle.pairs.proofs.numbers.wide8.Reads as wide8-reads
 
--- src/moves.rt:17:9
 wide8-requires : tie.Need-wide8-requires
 wide8-requires c κs = search needs
 
--- src/moves.rt:18:15
 wide16-requires : tie.Need-wide16-requires
 wide16-requires c κs = search needs
 
--- src/moves.rt:18:30
 wide32-requires : tie.Need-wide32-requires
 wide32-requires c κs = search needs
 
--- src/moves.rt:18:15
 add-sum : tie.Need-add-sum
 add-sum c = search needs
 
--- src/moves.rt:20:25
 add-narrow16 : tie.Need-add-narrow16
 add-narrow16 c = search needs
 
--- src/moves.rt:20:9
 narrow16-requires : tie.Need-narrow16-requires
 narrow16-requires c κs = search needs
 
--- src/moves.rt:20:9
 returns : tie.Need-returns
 returns c =
     let b = c .before .before in
-    advanced-above _ _ _ _ _ _ _ (b .before .before .wide8 .ensures .0) (b .wide32 .ensures .0) (b .before .wide16 .ensures .0)
+    advanced-above _ _ _ _ _ _ _ (b .before .before .wide8 .ensures .0) (b .wide32 .ensures .0)
+    (b .before .wide16 .ensures .0)
     (c .before .if1 .taken)
     (c .narrow16 .ensures)
 
--- src/moves.rt:22:5
 narrow16-requires-2 : tie.Need-narrow16-requires-2
 narrow16-requires-2 c κs = search needs
 
--- src/moves.rt:14:1
 returns-2 : tie.Need-returns-2
 returns-2 c =
     let b = c .before .before in
-    advanced-within _ _ _ _ _ _ _ (b .before .before .wide8 .ensures .0) (b .wide32 .ensures .0) (b .before .wide16 .ensures .0)
+    advanced-within _ _ _ _ _ _ _ (b .before .before .wide8 .ensures .0) (b .wide32 .ensures .0)
+    (b .before .wide16 .ensures .0)
     (c .before .if1 .left)
     (c .narrow162 .ensures)
 

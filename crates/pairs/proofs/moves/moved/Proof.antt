@@ -1,13 +1,10 @@
 -- `pairs::moves::moved` meets its contract: the bases moved so far, with those to come, are the target's.
-use Rattle.pairs.proofs.Bases.{Moving, moving-start, moving-next, moving-end}
-use mathlib.Core.Path.{_≡_, refl, sym, _∙_, ap}
-use Prim.Native.Nat.{_≤_, _<_, _-_}
+use mathlib.Core.Path.{refl}
+use Prim.Native.Nat.{_-_}
 use borrow.Author.Needs.{needs}
+use Rattle.pairs.proofs.Bases.{Moving, moving-start, moving-next, moving-end}
 use Rattle.pairs.proofs.moves.moved.Statement.{statement}
 use Rattle.pairs.proofs.moves.moved.Tie as tie
-use Rattle.pairs.proofs.moves.moved.Reads as reads
-use Rattle.pairs.proofs.moves.moved.Lts as lts
-use Rattle.pairs.proofs.moves.moved_base.Reads as moved-base-reads
 
 abbrev Inv-loop : tie.InvT-loop
 Inv-loop mask timer top interval bases next₀ k₀ next k = Moving mask timer top interval k bases next
@@ -15,44 +12,34 @@ Inv-loop mask timer top interval bases next₀ k₀ next k = Moving mask timer t
 abbrev μ-loop : tie.MeasureT-loop
 μ-loop mask timer top interval bases next₀ k₀ next k = 4 - k
 
--- src/moves.rt:43:5
 loop-holds : tie.Need-loop-holds Inv-loop μ-loop
 loop-holds c =
     moving-start _ _ _ _ _ _ (search needs) refl
 
--- src/moves.rt:44:61
 mul-moved-base : tie.Need-mul-moved-base Inv-loop μ-loop
 mul-moved-base c = search needs
 
--- src/moves.rt:44:61
 array-read-moved-base : tie.Need-array-read-moved-base Inv-loop μ-loop
 array-read-moved-base c = search needs
 
--- src/moves.rt:44:19
 moved-base-requires : tie.Need-moved-base-requires Inv-loop μ-loop
 moved-base-requires c κs = search needs
 
--- src/moves.rt:44:9
 mul-next : tie.Need-mul-next Inv-loop μ-loop
 mul-next c = search needs
 
--- src/moves.rt:44:9
 array-write-next : tie.Need-array-write-next Inv-loop μ-loop
 array-write-next c = search needs
 
--- src/moves.rt:45:9
 add-k : tie.Need-add-k Inv-loop μ-loop
 add-k c = search needs
 
--- src/moves.rt:43:5
 loop-less : tie.Need-loop-less Inv-loop μ-loop
 loop-less c = search needs
 
--- src/moves.rt:43:5
 loop-again : tie.Need-loop-again Inv-loop μ-loop
 loop-again c = moving-next (c .before .before .loop .inv) _ (search needs) (c .moved-base .ensures)
 
--- src/moves.rt:38:1
 returns : tie.Need-returns Inv-loop μ-loop
 returns c = moving-end (c .before .loop .inv) (search needs)
 

@@ -1,13 +1,10 @@
 -- `pairs::resets::pair_resets` meets its contract: the edges to come say what all say, while none passed resets.
-use Rattle.pairs.proofs.GuardTests.{Looking, looking-start, looking-found, looking-next, looking-end}
+use mathlib.Core.Path.{sym, _∙_}
 use Prim.Native.Nat.{_-_}
-use mathlib.Core.Path.{_≡_, sym, _∙_}
 use borrow.Author.Needs.{needs}
+use Rattle.pairs.proofs.GuardTests.{Looking, looking-start, looking-found, looking-next, looking-end}
 use Rattle.pairs.proofs.resets.pair_resets.Statement.{statement}
 use Rattle.pairs.proofs.resets.pair_resets.Tie as tie
-use Rattle.pairs.proofs.resets.pair_resets.Reads as reads
-use Rattle.pairs.proofs.resets.pair_resets.Lts as lts
-use Rattle.pairs.proofs.resets.edge_resets.Reads as edge-resets-reads
 
 abbrev Inv-loop : tie.InvT-loop
 Inv-loop edges count top input pair e₀ e = Looking top input pair count e edges
@@ -15,31 +12,31 @@ Inv-loop edges count top input pair e₀ e = Looking top input pair count e edge
 abbrev μ-loop : tie.MeasureT-loop
 μ-loop edges count top input pair e₀ e = count - e
 
--- src/resets.rt:35:5
 loop-holds : tie.Need-loop-holds Inv-loop μ-loop
 loop-holds c = looking-start _ _ _ _ _
 
--- src/resets.rt:36:12
 edge-resets-requires : tie.Need-edge-resets-requires Inv-loop μ-loop
 edge-resets-requires c κs = search needs
 
--- src/resets.rt:37:13
 returns : tie.Need-returns Inv-loop μ-loop
-returns c = looking-found (c .before .before .before .loop .inv) (c .before .before .loop-test .taken) (sym (c .before .edge-resets .ensures) ∙ c .if1 .taken)
+returns c =
+    let in-loop = c .before .before in
+    let at-loop = in-loop .before in
+    looking-found (at-loop .loop .inv) (in-loop .loop-test .taken)
+    (sym (c .before .edge-resets .ensures) ∙ c .if1 .taken)
 
--- src/resets.rt:39:9
 add-e : tie.Need-add-e Inv-loop μ-loop
 add-e c = search needs
 
--- src/resets.rt:35:5
 loop-less : tie.Need-loop-less Inv-loop μ-loop
 loop-less c = search needs
 
--- src/resets.rt:35:5
 loop-again : tie.Need-loop-again Inv-loop μ-loop
-loop-again c = looking-next (c .before .before .before .loop .inv) (c .before .before .loop-test .taken) (sym (c .before .edge-resets .ensures) ∙ c .if1 .left)
+loop-again c =
+    let in-loop = c .before .before in
+    let at-loop = in-loop .before in
+    looking-next (at-loop .loop .inv) (in-loop .loop-test .taken) (sym (c .before .edge-resets .ensures) ∙ c .if1 .left)
 
--- src/resets.rt:31:1
 returns-2 : tie.Need-returns-2 Inv-loop μ-loop
 returns-2 c = looking-end (c .before .loop .inv) (search needs)
 
