@@ -157,8 +157,8 @@ pub pass-none :
 pass-none {n = n} {i = i} inv h = let z : n - i ≡ 0 = omega arith in rw z at (inv .rest-is)
 
 -- a list that is zeroed to its end
-pub cleared : (s₀ s : List ℕ) (i : ℕ) → s ≡ zeros i ++ drop i s₀ → i ≡ length s₀ → s ≡ zeros (length s₀)
-cleared s₀ s i e h =
+pub zeroed-whole : (s₀ s : List ℕ) (i : ℕ) → s ≡ zeros i ++ drop i s₀ → i ≡ length s₀ → s ≡ zeros (length s₀)
+zeroed-whole s₀ s i e h =
     let past : length s₀ ≤ i = omega arith in
     e ∙ (rw (drop-of-length-le s₀ past, append-nil (zeros i), h))
 

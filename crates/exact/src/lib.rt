@@ -67,15 +67,17 @@ pub(crate) fn some_final(set: u32, scratch: &[u32], from: usize, clocks: usize, 
     false
 }
 
-// Every number of the scratch is zeroed.
-pub(crate) fn clear(scratch: &mut [u32])
-    ensures { λ _. ⌜ now (scratch .exit) ≡ zeros (length (now (scratch .entry))) ⌝ }
+// The answer, once every number of the scratch is zeroed.
+pub(crate) fn cleared(answer: Answer, scratch: &mut [u32]) -> Answer
+    ensures { λ r. ⌜ (r ≡ answer) × (now (scratch .exit) ≡ zeros (length (now (scratch .entry)))) ⌝ }
 {
+    let end = scratch.len();
     let mut i: usize = 0;
-    while i < scratch.len() {
+    while i < end {
         scratch[i] = 0;
         i += 1;
     }
+    answer
 }
 
 // 26, at the place of the event.
@@ -190,6 +192,5 @@ pub fn run_exact(
         return word;
     }
     let answer = run_events(head, edges, grain, symbols, stamps, scratch);
-    clear(scratch);
-    answer
+    cleared(answer, scratch)
 }

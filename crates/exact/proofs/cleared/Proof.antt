@@ -1,27 +1,27 @@
--- `exact::clear` meets its contract: after i turns the first i numbers are zero, the rest as they were.
-use mathlib.Core.Path.{_≡_, sym, _∙_, ap}
+-- `exact::cleared` meets its contract: after i turns the first i numbers are zero, the rest as they were.
+use mathlib.Core.Path.{_≡_, refl, _∙_, ap}
 use mathlib.Core.List.{List, _++_}
 use Prim.Native.Nat.{ℕ, _-_, _≤_}
-use native.Mathlib.Omega.{arith}
 use lib.ListN.{length, drop, set, length-set}
 use borrow.Author.Fill.{fill-none, fill-more}
 use Rattle.model.specs.Basics.{zeros}
-use Rattle.exact.proofs.Starting.{cleared}
+use Rattle.exact.proofs.Starting.{zeroed-whole}
 use borrow.Author.Needs.{needs}
-use Rattle.exact.proofs.clear.Statement.{statement}
-use Rattle.exact.proofs.clear.Tie as tie
-use Rattle.exact.proofs.clear.Reads as reads
-use Rattle.exact.proofs.clear.Lts as lts
+use Rattle.exact.proofs.cleared.Statement.{statement}
+use Rattle.exact.proofs.cleared.Tie as tie
+use Rattle.exact.proofs.cleared.Reads as reads
+use Rattle.exact.proofs.cleared.Lts as lts
 
 abbrev Inv-loop : tie.InvT-loop
-Inv-loop scratch₀ i₀ scratch i =
-    (i ≤ length scratch₀) × (length scratch ≡ length scratch₀) × (scratch ≡ zeros i ++ drop i scratch₀)
+Inv-loop answer scratch₀ end i₀ scratch i =
+    (end ≡ length scratch₀) × (i ≤ length scratch₀) × (length scratch ≡ length scratch₀)
+    × (scratch ≡ zeros i ++ drop i scratch₀)
 
 abbrev μ-loop : tie.MeasureT-loop
-μ-loop scratch₀ i₀ scratch i = length scratch₀ - i
+μ-loop answer scratch₀ end i₀ scratch i = length scratch₀ - i
 
 loop-holds : tie.Need-loop-holds Inv-loop μ-loop
-loop-holds c = (search needs, search needs, fill-none _ 0)
+loop-holds c = (search needs, search needs, search needs, fill-none _ 0)
 
 mul-scratch : tie.Need-mul-scratch Inv-loop μ-loop
 mul-scratch c = search needs
@@ -40,20 +40,21 @@ loop-again c =
     let l = c .before .loop in
     let a = c .before .before .args in (
       search needs,
-      simp length-set (l .inv .1),
-      ap (λ (s : List ℕ). set s (l .i) 0) (l .inv .2) ∙ fill-more (l .i) 0 (a .scratch .now) (search needs),
+      search needs,
+      simp length-set (l .inv .2),
+      ap (λ (s : List ℕ). set s (l .i) 0) (l .inv .3) ∙ fill-more (l .i) 0 (a .scratch .now) (search needs),
     )
 
 same-length : tie.Need-same-length Inv-loop μ-loop
-same-length c = c .before .loop .inv .1
+same-length c = c .before .loop .inv .2
 
 returns : tie.Need-returns Inv-loop μ-loop
 returns c =
     let l = c .before .loop in
-    cleared (c .before .before .args .scratch .now) (l .scratch) (l .i) (l .inv .2) (search needs)
+    (refl, zeroed-whole (c .before .before .args .scratch .now) (l .scratch) (l .i) (l .inv .3) (search needs))
 
-pub clear-spec : {M : Type 1} → statement M
-clear-spec =
+pub cleared-spec : {M : Type 1} → statement M
+cleared-spec =
     tie.close
     (tie.spec
     Inv-loop
