@@ -25,8 +25,9 @@
  *   20  edge table shorter than 7,424 numbers
  *   21  head record and edge table are not what reading some accepted file leaves
  *   22  build scratch shorter than N numbers
- *   23  a row's number is not below the least of 4,096, half the row table and the cell table over S * W
- *   24  else the pool is too short for it (23, 24: for the first row, by number, that does not fit)
+ *   23  the first row, by number, that does not fit: its number is not below the least of 4,096, half the row
+ *       table and the cell table over S * W, both rounded down
+ *   24  or, with a number below that, the pool is too short for it
  *   25  built record or its tables out of shape: a size out of range, N over 65,536, R outside 1 to 4,096,
  *       tables shorter than R and P need, a row that does not start where the one before it ends (row 0
  *       at 0), lengths that do not add up to P, a code not below N, a cell's row not below R, a timer reset
