@@ -1,4 +1,6 @@
 // The listing program: a rule file from standard input, its table on standard output.
+ghost use Prim.Native.Nat.{_-_, _≤_};
+ghost use lib.ListN.{length};
 use construct::build_table;
 use edges::wide32;
 use libc::STDOUT_FILENO;
@@ -46,7 +48,9 @@ fn print_line(part: &[u32]) {
 }
 
 // The part of a table from a place on, as far as there is one.
-fn part_of(table: &[u32], start: usize, count: usize) -> &[u32] {
+fn part_of(table: &[u32], start: usize, count: usize) -> &[u32]
+    ensures { λ r. ⌜ length (now r) ≤ length (now (table .entry)) - start ⌝ }
+{
     if table.len() <= start {
         return &table[0..0];
     }
@@ -57,7 +61,7 @@ fn part_of(table: &[u32], start: usize, count: usize) -> &[u32] {
     &table[start..end]
 }
 
-// A row: its number, its verdict, its codes; then a line of cells for each symbol. The row after it starts at the answer.
+// A row: its number, its verdict, its codes.
 fn print_head(built: Built, rows: &[u32], pool: &[u32], row: u32) {
     let entry = part_of(rows, 2 * wide32(row), 2);
     print_number(wide32(row));
@@ -72,7 +76,7 @@ fn print_head(built: Built, rows: &[u32], pool: &[u32], row: u32) {
     end_line();
 }
 
-// The cells of a row, which stand at the front of what is left of the table.
+// A line of cells for each symbol, from a place on; the next row's cells start at the answer.
 fn print_cells(built: Built, cells: &[u32], at: usize) -> usize {
     let width = 2 * wide32(built.top) + 2;
     let mut next = at;

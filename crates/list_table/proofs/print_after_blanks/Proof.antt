@@ -1,0 +1,64 @@
+-- `list_table::print_after_blanks` is safe and ends: each turn prints one number of the part.
+use Prim.Native.Nat.{_≤_, _-_}
+use lib.ListN.{length}
+use borrow.Author.Needs.{needs}
+use Rattle.list_table.proofs.print_after_blanks.Statement.{statement}
+use Rattle.list_table.proofs.print_after_blanks.Tie as tie
+use Rattle.list_table.proofs.print_after_blanks.Reads as reads
+use Rattle.list_table.proofs.print_after_blanks.Lts as lts
+use Rattle.edges.proofs.wide32.Reads as wide32-reads
+use Rattle.list_table.proofs.print_blank.Reads as print-blank-reads
+use Rattle.list_table.proofs.print_number.Reads as print-number-reads
+
+abbrev Inv-loop : tie.InvT-loop
+Inv-loop part i₀ i = i ≤ length part
+
+abbrev μ-loop : tie.MeasureT-loop
+μ-loop part i₀ i = length part - i
+
+loop-holds : tie.Need-loop-holds Inv-loop μ-loop
+loop-holds c = search needs
+
+print-blank-requires : tie.Need-print-blank-requires Inv-loop μ-loop
+print-blank-requires c κs = search needs
+
+mul-wide32 : tie.Need-mul-wide32 Inv-loop μ-loop
+mul-wide32 c = search needs
+
+shared-slice-read-wide32 : tie.Need-shared-slice-read-wide32 Inv-loop μ-loop
+shared-slice-read-wide32 c = search needs
+
+wide32-requires : tie.Need-wide32-requires Inv-loop μ-loop
+wide32-requires c κs = search needs
+
+print-number-requires : tie.Need-print-number-requires Inv-loop μ-loop
+print-number-requires c κs = search needs
+
+add-i : tie.Need-add-i Inv-loop μ-loop
+add-i c = search needs
+
+loop-less : tie.Need-loop-less Inv-loop μ-loop
+loop-less c = search needs
+
+loop-again : tie.Need-loop-again Inv-loop μ-loop
+loop-again c = search needs
+
+returns : tie.Need-returns Inv-loop μ-loop
+returns c = search needs
+
+pub print-after-blanks-spec : {M : Type 1} → statement M
+print-after-blanks-spec =
+    tie.close
+    (tie.spec
+    Inv-loop
+    μ-loop
+    loop-holds
+    print-blank-requires
+    mul-wide32
+    shared-slice-read-wide32
+    wide32-requires
+    print-number-requires
+    add-i
+    loop-less
+    loop-again
+    returns)

@@ -1,0 +1,67 @@
+-- `list_table::print_cells` is safe and ends: a line that is whole lies within the table, so the place after it does too.
+use Prim.Native.Nat.{_≤_, _-_}
+use borrow.Author.Needs.{needs}
+use Rattle.list_table.proofs.print_cells.Statement.{statement}
+use Rattle.list_table.proofs.print_cells.Tie as tie
+use Rattle.list_table.proofs.print_cells.Reads as reads
+use Rattle.list_table.proofs.print_cells.Lts as lts
+use Rattle.edges.proofs.wide32.Reads as wide32-reads
+use Rattle.list_table.proofs.part_of.Reads as part-of-reads
+use Rattle.list_table.proofs.print_line.Reads as print-line-reads
+
+abbrev Inv-loop : tie.InvT-loop
+Inv-loop built cells at width next₀ symbol₀ next symbol = (symbol ≤ built .symbols) × (2 ≤ width)
+
+abbrev μ-loop : tie.MeasureT-loop
+μ-loop built cells at width next₀ symbol₀ next symbol = built .symbols - symbol
+
+wide32-requires : tie.Need-wide32-requires Inv-loop μ-loop
+wide32-requires c κs = search needs
+
+mul-width : tie.Need-mul-width Inv-loop μ-loop
+mul-width c = search needs
+
+add-width : tie.Need-add-width Inv-loop μ-loop
+add-width c = search needs
+
+loop-holds : tie.Need-loop-holds Inv-loop μ-loop
+loop-holds c = search needs
+
+part-of-requires : tie.Need-part-of-requires Inv-loop μ-loop
+part-of-requires c κs = search needs
+
+print-line-requires : tie.Need-print-line-requires Inv-loop μ-loop
+print-line-requires c κs = search needs
+
+add-next : tie.Need-add-next Inv-loop μ-loop
+add-next c = search needs
+
+add-symbol : tie.Need-add-symbol Inv-loop μ-loop
+add-symbol c = search needs
+
+loop-less : tie.Need-loop-less Inv-loop μ-loop
+loop-less c = search needs
+
+loop-again : tie.Need-loop-again Inv-loop μ-loop
+loop-again c = search needs
+
+returns : tie.Need-returns Inv-loop μ-loop
+returns c = search needs
+
+pub print-cells-spec : {M : Type 1} → statement M
+print-cells-spec =
+    tie.close
+    (tie.spec
+    Inv-loop
+    μ-loop
+    wide32-requires
+    mul-width
+    add-width
+    loop-holds
+    part-of-requires
+    print-line-requires
+    add-next
+    add-symbol
+    loop-less
+    loop-again
+    returns)
