@@ -124,7 +124,8 @@ pub extern "C" fn alderskein_run_branches(
     ensures { λ r. ⌜ RunsBranchesInto head (now (edges .entry)) grain (now (symbols .entry)) (now (stamps .entry)) (now (taken .exit)) r ⌝ }
 {
     let run = branch::run_branches(head, edges, grain, symbols, stamps);
-    *taken = run.edges;
+    let run_edges = run.edges;
+    *taken = run_edges;
     BranchAnswer {
         number: run.number,
         place: run.place,
