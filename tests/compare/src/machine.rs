@@ -271,7 +271,8 @@ impl State {
         }
     }
 
-    fn text(&self) -> String {
+    /// The state as the command `state` shows it.
+    pub fn text(&self) -> String {
         let edges = buffer_text(&self.edges);
         let [cells, rows, pool] = [&self.cells, &self.rows, &self.pool].map(|table| buffer_text(table));
         format!(

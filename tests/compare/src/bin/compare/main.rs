@@ -73,12 +73,14 @@ fn options() -> Option<Options> {
 }
 
 fn report(options: &Options, number: u64, kind: &str, difference: &Difference) {
-    println!("DIFFERENCE with seed {}, scene {number} ({kind}).", options.seed);
-    println!("# script");
+    println!("# DIFFERENCE with seed {}, scene {number} ({kind}). This script shows it:", options.seed);
     for call in &difference.script {
         println!("{call}");
     }
     println!("state");
+    if difference.past {
+        println!("# The library wrote past the end of a lent buffer.");
+    }
     println!("# library:   {}", difference.library);
     println!("# reference: {}", difference.reference);
 }

@@ -1,15 +1,17 @@
 //! Library and reference side by side.
 
 use crate::cover::Cover;
-use protocol::{Call, Library, Machine, Reference};
+use protocol::{Call, Engine, Library, Machine, Reference, Reply};
 
 /// Where the two differ.
 pub struct Difference {
     /// The commands up to the one that shows it.
     pub script: Vec<Call>,
-    /// What each answered, or what was written past a lent buffer.
+    /// What each answered.
     pub library: String,
     pub reference: String,
+    /// Whether the library wrote past a lent buffer.
+    pub past: bool,
 }
 
 /// Runs commands on both and compares every part of every answer and every buffer.
@@ -23,16 +25,27 @@ pub fn run(calls: &[Call], cover: &mut Cover, trace: bool) -> Result<(), Box<Dif
         let same = ours == theirs && library.state() == reference.state();
         let intact = ours.intact() && library.state().intact();
         if !same || !intact {
-            let front = if intact { "" } else { "wrote past the end of a lent buffer, " };
-            return Err(Box::new(Difference {
-                script: calls[..=index].to_vec(),
-                library: format!("{front}{}", library.line(call, &ours)),
-                reference: reference.line(call, &theirs),
-            }));
+            let shown = [views(&library, call, &ours), views(&reference, call, &theirs)];
+            let [library, reference] = first_unlike(shown);
+            let script = calls[..=index].to_vec();
+            return Err(Box::new(Difference { script, library, reference, past: !intact }));
         }
         cover.count(call, &ours, library.state());
     }
     Ok(())
+}
+
+/// An answer as the result line, with the state, and with every part.
+fn views<E: Engine>(machine: &Machine<E>, call: &Call, reply: &Reply) -> [String; 3] {
+    let line = machine.line(call, reply);
+    let with_state = format!("{line}, state {}", machine.state().text());
+    [line, with_state, format!("{reply:?}")]
+}
+
+/// The first view in which the two differ.
+fn first_unlike(views: [[String; 3]; 2]) -> [String; 2] {
+    let at = (0..3).find(|&at| views[0][at] != views[1][at]).unwrap_or(0);
+    views.map(|view| view[at].clone())
 }
 
 /// The same difference, or another, from fewer commands: each is left out that is not needed.
