@@ -84,7 +84,7 @@ table-known e table = rw e table
 
 -- the whole file
 pub whole-length :
-    (h : Head) (t : List ℕ) (starts ends ceiling count i f c es : ℕ) → starts ≡ h .starts → ends ≡ h .ends
+    (h : Head) (t : List ℕ) {starts ends ceiling count i f c es : ℕ} → starts ≡ h .starts → ends ≡ h .ends
     → ceiling ≡ h .ceiling
     → count ≡ h .count
     → i ≡ length (locationsIn starts)
@@ -93,7 +93,7 @@ pub whole-length :
     → es ≡ length (edgeRecords (edgesIn count t))
     → 10 + 6 * (i + f) + c + es ≡ length (ruleBytes (ruleIn h t))
 unfolding ruleIn
-whole-length h t starts ends ceiling count i f c es s-is e-is c-is n-is a b d g =
+whole-length h t {starts} {ends} {ceiling} {count} {i} {f} {c} {es} s-is e-is c-is n-is a b d g =
     let a′ : i ≡ length (locationsIn (h .starts)) = a ∙ ap (λ (m : ℕ). length (locationsIn m)) s-is in
     let b′ : f ≡ length (locationsIn (h .ends)) = b ∙ ap (λ (m : ℕ). length (locationsIn m)) e-is in
     let d′ : c ≡ length (ceilingRecord (h .ceiling)) = d ∙ ap (λ (m : ℕ). length (ceilingRecord m)) c-is in

@@ -171,11 +171,12 @@ module _ (t : List ℕ) (count : ℕ) (long : edgeWidth ≤ length t) (few : get
     atoms-room p q room =
         let fields : length (take 4 t) ≡ 4 = length-take-le 4 t (omega arith) in
         let n : 5 + 3 * count - 5 ≡ 3 * count = omega arith in
+        let fields-written = numbers-length (take 4 t) in
         let atoms : length (take (3 * count) (drop 5 t)) ≡ 3 * count =
         length-take-le (3 * count) (drop 5 t) (omega (arith, length-drop 5 t)) in
         rw n
         (omega
-        (arith, atoms, fields, numbers-length (take 4 t), p .next-is, q .next-is, put-wide p, put-wide q, edge-length t))
+        (arith, atoms, fields, p .next-is, q .next-is, put-wide p, put-wide q, edge-length t))
 
 -- the edges of a table, one by one
 pub edges-begin :

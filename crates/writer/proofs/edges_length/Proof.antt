@@ -43,7 +43,8 @@ loop-again : tie.Need-loop-again Inv-loop μ-loop
 loop-again c =
     let l = c .before .before .loop in
     let pre = c .before .before .before .before .pre in
-    summed-next (l .inv) (c .number-at .result) (search needs) (pre .few (l .e) (search needs)) (c .number-at .ensures .0)
+    summed-next (l .inv) (c .number-at .result) (search needs) (pre .few (l .e) (search needs))
+    (c .number-at .ensures .0)
 
 returns : tie.Need-returns Inv-loop μ-loop
 returns c = (summed-end (c .before .loop .inv) (search needs), search needs)

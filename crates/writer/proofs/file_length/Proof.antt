@@ -38,19 +38,25 @@ wide32-requires-4 : tie.Need-wide32-requires-4
 wide32-requires-4 c κs = search needs
 
 edges-length-requires : tie.Need-edges-length-requires
-edges-length-requires c κs = table-known (c .wide324 .ensures .0) (c .before .before .before .before .before .before .before .before .pre .table)
+edges-length-requires c κs =
+    let start = c .before .before .before .before .before .before .before .before in
+    table-known (c .wide324 .ensures .0) (start .pre .table)
 
 add-result-3 : tie.Need-add-result-3
 add-result-3 c = search needs
 
 returns : tie.Need-returns
 returns c =
-    let a = c .before .before .before .before .before .before .before .before .before .args in
-    whole-length (a .head) (a .edges .now) (c .before .before .before .before .before .before .before .wide32 .result) (c .before .before .before .before .before .wide322 .result) (c .before .before .before .wide323 .result)
-    (c .before .wide324 .result) (c .before .before .before .before .before .before .locations-in .result) (c .before .before .before .before .locations-in2 .result) (c .before .before .ceiling-length .result)
-    (c .edges-length .result) (c .before .before .before .before .before .before .before .wide32 .ensures .0) (c .before .before .before .before .before .wide322 .ensures .0) (c .before .before .before .wide323 .ensures .0)
-    (c .before .wide324 .ensures .0) (c .before .before .before .before .before .before .locations-in .ensures .0) (c .before .before .before .before .locations-in2 .ensures .0)
-    (c .before .before .ceiling-length .ensures .0) (c .edges-length .ensures .0)
+    let edges = c .edges-length in
+    let count = c .before .wide324 in
+    let at-ceiling = c .before .before in
+    let at-ends = at-ceiling .before .before in
+    let at-starts = at-ends .before .before in
+    let a = at-starts .before .before .before .args in
+    whole-length (a .head) (a .edges .now) (at-starts .before .wide32 .ensures .0)
+    (at-ends .before .wide322 .ensures .0) (at-ceiling .before .wide323 .ensures .0)
+    (count .ensures .0) (at-starts .locations-in .ensures .0)
+    (at-ends .locations-in2 .ensures .0) (at-ceiling .ceiling-length .ensures .0) (edges .ensures .0)
 
 pub file-length-spec : {M : Type 1} → statement M
 file-length-spec =

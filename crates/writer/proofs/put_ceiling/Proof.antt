@@ -28,8 +28,10 @@ same-length c = search needs
 
 returns-2 : tie.Need-returns-2
 returns-2 c =
+    let put-single = c .before .before .put-single in
+    let if1 = c .before .before .before .before .if1 in
     let a = c .before .before .before .before .before .before .args in
-    put-as (ceiling-in (a .ceiling) (c .before .before .before .before .if1 .left)) (c .before .before .put-single .ensures)
+    put-as (ceiling-in (a .ceiling) (if1 .left)) (put-single .ensures)
 
 pub put-ceiling-spec : {M : Type 1} → statement M
 put-ceiling-spec =

@@ -12,7 +12,8 @@ use Rattle.writer.proofs.put_edges.Tie as tie
 abbrev Inv-loop : tie.InvT-loop
 Inv-loop out₀ at edges count next₀ e₀ out next e =
     (e ≤ count)
-    × Putting (edgeRecords (edgesIn count edges)) (edgeRecords (edgesIn (count - e) (drop (edgeWidth * e) edges))) out₀ at out next
+    × Putting (edgeRecords (edgesIn count edges)) (edgeRecords (edgesIn (count - e) (drop (edgeWidth * e) edges))) out₀
+    at out next
 
 abbrev μ-loop : tie.MeasureT-loop
 μ-loop out₀ at edges count next₀ e₀ out next e = count - e

@@ -23,8 +23,10 @@ same-length c = search needs
 
 returns : tie.Need-returns
 returns c =
+    let put-single = c .before .before .put-single in
+    let if1 = c .before .before .before .before .if1 in
     let a = c .before .before .before .before .before .before .args in
-    put-as (location-in (a .kind) (a .mask) (a .location) (c .before .before .before .before .if1 .taken)) (c .before .before .put-single .ensures)
+    put-as (location-in (a .kind) (a .mask) (a .location) (if1 .taken)) (put-single .ensures)
 
 returns-2 : tie.Need-returns-2
 returns-2 c =

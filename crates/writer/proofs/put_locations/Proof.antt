@@ -12,15 +12,18 @@ use Rattle.writer.proofs.put_locations.Tie as tie
 abbrev Inv-loop : tie.InvT-loop
 Inv-loop out₀ at kind mask next₀ location₀ out next location =
     (location ≤ 32)
-    × Putting (locationRecords kind (locationsIn mask)) (locationRecords kind (bitsFrom (32 - location) location mask)) out₀ at out next
+    × Putting (locationRecords kind (locationsIn mask))
+    (locationRecords kind (bitsFrom (32 - location) location mask)) out₀ at out next
 
 abbrev μ-loop : tie.MeasureT-loop
 μ-loop out₀ at kind mask next₀ location₀ out next location = 32 - location
 
 loop-holds : tie.Need-loop-holds Inv-loop μ-loop
 loop-holds c =
-    let a = c .before .args in
-    (search needs, putting-start (locationRecords (a .kind) (locationsIn (a .mask))) (a .out .now) (a .at) (c .before .pre .1))
+    let start = c .before in
+    let a = start .args in
+    let all = locationRecords (a .kind) (locationsIn (a .mask)) in
+    (search needs, putting-start all (a .out .now) (a .at) (start .pre .1))
 
 put-location-requires : tie.Need-put-location-requires Inv-loop μ-loop
 put-location-requires c κs =

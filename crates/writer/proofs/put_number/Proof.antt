@@ -1,5 +1,4 @@
 -- `writer::put_number` meets its contract: two stores, low byte first.
-use Prim.Native.Nat.{_%_}
 use native.Mathlib.Omega.{arith}
 use lib.ListN.{length-set}
 use Rattle.writer.proofs.Putting.{number-put}
@@ -20,7 +19,7 @@ add-out : tie.Need-add-out
 add-out c = search needs
 
 slice-write-out-2 : tie.Need-slice-write-out-2
-slice-write-out-2 c = omega (arith, length-set (c .args .out .now) (c .args .at) (c .args .value % 256))
+slice-write-out-2 c = simp length-set (omega arith)
 
 add-result : tie.Need-add-result
 add-result c = search needs

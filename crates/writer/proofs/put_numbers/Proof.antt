@@ -11,7 +11,8 @@ use Rattle.writer.proofs.put_numbers.Statement.{statement}
 use Rattle.writer.proofs.put_numbers.Tie as tie
 
 abbrev Inv-loop : tie.InvT-loop
-Inv-loop out₀ at table next₀ i₀ out next i = (i ≤ length table) × Putting (numbers table) (numbers (drop i table)) out₀ at out next
+Inv-loop out₀ at table next₀ i₀ out next i =
+    (i ≤ length table) × Putting (numbers table) (numbers (drop i table)) out₀ at out next
 
 abbrev μ-loop : tie.MeasureT-loop
 μ-loop out₀ at table next₀ i₀ out next i = length table - i
@@ -19,7 +20,8 @@ abbrev μ-loop : tie.MeasureT-loop
 loop-holds : tie.Need-loop-holds Inv-loop μ-loop
 loop-holds c =
     let a = c .before .before .args in
-    (search needs, putting-start (numbers (a .table .now)) (a .out .now) (a .at) (omega (arith, numbers-length (a .table .now))))
+    let long = numbers-length (a .table .now) in
+    (search needs, putting-start (numbers (a .table .now)) (a .out .now) (a .at) (omega arith))
 
 mul-wide16 : tie.Need-mul-wide16 Inv-loop μ-loop
 mul-wide16 c = search needs
@@ -48,7 +50,8 @@ loop-again c =
     let wide16 = c .before .before .before .wide16 in
     let l = c .before .before .before .before .before .before .before .loop in
     let a = c .before .before .before .before .before .before .before .before .before .before .args in
-    (search needs, number-next (a .table .now) (l .i) (l .inv .1) (search needs) (wide16 .ensures .0) (put-number .ensures))
+    let here = wide16 .ensures .0 in
+    (search needs, number-next (a .table .now) (l .i) (l .inv .1) (search needs) here (put-number .ensures))
 
 same-length : tie.Need-same-length Inv-loop μ-loop
 same-length c = c .before .loop .inv .1 .wide

@@ -1,7 +1,9 @@
 -- `writer::put_rule` meets its contract: record kind by record kind, what is left is still to be put.
+-- In every answer s1 to s5 are the places past the five calls.
 use native.Mathlib.Omega.{arith}
 use Rattle.writer.proofs.Lengths.{table-known}
-use Rattle.writer.proofs.Whole.{sizes-room, sizes-put, starts-room, starts-put, ends-room, ends-put, ceiling-room, ceiling-put, edges-room, edges-put}
+use Rattle.writer.proofs.Whole.{sizes-room, starts-room, ends-room, ceiling-room, edges-room}
+use Rattle.writer.proofs.Whole.{sizes-put, starts-put, ends-put, ceiling-put, edges-put}
 use borrow.Author.Needs.{needs}
 use Rattle.writer.proofs.put_rule.Statement.{statement}
 use Rattle.writer.proofs.put_rule.Tie as tie
@@ -92,7 +94,8 @@ put-edges-requires c κs =
     let started = starts-put h t out sized (s2 .before .wide324 .ensures .0) (s2 .put-locations .ensures) in
     let ended = ends-put h t out started (s3 .before .wide325 .ensures .0) (s3 .put-locations2 .ensures) in
     let capped = ceiling-put h t out ended (s4 .before .wide326 .ensures .0) (s4 .put-ceiling .ensures) in
-    (table-known (c .wide327 .ensures .0) (start .pre .writable .table), edges-room h t out capped (c .wide327 .ensures .0))
+    let count-is = c .wide327 .ensures .0 in
+    (table-known count-is (start .pre .writable .table), edges-room h t out capped count-is)
 
 same-length : tie.Need-same-length
 same-length c = search needs

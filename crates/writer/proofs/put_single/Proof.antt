@@ -14,7 +14,10 @@ same-length : tie.Need-same-length
 same-length c = search needs
 
 returns : tie.Need-returns
-returns c = then-put (c .before .before .before .before .before .before .put-start .ensures) (c .before .before .put-number .ensures)
+returns c =
+    let put-number = c .before .before .put-number in
+    let put-start = c .before .before .before .before .before .before .put-start in
+    then-put (put-start .ensures) (put-number .ensures)
 
 pub put-single-spec : {M : Type 1} → statement M
 put-single-spec = tie.close (tie.spec put-start-requires put-number-requires same-length returns)

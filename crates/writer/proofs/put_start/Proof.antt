@@ -14,7 +14,10 @@ same-length : tie.Need-same-length
 same-length c = search needs
 
 returns : tie.Need-returns
-returns c = then-put (c .before .before .before .before .before .before .put-number .ensures) (c .before .before .put-number2 .ensures)
+returns c =
+    let put-number2 = c .before .before .put-number2 in
+    let put-number = c .before .before .before .before .before .before .put-number in
+    then-put (put-number .ensures) (put-number2 .ensures)
 
 pub put-start-spec : {M : Type 1} → statement M
 put-start-spec = tie.close (tie.spec put-number-requires put-number-requires-2 same-length returns)
