@@ -100,7 +100,7 @@ returns c =
     let l = early .before .loop in
     let made = c .before .before .before .before .before .by-configs in
     running-full (a .head) (a .edges .now) (a .grain) (a .symbols .now) (a .stamps .now) (a .room) (l .inv .2)
-    (c .before .before .before .before .before .before .before .before .before .before .loop-test .taken) _ _
+    (early .loop-test .taken) _ _
     (to-known (a .room) _ _ (l .from) (l .inv .0))
     (c .before .before .before .before .before .before .before .before .since .ensures)
     (omega (
@@ -128,7 +128,7 @@ loop-again c =
     let made = c .before .before .before .before .before .by-configs in
     let next =
     running-next (a .head) (a .edges .now) (a .grain) (a .symbols .now) (a .stamps .now) (a .room) (l .inv .2)
-    (c .before .before .before .before .before .before .before .before .before .before .loop-test .taken) _ _
+    (early .loop-test .taken) _ _
     (to-known (a .room) _ _ (l .from) (l .inv .0))
     (c .before .before .before .before .before .before .before .before .since .ensures)
     (omega (

@@ -60,7 +60,7 @@ returns c =
     let over =
     starting-full (clocks .result) (starts .result) (a .room)
     (early .before .loop .inv)
-    (c .before .before .before .before .before .before .before .before .before .before .loop-test .taken)
+    (early .loop-test .taken)
     _
     _
     (c .before .before .before .before .before .before .before .before .before .wide16 .ensures .0)

@@ -98,7 +98,7 @@ returns : tie.Need-returns Inv-loop μ-loop
 returns c =
     let early = c .before .before .before .before .before .before .before .before .before .before in
     let a = early .before .before .before .before .args in
-    let l = c .before .before .before .before .before .before .before .before .before .before .loop in
+    let l = early .loop in
     let w = early .before .wide32 in
     let was = c .before .before .before .before .before .before .before .load in
     let after = c .before .before .before .before .before .before .after-delay in
@@ -125,7 +125,7 @@ add-at c =
       l .inv .2 .length-is,
       place-in (a .head) (a .edges .now) (a .grain) (a .symbol) (a .delay .0)
           (a .room) (a .from) (a .n) (a .to) (l .inv .2)
-          (c .before .before .before .before .before .before .before .before .before .before .loop-test .taken),
+          (early .loop-test .taken),
     )
 
 add-i : tie.Need-add-i Inv-loop μ-loop
@@ -147,7 +147,7 @@ loop-again c =
       l .inv .1,
       moving-next (a .head) (a .edges .now) (a .grain) (a .symbol) (a .delay .0) (a .room) (a .from) (a .n) (a .to)
           (l .inv .2)
-          (c .before .before .before .before .before .before .before .before .before .before .loop-test .taken)
+          (early .loop-test .taken)
           (was .result) (after .result) (was .ensures) (after .ensures) _
           (span-known (a .to) (a .room) (w .result) _ (w .ensures .0))
           _

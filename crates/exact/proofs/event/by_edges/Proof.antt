@@ -58,7 +58,7 @@ returns : tie.Need-returns Inv-loop μ-loop
 returns c =
     let early = c .before .before .before .before .before .before .before .before .before .before in
     let a = early .before .before .before .before .before .args in
-    let l = c .before .before .before .before .before .before .before .before .before .before .loop in
+    let l = early .loop in
     let w = early .before .before .wide32 in
     let next = c .before .before .before .before .before .before .after-edge in
     let add = c .before .before .before .before .add in
