@@ -1,11 +1,9 @@
 // The branch runner: follows the branches with the events left, and answers the accepting run that is least by start,
 // then edge by edge. No scratch: at most 12 events.
 ghost use mathlib.Core.Path.{_≡_};
-ghost use mathlib.Core.Bool.{false};
 ghost use mathlib.Core.List.{[]};
 ghost use Prim.Native.Nat.{_<_};
-ghost use lib.ListN.{set};
-ghost use Rattle.model.specs.Basics.{isIn, zeros};
+ghost use Rattle.model.specs.Basics.{isIn};
 ghost use Rattle.model.specs.Runs.{noPath, path};
 ghost use Rattle.model.specs.Layout.{locationsIn};
 ghost use Rattle.model.specs.Promises.{RunsBranches};
@@ -26,6 +24,7 @@ use model::Stamp;
 use rule::check_rule;
 use word::check_word;
 
+// No accepting run: all zero.
 pub(crate) fn no_branch() -> Branch
     ensures { λ r. ⌜ r ≡ placed 0 noPath ⌝ }
 {

@@ -1,6 +1,5 @@
 // One event: from the configurations in one bank to those that it leads to, in the other.
 ghost use Prim.Native.Nat.{_≤_};
-ghost use Rattle.ages.specs.Ages.{agesOf};
 ghost use Rattle.exact.specs.Banks.{configsAt, Holds};
 ghost use Rattle.exact.specs.Ready.{Roomy, byEdgesOf, byConfigsOf, Stepping};
 use crate::bank::Added;

@@ -91,6 +91,7 @@ pub(crate) fn full(place: usize) -> Answer
     }
 }
 
+// No refusal: 1 for yes, 0 for no.
 pub(crate) fn decided(yes: bool) -> Answer
     ensures { λ r. ⌜ (r ≡ record { number = 0; place = 0; value = oneIf yes }) ⌝ }
 {
