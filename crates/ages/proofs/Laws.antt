@@ -147,7 +147,8 @@ atom-number :
 atom-number t e j i =
     let a : 29 * e + 3 * j + 5 + i ≡ 29 * e + (5 + (3 * j + i)) = omega arith in
     rw a
-    (sym (getD-drop edgeFields (drop (edgeWidth * e) t) (3 * j + i) 0 ∙ getD-drop (edgeWidth * e) t (5 + (3 * j + i)) 0))
+    (sym
+    (getD-drop edgeFields (drop (edgeWidth * e) t) (3 * j + i) 0 ∙ getD-drop (edgeWidth * e) t (5 + (3 * j + i)) 0))
 
 -- The atoms still to come hold exactly if all do: those before held. The edge's numbers stand from `at` on.
 pub record Holding (d : ℕ) (ages : List ℕ) (e at count j : ℕ) (t : List ℕ) : Type 0 where
@@ -178,7 +179,8 @@ module _ {d : ℕ} {ages : List ℕ} {e at count j : ℕ} {t : List ℕ} (inv : 
         (sym (ap (holds d ages) (atoms-rest count j u h)) ∙ inv .rest-is)
 
     pub holding-next :
-        (r : Bool) → r ≡ atomHolds d ages (atomAt (at + 3 * j + 5) t) → not r ≡ false → Holding d ages e at count (j + 1) t
+        (r : Bool) → r ≡ atomHolds d ages (atomAt (at + 3 * j + 5) t) → not r ≡ false → Holding d ages e at count
+        (j + 1) t
     holding-next r a b = record {
       place-is = inv .place-is;
       turns = omega arith;
@@ -240,7 +242,9 @@ pub record SameRest (xs ys : List ℕ) (k : ℕ) : Type 0 where
   pub lengths-equal : length xs ≡ length ys
   pub rest-is : same (drop k xs) (drop k ys) ≡ same xs ys
 
-pub same-start : (k : ℕ) (one other : Ages) → length (one .of) ≡ 4 → length (other .of) ≡ 4 → SameRest (agesOf k one) (agesOf k other) 0
+pub same-start :
+    (k : ℕ) (one other : Ages) → length (one .of) ≡ 4 → length (other .of) ≡ 4
+    → SameRest (agesOf k one) (agesOf k other) 0
 same-start k one other a b =
     let e : length (numbersOf (one .of)) ≡ length (numbersOf (other .of)) =
     numbers-length (one .of) ∙ (a ∙ (sym b ∙ sym (numbers-length (other .of)))) in

@@ -21,7 +21,7 @@ use Rattle.model.proofs.Ages.{AtMost, older-most, zeroed-most}
 use Rattle.ages.specs.declared.Configuration.{Configuration}
 use Rattle.ages.specs.Ages.{agesOf, edgeAt, takes, Waited, Moved}
 use Rattle.ages.proofs.Moves.{waited-until, moved-ages}
-use Rattle.branch.specs.Branches.{placed, leastAt, Ready}
+use Rattle.branch.specs.Branches.{placed, withEdge, leastAt, Ready}
 
 -- A run in the twelve places. No run: all zero, wherever it would begin.
 pub nowhere : (depth : ℕ) (p : Path) → depth ≤ 12 → p .taken ≡ [] → placed 0 p ≡ placed depth p
@@ -64,7 +64,8 @@ unfolding leastFrom ruleIn
 at-end head edges d symbols stamps depth last from h = rw (events-end symbols stamps depth h)
 
 pub end-is :
-    (head : Head) (edges : List ℕ) (d : ℕ) (symbols stamps : List ℕ) (depth last : ℕ) (from : Configuration) (r : Branch)
+    (head : Head) (edges : List ℕ) (d : ℕ) (symbols stamps : List ℕ) (depth last : ℕ) (from : Configuration)
+    (r : Branch)
     → Ready head symbols stamps depth last from
     → length symbols ≤ depth
     → r ≡ placed 0 (path (isIn (from .location) (locationsIn (head .ends))) 0 [])
@@ -80,7 +81,8 @@ end-is head edges d symbols stamps depth last from r ready h e =
 module _ (head : Head) (edges : List ℕ) (d : ℕ) (symbols stamps : List ℕ) (depth : ℕ) (now : Configuration) where
   abbrev pub onward : ℕ → List ℕ → Path
   onward to ages =
-      leastFrom (ruleIn head edges) d (eventsOf (drop (depth + 1) symbols) (drop (depth + 1) stamps)) (getD stamps depth 0)
+      leastFrom (ruleIn head edges) d (eventsOf (drop (depth + 1) symbols) (drop (depth + 1) stamps))
+      (getD stamps depth 0)
       to
       ages
 
@@ -113,7 +115,8 @@ module _ (head : Head) (edges : List ℕ) (d : ℕ) (symbols stamps : List ℕ) 
       → tryFrom e ≡ pick (byEdge e .found) (path true 0 (e ∷ byEdge e .taken)) (tryFrom (e + 1))
   try-step e h =
       ap
-      (λ (es : List Edge). leastEdge e es d (now .location) (agesOf (head .clocks) (now .ages)) (eventAt symbols stamps depth) onward)
+      (λ (es : List Edge). leastEdge e es d (now .location) (agesOf (head .clocks) (now .ages))
+      (eventAt symbols stamps depth) onward)
       (edges-rest (head .count) e edges h)
       ∙ rw (add-one e)
 
@@ -129,7 +132,9 @@ module _ (head : Head) (edges : List ℕ) (d : ℕ) (symbols stamps : List ℕ) 
         }
 
     -- an edge that cannot be taken
-    pub trying-other : (r : Bool) → r ≡ takes d clocks (getD symbols depth 0) now (edgeAt e edges) → r ≡ false → Trying clocks count (e + 1)
+    pub trying-other :
+        (r : Bool) → r ≡ takes d clocks (getD symbols depth 0) now (edgeAt e edges) → r ≡ false
+        → Trying clocks count (e + 1)
     trying-other r t f = skip (rw (← inv .clocks-are, sym t ∙ f))
 
     module _ (next : Configuration) (moved : Moved (edgeAt e edges) now next) where
@@ -156,14 +161,7 @@ module _ (head : Head) (edges : List ℕ) (d : ℕ) (symbols stamps : List ℕ) 
           → r ≡ true
           → run ≡ placed (depth + 1) (leastAt head edges d symbols stamps (depth + 1) (getD stamps depth 0) next)
           → run .found ≡ true
-          → record {
-            number = run .number;
-            place = run .place;
-            found = run .found;
-            start = run .start;
-            edges = set (run .edges) depth e;
-          }
-          ≡ placed depth (tryFrom 0)
+          → withEdge run depth e ≡ placed depth (tryFrom 0)
       trying-found r run b t f p g =
           let q : Path = leastAt head edges d symbols stamps (depth + 1) (getD stamps depth 0) next in
           let found : q .found ≡ true = sym (ap (λ (x : Branch). x .found) p) ∙ g in
@@ -206,7 +204,8 @@ next-ready head edges symbols stamps depth last delay e from now next ready h b 
     let order = ordered-rest last symbols stamps depth h (ready .counts-equal) (ready .stamps-ordered) in
     let aged = waited-until (head .clocks) last (getD stamps depth 0) w q (ready .ages-most) (order .0) b in
     let most : AtMost (getD stamps depth 0) (agesOf (head .clocks) (now .ages)) =
-    rw aged (older-most last (getD stamps depth 0) (agesOf (head .clocks) (from .ages)) (ready .ages-most) (order .0)) in
+    rw aged
+    (older-most last (getD stamps depth 0) (agesOf (head .clocks) (from .ages)) (ready .ages-most) (order .0)) in
     record {
       depth-in = omega arith;
       counts-equal = ready .counts-equal;

@@ -5,22 +5,21 @@ use mathlib.Core.List.{List, [], _∷_}
 use Prim.Native.Nat.{ℕ, suc, _+_, _-_, _≤_, _<_}
 use native.Mathlib.Omega.{arith}
 use native.Mathlib.Numerals.{add-one}
-use borrow.Author.Tests.{ne-eqb}
 use Rattle.model.specs.declared.Head.{Head}
 use Rattle.model.specs.declared.Answer.{Answer}
 use Rattle.model.specs.declared.Branch.{Branch}
-use Rattle.model.specs.Basics.{pick, zeros, bit, bitsFrom, Refusal, fine}
-use Rattle.model.specs.Words.{mostBranchEvents, eventsOf, wordRefusal}
+use Rattle.model.specs.Basics.{pick, zeros, bit, bitsFrom, fine}
+use Rattle.model.specs.Words.{mostBranchEvents, eventsOf}
 use Rattle.model.specs.Runs.{startAges, Path, path, noPath, leastFrom, leastStart, leastRun}
-use Rattle.model.specs.Layout.{ruleIn, ruleRefusal}
-use Rattle.model.specs.Promises.{ChecksRule, ChecksWord, branchOf, RunsBranches}
+use Rattle.model.specs.Layout.{ruleIn}
+use Rattle.model.specs.Promises.{branchOf, RunsBranches}
 use Rattle.model.proofs.Logic.{no-way, by-test}
-use Rattle.model.proofs.Inputs.{rule-first, then-word, Checked, checked}
+use Rattle.model.proofs.Inputs.{Refused, Checked}
 use Rattle.model.proofs.Ages.{zeros-most, bits-more, bits-skip}
 use Rattle.ages.specs.declared.Configuration.{Configuration}
 use Rattle.ages.specs.Ages.{numbersOf}
 use Rattle.ages.proofs.Moves.{start-ages}
-use Rattle.branch.specs.Branches.{placed, leastAt, begun, leastOf, Ready, Begins}
+use Rattle.branch.specs.Branches.{placed, withStart, refusedBy, leastAt, begun, leastOf, Ready, Begins}
 
 -- before the first event, all ages 0
 pub start-ready :
@@ -90,8 +89,7 @@ module _ (head : Head) (edges : List ℕ) (d : ℕ) (symbols stamps : List ℕ) 
 
         pub starting-found :
             (run : Branch) → run ≡ placed 0 (leastAt head edges d symbols stamps 0 0 from) → run .found ≡ true
-            → record { number = run .number; place = run .place; found = run .found; start = l; edges = run .edges }
-            ≡ begun (leastOf head edges d symbols stamps)
+            → withStart run l ≡ begun (leastOf head edges d symbols stamps)
         starting-found run p f =
             let q : run ≡ placed 0 (runFrom l) = p ∙ ap (λ (x : Path). placed 0 x) run-is in
             let found : runFrom l .found ≡ true = sym (ap (λ (x : Branch). x .found) q) ∙ f in
@@ -115,72 +113,34 @@ not-found head edges d symbols stamps (l ∷ ls) h =
     (λ e. no-way (sym (rw e at h)))
     (λ e. rw e (not-found head edges d symbols stamps ls (rw e at h)))
 
--- What the runner answers: the refusal with all else zero, or the least run.
-pub refused-is :
-    (f : Refusal) (p : Path) → (f .number ≡ 0 → ⊥)
-    → record { number = f .number; place = f .place; found = false; start = 0; edges = zeros 12 } ≡ branchOf f p
-refused-is f p n = rw (ne-eqb (f .number) 0 n)
-
 begun-is : (p : Path) → (p .found ≡ false → p ≡ noPath) → begun p ≡ branchOf fine p
 begun-is p none = by-test (p .found) (λ e. rw e) (λ e. rw (none e))
 
+-- What the runner answers: the refusal with all else zero, or the least run.
 module _ (head : Head) (edges : List ℕ) (d : ℕ) (symbols stamps : List ℕ) where
-  abbrev word : Refusal
-  word = wordRefusal (head .symbols) d mostBranchEvents symbols stamps
-
-  pub rule-refuses :
-      (a : Answer) (r : Branch) → ChecksRule head edges a → (a .number ≡ 0 → ⊥)
-      → r ≡ record { number = a .number; place = a .place; found = false; start = 0; edges = zeros 12 }
+  pub refusal-is :
+      (a : Answer) (r : Branch) → Refused head edges d mostBranchEvents symbols stamps a
+      → r ≡ refusedBy (a .number) (a .place)
       → RunsBranches head edges d symbols stamps r
-  rule-refuses a r c n e =
-      let f : Refusal = ruleRefusal head edges in
-      let m : f .number ≡ 0 → ⊥ = λ z. n (ap (λ (x : Answer). x .number) (c .answer-is) ∙ z) in
-      record {
-        answer-is =
-            e
-            ∙ (rw (c .answer-is, rule-first head edges d mostBranchEvents symbols stamps m)
-            (refused-is f (leastOf head edges d symbols stamps) m));
-      }
+  refusal-is a r f e = record { answer-is = e ∙ rw (f .answer-is, f .not-passed) }
 
-  module _ (a b : Answer) (c : ChecksRule head edges a) (w : ChecksWord (head .symbols) d 12 symbols stamps b) (z : a .number ≡ 0) where
-    rule-passes : ruleRefusal head edges .number ≡ 0
-    rule-passes = sym (ap (λ (x : Answer). x .number) (c .answer-is)) ∙ z
+  module _ (c : Checked head edges d mostBranchEvents symbols stamps) where
+    pub begins : Begins head symbols stamps
+    begins = record {
+      clocks-most = c .clocks-most;
+      edges-most = c .count-most;
+      counts-equal = c .keeps .lengths-equal;
+      events-most = c .keeps .events-most;
+      stamps-ordered = c .keeps .stamps-ordered;
+    }
 
-    pub word-refuses :
-        (r : Branch) → (b .number ≡ 0 → ⊥)
-        → r ≡ record { number = b .number; place = b .place; found = false; start = 0; edges = zeros 12 }
-        → RunsBranches head edges d symbols stamps r
-    word-refuses r n e =
-        let m : word .number ≡ 0 → ⊥ = λ q. n (ap (λ (x : Answer). x .number) (w .answer-is) ∙ q) in
-        record {
-          answer-is =
-              e
-              ∙ (rw (w .answer-is, then-word head edges d mostBranchEvents symbols stamps rule-passes)
-              (refused-is word (leastOf head edges d symbols stamps) m));
-        }
-
-    module _ (y : b .number ≡ 0) where
-      both-pass : Checked head edges d mostBranchEvents symbols stamps
-      both-pass =
-          checked head edges d mostBranchEvents symbols stamps rule-passes
-          (sym (ap (λ (x : Answer). x .number) (w .answer-is)) ∙ y)
-
-      pub begins : Begins head symbols stamps
-      begins = record {
-        clocks-most = both-pass .clocks-most;
-        edges-most = both-pass .count-most;
-        counts-equal = both-pass .keeps .lengths-equal;
-        events-most = both-pass .keeps .events-most;
-        stamps-ordered = both-pass .keeps .stamps-ordered;
-      }
-
-      pub run-is-least :
-          (r : Branch) → r ≡ begun (leastOf head edges d symbols stamps) → RunsBranches head edges d symbols stamps r
-      unfolding leastRun
-      run-is-least r e = record {
-        answer-is =
-            e
-            ∙ rw (both-pass .passes-both)
-            (begun-is (leastOf head edges d symbols stamps)
-            (not-found head edges d symbols stamps (ruleIn head edges .initial)));
-      }
+    pub run-is-least :
+        (r : Branch) → r ≡ begun (leastOf head edges d symbols stamps) → RunsBranches head edges d symbols stamps r
+    unfolding leastRun
+    run-is-least r e = record {
+      answer-is =
+          e
+          ∙ rw (c .passes-both)
+          (begun-is (leastOf head edges d symbols stamps)
+          (not-found head edges d symbols stamps (ruleIn head edges .initial)));
+    }

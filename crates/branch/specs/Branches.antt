@@ -1,8 +1,9 @@
 -- A branch record as a run from some event on, and what must hold there.
 use mathlib.Core.Path.{_≡_}
+use mathlib.Core.Bool.{false}
 use mathlib.Core.List.{List, _++_}
 use Prim.Native.Nat.{ℕ, _-_, _≤_}
-use lib.ListN.{length, drop}
+use lib.ListN.{length, set, drop}
 use Rattle.model.specs.declared.Head.{Head}
 use Rattle.model.specs.declared.Branch.{Branch}
 use Rattle.model.specs.Basics.{zeros, filled}
@@ -23,6 +24,29 @@ placed depth p = record {
   start = 0;
   edges = zeros depth ++ filled (mostBranchEvents - depth) (p .taken);
 }
+
+-- the run with edge e at a place, and with its start
+abbrev pub withEdge : Branch → ℕ → ℕ → Branch
+withEdge run depth e = record {
+  number = run .number;
+  place = run .place;
+  found = run .found;
+  start = run .start;
+  edges = set (run .edges) depth e;
+}
+
+abbrev pub withStart : Branch → ℕ → Branch
+withStart run l = record {
+  number = run .number;
+  place = run .place;
+  found = run .found;
+  start = l;
+  edges = run .edges;
+}
+
+-- a refusal, all else zero
+abbrev pub refusedBy : ℕ → ℕ → Branch
+refusedBy n p = record { number = n; place = p; found = false; start = 0; edges = zeros mostBranchEvents }
 
 -- the least accepting run from a configuration, over the events from `depth` on, after the stamp `last`
 abbrev pub leastAt : Head → List ℕ → ℕ → List ℕ → List ℕ → ℕ → ℕ → Configuration → Path

@@ -1,15 +1,14 @@
 // The branch runner: follows the branches with the events left, and answers the accepting run that is least by start,
 // then edge by edge. No scratch: at most 12 events.
 ghost use mathlib.Core.Path.{_≡_};
-ghost use mathlib.Core.Bool.{false};
 ghost use mathlib.Core.List.{[]};
 ghost use Prim.Native.Nat.{_<_};
-ghost use lib.ListN.{set};
-ghost use Rattle.model.specs.Basics.{isIn, zeros};
+ghost use Rattle.model.specs.Basics.{isIn};
 ghost use Rattle.model.specs.Runs.{noPath, path};
 ghost use Rattle.model.specs.Layout.{locationsIn};
 ghost use Rattle.model.specs.Promises.{RunsBranches};
-ghost use Rattle.branch.specs.Branches.{placed, leastAt, begun, leastOf, Ready, Begins};
+ghost use Rattle.branch.specs.Branches.{placed, begun, withEdge, withStart, refusedBy, leastAt, leastOf};
+ghost use Rattle.branch.specs.Branches.{Ready, Begins};
 use ages::Configuration;
 use ages::after_delay;
 use ages::after_edge;
@@ -25,6 +24,7 @@ use model::Stamp;
 use rule::check_rule;
 use word::check_word;
 
+// No accepting run: all zero.
 pub(crate) fn no_branch() -> Branch
     ensures { λ r. ⌜ r ≡ placed 0 noPath ⌝ }
 {
@@ -49,7 +49,7 @@ pub(crate) fn ended(ends: u32, location: u32) -> Branch
 // The run with edge `e` for event `depth`.
 pub(crate) fn with_edge(run: Branch, depth: usize, e: u16) -> Branch
     requires { ⌜ depth < 12 ⌝ }
-    ensures { λ r. ⌜ (r ≡ record { number = run .number; place = run .place; found = run .found; start = run .start; edges = set (run .edges) depth e }) ⌝ }
+    ensures { λ r. ⌜ r ≡ withEdge run depth e ⌝ }
 {
     let mut branch = run;
     branch.edges[depth] = e;
@@ -68,7 +68,8 @@ pub(crate) fn least_from(
     from: Configuration,
 ) -> Branch
     requires { ⌜ Ready head (now symbols) (now stamps) depth (last .0) from ⌝ }
-    ensures { λ r. ⌜ r ≡ placed depth (leastAt head (now (edges .entry)) grain (now (symbols .entry)) (now (stamps .entry)) depth (last .0) from) ⌝ }
+    ensures { λ r. ⌜ r ≡ placed depth
+        (leastAt head (now (edges .entry)) grain (now (symbols .entry)) (now (stamps .entry)) depth (last .0) from) ⌝ }
 {
     if symbols.len() <= depth {
         return ended(head.ends, from.location);
@@ -93,7 +94,7 @@ pub(crate) fn least_from(
 
 // The run from location `start`.
 pub(crate) fn with_start(run: Branch, start: u16) -> Branch
-    ensures { λ r. ⌜ (r ≡ record { number = run .number; place = run .place; found = run .found; start = start; edges = run .edges }) ⌝ }
+    ensures { λ r. ⌜ r ≡ withStart run start ⌝ }
 {
     let mut branch = run;
     branch.start = start;
@@ -109,7 +110,8 @@ pub(crate) fn least_start(
     stamps: &[u32],
 ) -> Branch
     requires { ⌜ Begins head (now symbols) (now stamps) ⌝ }
-    ensures { λ r. ⌜ r ≡ begun (leastOf head (now (edges .entry)) grain (now (symbols .entry)) (now (stamps .entry))) ⌝ }
+    ensures { λ r. ⌜ r ≡ begun
+        (leastOf head (now (edges .entry)) grain (now (symbols .entry)) (now (stamps .entry))) ⌝ }
 {
     let starts = wide32(head.starts);
     let mut l: u16 = 0;
@@ -128,7 +130,7 @@ pub(crate) fn least_start(
 
 // A refusal: its number and place, all else zero.
 pub(crate) fn refused(number: u8, place: usize) -> Branch
-    ensures { λ r. ⌜ (r ≡ record { number = number; place = place; found = false; start = 0; edges = zeros 12 }) ⌝ }
+    ensures { λ r. ⌜ r ≡ refusedBy number place ⌝ }
 {
     Branch {
         number,

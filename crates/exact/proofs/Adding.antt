@@ -1,24 +1,24 @@
 -- Adding to a bank: the search through it, the stores of one configuration, and the three ways that adding ends.
-use mathlib.Core.Path.{_≡_, refl, sym, _∙_, ap, ap₂}
-use mathlib.Core.Bool.{Bool, true, false, _&&_, _||_}
+use mathlib.Core.Path.{_≡_, refl, sym, _∙_, ap}
+use mathlib.Core.Bool.{Bool, true, false, _||_}
 use mathlib.Core.List.{List, [], _∷_, _++_}
-use Prim.Native.Nat.{ℕ, zero, suc, _+_, _-_, _*_, _≤_, _<_}
+use Prim.Native.Nat.{ℕ, suc, _+_, _-_, _*_, _≤_, _<_}
 use native.Mathlib.Omega.{arith}
 use native.Mathlib.Nat.{mul-le-mul-right, suc-mul, zero-mul}
 use native.Mathlib.Numerals.{add-one}
-use lib.ListN.{length, getD, set, take, drop, length-set, length-append, length-take, drop-of-length-le}
-use lib.Seq.{sets, length-sets, drop-cons, length-take-le}
-use Rattle.model.specs.Basics.{pick}
-use Rattle.model.specs.Runs.{Config, config, hasConfig, withConfig}
+use lib.ListN.{length, getD, set, drop, length-set, length-append, drop-of-length-le}
+use lib.Seq.{sets, drop-cons, length-take-le}
+use Rattle.model.specs.Runs.{Config, hasConfig, withConfig}
 use Rattle.ages.specs.declared.Ages.{Ages}
 use Rattle.ages.specs.declared.Configuration.{Configuration}
 use Rattle.ages.specs.Ages.{numbersOf, agesOf, configOf, sameConfig}
 use Rattle.ages.proofs.Laws.{numbers-length}
 use Rattle.exact.specs.declared.bank.Added.{Added}
 use Rattle.exact.specs.declared.bank.Added.the-variants.{Count, Full}
-use Rattle.exact.specs.Banks.{numbersAt, configAt, configsAt, numbersIn, Loaded, Holds}
+use Rattle.exact.specs.Banks.{numbersAt, configsAt, numbersIn, Loaded, Holds}
 use Rattle.exact.specs.Ready.{Roomy}
-use Rattle.exact.proofs.Banks.{configs-length, configs-snoc, configs-rest, loaded-is, written-there, written-before}
+use Rattle.exact.proofs.Banks.{configs-length, configs-snoc, configs-rest, loaded-is, written-there}
+use Rattle.exact.proofs.Banks.{written-before}
 
 -- four numbers that were read one after another
 pub four-read :
@@ -103,6 +103,16 @@ module _ {k n i at : ℕ} {c : Config} {s : List ℕ} (inv : Looking k n i at c 
 pub look-none :
     {k n i at : ℕ} {c : Config} {s : List ℕ} → Looking k n i at c s → n ≤ i → false ≡ hasConfig c (configsAt k n 0 s)
 look-none {n = n} {i = i} inv h = let e : n - i ≡ 0 = omega arith in rw e at (inv .rest-is)
+
+-- with as many numbers, and no more there than there is room
+pub still-roomy :
+    (k room m : ℕ) {n : ℕ} {s : List ℕ} (s′ : List ℕ) → Roomy k room n s → m ≤ room → length s′ ≡ length s
+    → Roomy k room m s′
+still-roomy k room m s′ ready h e = record {
+  clocks-most = ready .clocks-most;
+  bank-fits = omega (arith, ready .bank-fits);
+  count-most = h;
+}
 
 -- what is there fits, and one more where there is room
 pub there-fits : (k room n : ℕ) (s : List ℕ) → Roomy k room n s → n * (k + 1) ≤ length s

@@ -1,15 +1,15 @@
 -- A bank by place: what stands at places that two lists agree on, one configuration more, and one that was written.
-use mathlib.Core.Path.{_≡_, refl, sym, _∙_, ap, ap₂}
+use mathlib.Core.Path.{_≡_, refl, _∙_, ap, ap₂}
 use mathlib.Core.List.{List, [], _∷_, _++_}
 use Prim.Native.Nat.{ℕ, zero, suc, _+_, _-_, _*_, _≤_, _<_}
 use native.Mathlib.Omega.{arith}
-use native.Mathlib.Nat.{mul-le-mul-right, suc-mul, zero-mul}
+use native.Mathlib.Nat.{suc-mul, zero-mul}
 use native.Mathlib.Numerals.{add-one}
 use lib.ListN.{length, getD, set, take, length-set}
-use lib.Seq.{sets, getD-set-same, getD-set-other, length-sets}
+use lib.Seq.{sets, getD-set-same, getD-set-other}
 use Rattle.model.specs.Runs.{Config, config}
 use Rattle.ages.specs.declared.Configuration.{Configuration}
-use Rattle.ages.specs.Ages.{agesOf, configOf}
+use Rattle.ages.specs.Ages.{configOf}
 use Rattle.exact.specs.Banks.{numbersAt, configAt, configsAt, numbersIn, Loaded}
 
 -- s, from `base` on, and t have the same numbers at the places from lo to below hi

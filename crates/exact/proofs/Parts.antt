@@ -1,13 +1,12 @@
 -- A bank as a part of the scratch: what is read in the part, and what the whole holds once the part is back.
-use mathlib.Core.Path.{_≡_, refl, sym, _∙_, ap}
-use mathlib.Core.List.{List, [], _∷_, _++_}
-use Prim.Native.Nat.{ℕ, zero, suc, _+_, _-_, _*_, _≤_, _<_}
+use mathlib.Core.Path.{_≡_, sym, _∙_, ap}
+use mathlib.Core.List.{List, _++_}
+use Prim.Native.Nat.{ℕ, _+_, _-_, _*_, _≤_, _<_}
 use native.Mathlib.Omega.{arith}
-use lib.ListN.{length, getD, take, drop, length-append, length-take, length-drop, List·getD-append}
+use lib.ListN.{length, getD, take, drop, length-append, length-drop, List·getD-append}
 use lib.Seq.{getD-take, getD-drop, getD-append-add, length-take-le}
-use Rattle.model.specs.Runs.{Config}
 use Rattle.exact.specs.Banks.{configsAt}
-use Rattle.exact.proofs.Banks.{Agree, configs-agree}
+use Rattle.exact.proofs.Banks.{configs-agree}
 
 -- the part of s from `to` on, so many numbers
 abbrev pub part : ℕ → ℕ → List ℕ → List ℕ

@@ -1,34 +1,34 @@
 -- The events one after another: the refusal met and what is accepted, from the configurations so far over the events
 -- still to come, are those of the whole word.
-use mathlib.Core.Path.{_≡_, refl, sym, _∙_, ap, ap₂}
-use mathlib.Core.Bool.{Bool, true, false}
+use mathlib.Core.Path.{_≡_, refl, sym, _∙_, ap}
+use mathlib.Core.Bool.{Bool}
 use mathlib.Core.Logic.{_⊎_, inl, inr}
 use mathlib.Core.List.{List, [], _∷_}
-use Prim.Native.Nat.{ℕ, suc, _+_, _-_, _*_, _^_, _≤_, _<_}
+use Prim.Native.Nat.{ℕ, _+_, _-_, _*_, _^_, _≤_, _<_}
 use native.Mathlib.Omega.{arith}
 use native.Mathlib.Nat.{mul-le-mul-right}
 use native.Mathlib.Numerals.{add-one}
-use lib.Dec.{ltb}
 use lib.ListN.{length, getD, drop}
 use borrow.Author.Tests.{lt-ltb, le-ltb}
 use Rattle.model.specs.declared.Head.{Head}
 use Rattle.model.specs.declared.Answer.{Answer}
-use Rattle.model.specs.Basics.{oneIf, Refusal, fine, refusal}
+use Rattle.model.specs.Basics.{oneIf, fine, refusal}
 use Rattle.model.specs.Rules.{Rule}
 use Rattle.model.specs.Words.{Event, eventsOf}
 use Rattle.model.specs.Runs.{accepts, Config, byConfigs, startConfigs, roomRefusalFrom, roomRefusal}
-use Rattle.model.specs.Layout.{locationsIn, ruleIn}
+use Rattle.model.specs.Layout.{ruleIn}
 use Rattle.model.specs.Promises.{answerOf}
 use Rattle.model.proofs.Words.{Ordered}
 use Rattle.model.proofs.Events.{eventAt, events-rest, events-end}
 use Rattle.model.proofs.Inputs.{ordered-rest}
-use Rattle.model.proofs.Configs.{acceptsSome, event-some, start-some, end-some, Aged, aged-start, aged-configs, configs-symbol}
-use Rattle.ages.specs.Ages.{mostAge, withSymbol}
+use Rattle.model.proofs.Configs.{acceptsSome, event-some, start-some, end-some, Aged, aged-start, aged-configs}
+use Rattle.model.proofs.Configs.{configs-symbol}
+use Rattle.ages.specs.Ages.{withSymbol}
 use Rattle.exact.specs.declared.bank.Added.{Added}
 use Rattle.exact.specs.declared.bank.Added.the-variants.{Count, Full}
 use Rattle.exact.specs.Banks.{configsAt, Holds, refusalOf}
-use Rattle.exact.specs.Ready.{Banks, byConfigsOf, Stepping}
-use Rattle.exact.specs.Runs.{startsOver, anyFinal, answerWith, Begins, Started}
+use Rattle.exact.specs.Ready.{byConfigsOf, Stepping}
+use Rattle.exact.specs.Runs.{anyFinal, answerWith, Begins, Started}
 use Rattle.exact.proofs.Banks.{configs-length}
 use Rattle.exact.proofs.Starting.{starts-are}
 
@@ -111,7 +111,8 @@ module _ (head : Head) (edges : List ℕ) (d : ℕ) (symbols stamps : List ℕ) 
         accepts-is = rw there (start-some rule d (eventsOf symbols stamps));
       }
 
-  module _ {n from last i len : ℕ} {s : List ℕ} (inv : Running n from last i len s) (h : i < length symbols) (to delay : ℕ)
+  module _ {n from last i len : ℕ} {s : List ℕ} (inv : Running n from last i len s) (h : i < length symbols)
+      (to delay : ℕ)
       (to-is : to ≡ size - from) (delay-is : delay ≡ getD stamps i 0 - last) (small : getD stamps i 0 < 2 ^ 32) where
     abbrev now-there : List Config
     now-there = configsAt (head .clocks) n from s
@@ -129,7 +130,8 @@ module _ (head : Head) (edges : List ℕ) (d : ℕ) (symbols stamps : List ℕ) 
     after-is : byConfigsOf head edges d (getD symbols i 0) delay now-there ≡ after
     after-is =
         rw delay-is
-        (configs-symbol rule d (withSymbol (getD symbols i 0)) (eventAt symbols stamps i) (getD stamps i 0 - last) now-there []
+        (configs-symbol rule d (withSymbol (getD symbols i 0)) (eventAt symbols stamps i) (getD stamps i 0 - last)
+        now-there []
         refl)
 
     apart : (from + size ≤ to) ⊎ (to + size ≤ from)
@@ -141,7 +143,9 @@ module _ (head : Head) (edges : List ℕ) (d : ℕ) (symbols stamps : List ℕ) 
       banks =
           record {
             clocks-most = inv .begins .clocks-most;
-            from-fits = elim (inv .from-is) [ inl e ↦ omega (arith, inv .banks-fit) | inr e ↦ omega (arith, inv .banks-fit) ];
+            from-fits =
+                elim (inv .from-is)
+                [ inl e ↦ omega (arith, inv .banks-fit) | inr e ↦ omega (arith, inv .banks-fit) ];
             to-fits = omega (arith, inv .banks-fit);
             apart = apart;
             count-most = inv .count-most;
@@ -190,7 +194,8 @@ module _ (head : Head) (edges : List ℕ) (d : ℕ) (symbols stamps : List ℕ) 
             from-is = elim (inv .from-is) [ inl e ↦ inr (omega arith) | inr e ↦ inl (omega arith) ];
             aged =
                 rw (there .1)
-                (aged-configs rule d (eventAt symbols stamps i) last (getD stamps i 0) now-there [] (in-order .0) (inv .aged)
+                (aged-configs rule d (eventAt symbols stamps i) last (getD stamps i 0) now-there [] (in-order .0)
+                (inv .aged)
                 tt);
             ordered = in-order .1;
             refusal-is = rw (there .1) next-refusal;

@@ -1,14 +1,13 @@
--- The configurations that the edges lead to from one: those added, with the edges still to try, are what all edges give.
+-- The configurations that the edges lead to from one: those added, with the edges still to try, are what all give.
 use mathlib.Core.Path.{_≡_, refl, sym, _∙_, ap, ap₂}
 use mathlib.Core.Bool.{Bool, true, false}
-use mathlib.Core.List.{List, [], _∷_}
-use Prim.Native.Nat.{ℕ, suc, _+_, _-_, _*_, _≤_, _<_}
+use mathlib.Core.List.{List}
+use Prim.Native.Nat.{ℕ, _+_, _-_, _*_, _≤_, _<_}
 use native.Mathlib.Omega.{arith}
 use lib.ListN.{length, drop}
-use Rattle.model.specs.declared.Head.{Head}
 use Rattle.model.specs.Basics.{pick}
 use Rattle.model.specs.Rules.{Edge}
-use Rattle.model.specs.Runs.{zeroed, canTake, Config, config, withConfig, byEdges}
+use Rattle.model.specs.Runs.{zeroed, Config, config, withConfig, byEdges}
 use Rattle.model.specs.Layout.{edgeWidth, edgesIn}
 use Rattle.model.proofs.EdgeTable.{edges-rest}
 use Rattle.model.proofs.Configs.{edges-grow}
@@ -18,6 +17,7 @@ use Rattle.ages.proofs.Moves.{moved-ages}
 use Rattle.exact.specs.declared.bank.Added.{Added}
 use Rattle.exact.specs.declared.bank.Added.the-variants.{Count, Full}
 use Rattle.exact.specs.Banks.{configsAt, Holds}
+use Rattle.exact.proofs.Adding.{still-roomy}
 use Rattle.exact.specs.Ready.{Roomy, byEdgesOf}
 
 module _ (k count : ℕ) (edges : List ℕ) (d symbol : ℕ) (from : Configuration) (room : ℕ) where
@@ -54,7 +54,8 @@ module _ (k count : ℕ) (edges : List ℕ) (d symbol : ℕ) (from : Configurati
       ap (λ (es : List Edge). byEdges d (withSymbol symbol) (from .location) (agesOf k (from .ages)) es cs)
       (edges-rest count e edges h)
 
-  module _ {held e : ℕ} {all : List Config} {len : ℕ} {bank : List ℕ} (inv : Spreading held e all len bank) (h : e < count)
+  module _ {held e : ℕ} {all : List Config} {len : ℕ} {bank : List ℕ} (inv : Spreading held e all len bank)
+      (h : e < count)
       (r : Bool) (test : r ≡ takes d k symbol from (edgeAt e edges)) where
     -- an edge that cannot be taken
     pub spreading-other : r ≡ false → Spreading held (e + 1) all len bank
@@ -83,12 +84,7 @@ module _ (k count : ℕ) (edges : List ℕ) (d symbol : ℕ) (from : Configurati
             let there = rw q at holds in
             record {
               turns = omega arith;
-              roomy =
-                  record {
-                    clocks-most = inv .roomy .clocks-most;
-                    bank-fits = omega (arith, inv .roomy .bank-fits);
-                    count-most = there .0;
-                  };
+              roomy = still-roomy k room more bank′ (inv .roomy) (there .0) l;
               length-is = l ∙ inv .length-is;
               rest-is = ap (spreadFrom (e + 1)) (there .1) ∙ then-rest;
             }
@@ -112,7 +108,8 @@ module _ (k count : ℕ) (edges : List ℕ) (d symbol : ℕ) (from : Configurati
 
 -- the clocks that were read are the head's
 pub clocks-known :
-    (k k′ count : ℕ) (edges : List ℕ) (d symbol : ℕ) (from : Configuration) (room n : ℕ) (bank bank′ : List ℕ) (added : Added)
+    (k k′ count : ℕ) (edges : List ℕ) (d symbol : ℕ) (from : Configuration) (room n : ℕ) (bank bank′ : List ℕ)
+    (added : Added)
     → k ≡ k′
     → Holds k room 0 (byEdgesOf k count edges d symbol from (configsAt k n 0 bank)) bank′ added
     → Holds k′ room 0 (byEdgesOf k′ count edges d symbol from (configsAt k′ n 0 bank)) bank′ added

@@ -18,7 +18,8 @@ use Rattle.ages.specs.Ages.{numbersOf, configOf}
 use Rattle.ages.proofs.Moves.{start-ages}
 use Rattle.exact.specs.declared.bank.Added.{Added}
 use Rattle.exact.specs.declared.bank.Added.the-variants.{Count, Full}
-use Rattle.exact.specs.Banks.{configAt, configsAt, Holds}
+use Rattle.exact.specs.Banks.{configsAt, Holds}
+use Rattle.exact.proofs.Adding.{still-roomy}
 use Rattle.exact.specs.Ready.{Roomy}
 use Rattle.exact.specs.Runs.{startsAt, startsOver, anyFinal}
 use Rattle.exact.proofs.Banks.{configs-rest}
@@ -71,7 +72,11 @@ module _ (k mask room : ℕ) where
           ≡ startsOver k mask
       then-rest =
           let set : bit l mask ≡ true = rw e at (sym test ∙ yes) in
-          rw (config-is, append-assoc (configsAt k n 0 bank) (config l (zeros k) ∷ []) (startsAt k (bitsFrom (32 - (l + 1)) (l + 1) mask)))
+          rw (
+            config-is,
+            append-assoc (configsAt k n 0 bank) (config l (zeros k) ∷ [])
+                (startsAt k (bitsFrom (32 - (l + 1)) (l + 1) mask)),
+          )
           (rw (left, bits-more (32 - (l + 1)) l mask set, ← add-one l) at (inv .rest-is))
 
       module _ (bank′ : List ℕ) (added : Added)
@@ -82,12 +87,7 @@ module _ (k mask room : ℕ) where
             let there = rw q at holds in
             record {
               turns = omega arith;
-              roomy =
-                  record {
-                    clocks-most = inv .roomy .clocks-most;
-                    bank-fits = omega (arith, inv .roomy .bank-fits);
-                    count-most = there .0;
-                  };
+              roomy = still-roomy k room more bank′ (inv .roomy) (there .0) same;
               length-is = same ∙ inv .length-is;
               rest-is = rw (there .1) then-rest;
             }
@@ -96,10 +96,16 @@ module _ (k mask room : ℕ) where
         starting-full q =
             let cs : List Config = configsAt k n 0 bank ++ (configOf k c ∷ []) in
             let over : room < length cs = rw q at holds in
-            omega
-            (arith, over, length-append cs (startsAt k (bitsFrom (32 - (l + 1)) (l + 1) mask)), ap (λ (x : List Config). length x) then-rest)
+            omega (
+              arith,
+              over,
+              length-append cs (startsAt k (bitsFrom (32 - (l + 1)) (l + 1) mask)),
+              ap (λ (x : List Config). length x) then-rest,
+            )
 
-  pub started : {n l len : ℕ} {bank : List ℕ} → Starting n l len bank → 32 ≤ l → Holds k room 0 (startsOver k mask) bank (Count n)
+  pub started :
+      {n l len : ℕ} {bank : List ℕ} → Starting n l len bank → 32 ≤ l
+      → Holds k room 0 (startsOver k mask) bank (Count n)
   unfolding bitsFrom
   started {n = n} {l = l} {bank = bank} inv h =
       let z : 32 - l ≡ 0 = omega arith in

@@ -1,7 +1,7 @@
 -- Configurations in a lent list of numbers: k + 1 numbers each, the location and then the ages of k clocks.
 use mathlib.Core.Path.{_≡_}
 use mathlib.Core.List.{List, [], _∷_}
-use Prim.Native.Nat.{ℕ, zero, suc, _+_, _*_, _≤_, _<_}
+use Prim.Native.Nat.{ℕ, zero, suc, _+_, _≤_, _<_}
 use lib.ListN.{length, getD}
 use Rattle.model.specs.Basics.{Refusal, fine, refusal}
 use Rattle.model.specs.Runs.{Config, config}
@@ -32,7 +32,7 @@ pub record Loaded (at : ℕ) (s : List ℕ) (c : Configuration) : Type 0 where
   pub location-is : c .location ≡ getD s at 0
   pub ages-are : numbersOf (c .ages .of) ≡ numbersAt 4 (at + 1) s
 
--- What adding answers. Count: so many stand from place `at` on, and they are cs. Full: there are more than there is room.
+-- What adding answers. Count: so many stand from place `at` on, and they are cs. Full: cs are more than there is room.
 abbrev pub Holds : ℕ → ℕ → ℕ → List Config → List ℕ → Added → Type 0
 Holds k room at cs s (Count n) = (n ≤ room) × (configsAt k n at s ≡ cs)
 Holds k room at cs s Full = room < length cs

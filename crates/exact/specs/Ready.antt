@@ -1,6 +1,6 @@
 -- What must hold where configurations are added to a bank, and where an event goes from one bank to the other.
 use mathlib.Core.Logic.{_⊎_}
-use mathlib.Core.List.{List, [], _∷_}
+use mathlib.Core.List.{List, []}
 use Prim.Native.Nat.{ℕ, _+_, _*_, _≤_}
 use lib.ListN.{length}
 use Rattle.model.specs.declared.Head.{Head}

@@ -94,7 +94,8 @@ pub(crate) fn append(
     c: Configuration,
 ) -> Added
     requires { ⌜ Roomy clocks room n (now bank) ⌝ }
-    ensures { λ r. ⌜ Holds clocks room 0 (configsAt clocks n 0 (now (bank .entry)) ++ (configOf clocks c ∷ [])) (now (bank .exit)) r ⌝ }
+    ensures { λ r. ⌜ Holds clocks room 0 (configsAt clocks n 0 (now (bank .entry)) ++ (configOf clocks c ∷ []))
+        (now (bank .exit)) r ⌝ }
 {
     if room <= n {
         return Added::Full;
@@ -106,7 +107,8 @@ pub(crate) fn append(
 // The bank with the configuration, unless it is there already.
 pub(crate) fn add(bank: &mut [u32], clocks: usize, room: usize, n: usize, c: Configuration) -> Added
     requires { ⌜ Roomy clocks room n (now bank) ⌝ }
-    ensures { λ r. ⌜ Holds clocks room 0 (withConfig (configOf clocks c) (configsAt clocks n 0 (now (bank .entry)))) (now (bank .exit)) r ⌝ }
+    ensures { λ r. ⌜ Holds clocks room 0 (withConfig (configOf clocks c) (configsAt clocks n 0 (now (bank .entry))))
+        (now (bank .exit)) r ⌝ }
 {
     if has_config(bank, clocks, n, c) {
         return Added::Count(n);

@@ -1,6 +1,5 @@
 // One event: from the configurations in one bank to those that it leads to, in the other.
 ghost use Prim.Native.Nat.{_≤_};
-ghost use Rattle.ages.specs.Ages.{agesOf};
 ghost use Rattle.exact.specs.Banks.{configsAt, Holds};
 ghost use Rattle.exact.specs.Ready.{Roomy, byEdgesOf, byConfigsOf, Stepping};
 use crate::bank::Added;
@@ -26,7 +25,10 @@ pub(crate) fn by_edges(
     n: usize,
 ) -> Added
     requires { ⌜ (head .count ≤ 256) × Roomy (head .clocks) room n (now bank) ⌝ }
-    ensures { λ r. ⌜ Holds (head .clocks) room 0 (byEdgesOf (head .clocks) (head .count) (now (edges .entry)) grain symbol from (configsAt (head .clocks) n 0 (now (bank .entry)))) (now (bank .exit)) r ⌝ }
+    ensures { λ r. ⌜ Holds (head .clocks) room 0
+        (byEdgesOf (head .clocks) (head .count) (now (edges .entry)) grain symbol from
+        (configsAt (head .clocks) n 0 (now (bank .entry))))
+        (now (bank .exit)) r ⌝ }
 {
     let clocks = wide32(head.clocks);
     let count = head.count as u16;
@@ -60,7 +62,10 @@ pub(crate) fn by_configs(
     room: usize,
 ) -> Added
     requires { ⌜ Stepping head (delay .0) room from n to (now scratch) ⌝ }
-    ensures { λ r. ⌜ Holds (head .clocks) room to (byConfigsOf head (now (edges .entry)) grain symbol (delay .0) (configsAt (head .clocks) n from (now (scratch .entry)))) (now (scratch .exit)) r ⌝ }
+    ensures { λ r. ⌜ Holds (head .clocks) room to
+        (byConfigsOf head (now (edges .entry)) grain symbol (delay .0)
+        (configsAt (head .clocks) n from (now (scratch .entry))))
+        (now (scratch .exit)) r ⌝ }
 {
     let width = wide32(head.clocks) + 1;
     let end = to + room * width;

@@ -91,6 +91,7 @@ pub(crate) fn full(place: usize) -> Answer
     }
 }
 
+// No refusal: 1 for yes, 0 for no.
 pub(crate) fn decided(yes: bool) -> Answer
     ensures { λ r. ⌜ (r ≡ record { number = 0; place = 0; value = oneIf yes }) ⌝ }
 {
@@ -117,7 +118,8 @@ pub(crate) fn follow_events(
     first: usize,
 ) -> Answer
     requires { ⌜ Started head (now symbols) (now stamps) (now scratch) room first ⌝ }
-    ensures { λ r. ⌜ r ≡ answerWith head (now (edges .entry)) grain (now (symbols .entry)) (now (stamps .entry)) room ⌝ }
+    ensures { λ r. ⌜ r
+        ≡ answerWith head (now (edges .entry)) grain (now (symbols .entry)) (now (stamps .entry)) room ⌝ }
 {
     let clocks = wide32(head.clocks);
     let other = room * (clocks + 1);
@@ -162,7 +164,8 @@ pub(crate) fn run_events(
     scratch: &mut [u32],
 ) -> Answer
     requires { ⌜ Begins head (now symbols) (now stamps) ⌝ }
-    ensures { λ r. ⌜ r ≡ answerIn head (now (edges .entry)) grain (now (symbols .entry)) (now (stamps .entry)) (now (scratch .entry)) ⌝ }
+    ensures { λ r. ⌜ r ≡ answerIn head (now (edges .entry)) grain (now (symbols .entry)) (now (stamps .entry))
+        (now (scratch .entry)) ⌝ }
 {
     let room = scratch.len() / (2 * (wide32(head.clocks) + 1));
     let started = start_configs(head, scratch, room);
@@ -181,7 +184,8 @@ pub fn run_exact(
     stamps: &[u32],
     scratch: &mut [u32],
 ) -> Answer
-    ensures { λ r. ⌜ RunsExact head (now (edges .entry)) grain (now (symbols .entry)) (now (stamps .entry)) (now (scratch .entry)) (now (scratch .exit)) r ⌝ }
+    ensures { λ r. ⌜ RunsExact head (now (edges .entry)) grain (now (symbols .entry)) (now (stamps .entry))
+        (now (scratch .entry)) (now (scratch .exit)) r ⌝ }
 {
     let rule = check_rule(head, edges);
     if rule.number != 0 {

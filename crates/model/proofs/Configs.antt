@@ -1,18 +1,19 @@
--- With all distinct configurations kept, the word is accepted exactly if some configuration after the last event is at a
--- final location; and configurations are only ever added to those found so far.
+-- With all distinct configurations kept, the word is accepted exactly if some configuration after the last event is
+-- at a final location; configurations are only ever added, and no age exceeds the last stamp.
 use mathlib.Core.Path.{_≡_, refl, sym, _∙_, ap, ap₂}
 use mathlib.Core.Bool.{Bool, true, false, _&&_, _||_}
 use mathlib.Core.List.{List, [], _∷_, _++_}
 use mathlib.Core.Logic.{_⊎_, inl, inr}
-use Prim.Native.Nat.{ℕ, zero, suc, _+_, _-_, _≤_, _<_}
+use Prim.Native.Nat.{ℕ, _+_, _-_, _≤_}
 use native.Mathlib.Omega.{arith}
-use lib.Dec.{eqb, ltb}
+use lib.Dec.{eqb}
 use lib.ListN.{length, length-append}
 use borrow.Author.Tests.{eqb-true}
 use Rattle.model.specs.Basics.{pick, isIn, same}
 use Rattle.model.specs.Rules.{Edge, Rule}
 use Rattle.model.specs.Words.{Event}
-use Rattle.model.specs.Runs.{older, zeroed, canTake, startAges, someEdge, acceptsFrom, acceptsFromSome, accepts, Config, config, hasConfig, withConfig, byEdges, byConfigs, startConfigs}
+use Rattle.model.specs.Runs.{older, zeroed, canTake, startAges, someEdge, acceptsFrom, acceptsFromSome}
+use Rattle.model.specs.Runs.{accepts, Config, config, hasConfig, withConfig, byEdges, byConfigs, startConfigs}
 use Rattle.model.proofs.Ages.{AtMost, older-most, zeroed-most, zeros-most}
 use Rattle.model.proofs.Logic.{no-way, by-test, and-left, and-right, or-left, or-right, or-cases, same-equal}
 
@@ -222,7 +223,8 @@ aged-edges m d v l ages (e ∷ es) cs a h =
     (λ t. rw t (aged-edges m d v l ages es cs a h))
 
 pub aged-configs :
-    (r : Rule) (d : ℕ) (v : Event) (last stamp : ℕ) (cs new : List Config) → last ≤ stamp → Aged last cs → Aged stamp new
+    (r : Rule) (d : ℕ) (v : Event) (last stamp : ℕ) (cs new : List Config) → last ≤ stamp → Aged last cs → Aged
+    stamp new
     → Aged stamp (byConfigs r d v (stamp - last) cs new)
 unfolding byConfigs
 aged-configs r d v last stamp [] new h a b = b

@@ -7,11 +7,6 @@ use Rattle.ages.proofs.Laws.{edge-number}
 use borrow.Author.Needs.{needs}
 use Rattle.ages.proofs.after_edge.Statement.{statement}
 use Rattle.ages.proofs.after_edge.Tie as tie
-use Rattle.ages.proofs.after_edge.Reads as reads
-use Rattle.ages.proofs.after_edge.Lts as lts
-use Rattle.ages.proofs.zeroed.Reads as zeroed-reads
-use Rattle.edges.proofs.number_at.Reads as number-at-reads
-use Rattle.edges.proofs.wide16.Reads as wide16-reads
 
 wide16-requires : tie.Need-wide16-requires
 wide16-requires c κs = search needs

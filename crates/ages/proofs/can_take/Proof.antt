@@ -4,12 +4,6 @@ use Rattle.ages.proofs.Laws.{edge-number, edge-source, other-source, ot
 use borrow.Author.Needs.{needs}
 use Rattle.ages.proofs.can_take.Statement.{statement}
 use Rattle.ages.proofs.can_take.Tie as tie
-use Rattle.ages.proofs.can_take.Reads as reads
-use Rattle.ages.proofs.can_take.Lts as lts
-use Rattle.ages.proofs.guard_holds.Reads as guard-holds-reads
-use Rattle.edges.proofs.number_at.Reads as number-at-reads
-use Rattle.edges.proofs.wide16.Reads as wide16-reads
-use Rattle.edges.proofs.wide32.Reads as wide32-reads
 
 wide16-requires : tie.Need-wide16-requires
 wide16-requires c κs = search needs

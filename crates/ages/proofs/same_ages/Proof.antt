@@ -1,13 +1,11 @@
 -- `ages::same_ages` meets its contract: the ages passed were equal, so those from clock k on decide.
 use Prim.Native.Nat.{_-_}
 use Rattle.ages.specs.Ages.{agesOf}
-use Rattle.ages.proofs.Laws.{length-mapped, SameRest, same-start, same-next, same-differs, same-all, clocks-passed}
+use Rattle.ages.proofs.Laws.{length-mapped, SameRest, same-start, same-next, same-differs, same-all}
+use Rattle.ages.proofs.Laws.{clocks-passed}
 use borrow.Author.Needs.{needs}
 use Rattle.ages.proofs.same_ages.Statement.{statement}
 use Rattle.ages.proofs.same_ages.Tie as tie
-use Rattle.ages.proofs.same_ages.Reads as reads
-use Rattle.ages.proofs.same_ages.Lts as lts
-use Rattle.ages.proofs.age_of.Reads as age-of-reads
 
 abbrev Inv-loop : tie.InvT-loop
 Inv-loop one other clocks k₀ k = SameRest (agesOf clocks one) (agesOf clocks other) k
@@ -28,7 +26,9 @@ age-of-requires-2 c κs = search needs
 
 returns : tie.Need-returns Inv-loop μ-loop
 returns c =
-    same-differs (c .before .before .before .before .before .before .loop .inv) _ _ (c .before .before .before .before .age-of .ensures) (c .before .before .before .age-of2 .ensures) (c .if1 .taken)
+    same-differs (c .before .before .before .before .before .before .loop .inv) _ _
+    (c .before .before .before .before .age-of .ensures) (c .before .before .before .age-of2 .ensures)
+    (c .if1 .taken)
 
 add-k : tie.Need-add-k Inv-loop μ-loop
 add-k c = search needs
@@ -38,7 +38,9 @@ loop-less c = search needs
 
 loop-again : tie.Need-loop-again Inv-loop μ-loop
 loop-again c =
-    same-next (c .before .before .before .before .before .before .loop .inv) _ _ (c .before .before .before .before .age-of .ensures) (c .before .before .before .age-of2 .ensures) (c .if1 .left)
+    same-next (c .before .before .before .before .before .before .loop .inv) _ _
+    (c .before .before .before .before .age-of .ensures) (c .before .before .before .age-of2 .ensures)
+    (c .if1 .left)
 
 returns-2 : tie.Need-returns-2 Inv-loop μ-loop
 returns-2 c =

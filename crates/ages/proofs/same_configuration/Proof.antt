@@ -4,9 +4,6 @@ use Rattle.ages.proofs.Laws.{other-location, ages-decide}
 use borrow.Author.Needs.{needs}
 use Rattle.ages.proofs.same_configuration.Statement.{statement}
 use Rattle.ages.proofs.same_configuration.Tie as tie
-use Rattle.ages.proofs.same_configuration.Reads as reads
-use Rattle.ages.proofs.same_configuration.Lts as lts
-use Rattle.ages.proofs.same_ages.Reads as same-ages-reads
 
 returns : tie.Need-returns
 returns c =
@@ -19,7 +16,8 @@ same-ages-requires c κs = search needs
 returns-2 : tie.Need-returns-2
 returns-2 c =
     let a = c .before .before .before .before .before .before .args in
-    ages-decide (configOf (a .clocks) (a .one)) (configOf (a .clocks) (a .other)) _ (c .before .before .before .if1 .left)
+    ages-decide (configOf (a .clocks) (a .one)) (configOf (a .clocks) (a .other)) _
+    (c .before .before .before .if1 .left)
     (c .same-ages .ensures)
 
 pub same-configuration-spec : {M : Type 1} → statement M

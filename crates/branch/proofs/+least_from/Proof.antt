@@ -1,5 +1,5 @@
--- `branch::least_from` meets its contract: it calls itself with one event fewer. The edges passed led to no accepting run,
--- so the least one is what the edges still to try give; the first edge that leads to one gives it.
+-- `branch::least_from` meets its contract: it calls itself with one event fewer. The edges passed led to no accepting
+-- run, so the least one is what the edges still to try give; the first edge that leads to one gives it.
 use mathlib.Core.Path.{refl, sym, _∙_, ap}
 use mathlib.Core.Logic.{⊎-elim}
 use Prim.Native.Nat.{ℕ, _-_, _<_}
@@ -122,9 +122,10 @@ module _ (t : ℕ) where
 
   least-from-requires : lts.Need-least-from-requires (claims t) (here t) own.Post Inv-loop μ-loop
   least-from-requires c κs =
-      let s = c .before .before .before .before .before .before .before .before .before .before .before .before .before .before .before in
+      let early = c .before .before .before .before .before .before .before .before .before .before in
+      let s = early .before .before .before .before .before in
       let a = s .args in
-      let h = c .before .before .before .before .before .before .before .before .before .before .before .if1 .left in (
+      let h = early .before .if1 .left in (
         omega (arith, s .pre .0, h),
         next-ready (a .head) (a .edges .now) (a .symbols .now) (a .stamps .now) (a .depth) (a .last .0) _
             (c .before .before .before .before .before .loop .e)
@@ -133,7 +134,7 @@ module _ (t : ℕ) where
             _
             (s .pre .1)
             h
-            (omega (arith, c .before .before .before .before .before .before .before .before .before .before .shared-slice-known4 .given (a .depth)))
+            (omega (arith, early .shared-slice-known4 .given (a .depth)))
             (c .before .before .before .before .before .before .before .before .before .since .ensures)
             (c .before .before .before .before .before .before .before .before .after-delay .ensures)
             (c .after-edge .ensures),
@@ -144,12 +145,13 @@ module _ (t : ℕ) where
 
   returns-2 : lts.Need-returns-2 (claims t) (here t) own.Post Inv-loop μ-loop
   returns-2 c =
-      let s = c .before .before .before .before .before .before .before .before .before .before .before .before .before .before .before .before .before .before in
+      let early = c .before .before .before .before .before .before .before .before .before .before in
+      let s = early .before .before .before .before .before .before .before .before in
       let a = s .args in
       let l = c .before .before .before .before .before .before .before .before .loop in
       let found =
       trying-found (a .head) (a .edges .now) (a .grain) (a .symbols .now) (a .stamps .now) (a .depth)
-      (c .before .before .before .before .before .before .before .before .before .before .before .after-delay .result)
+      (early .before .after-delay .result)
       (l .inv .1)
       (c .before .before .before .before .before .before .before .loop-test .taken)
       (c .before .before .before .after-edge .result)
@@ -165,12 +167,17 @@ module _ (t : ℕ) where
       ∙ (found
       ∙ ap (λ (p : Path). placed (a .depth) p)
       (sym
-      (at-event (a .head) (a .edges .now) (a .grain) (a .symbols .now) (a .stamps .now) (a .depth) (a .last .0) _ (a .from) _
+      (at-event (a .head) (a .edges .now) (a .grain) (a .symbols .now) (a .stamps .now) (a .depth) (a .last .0) _
+      (a .from) _
       (s .pre .1)
-      (c .before .before .before .before .before .before .before .before .before .before .before .before .before .before .if1 .left)
-      (omega (arith, c .before .before .before .before .before .before .before .before .before .before .before .before .before .shared-slice-known4 .given (a .depth)))
-      (c .before .before .before .before .before .before .before .before .before .before .before .before .since .ensures)
-      (c .before .before .before .before .before .before .before .before .before .before .before .after-delay .ensures))))
+      (early .before .before .before .before .if1 .left)
+      (omega (
+        arith,
+        early .before .before .before .shared-slice-known4 .given
+            (a .depth),
+      ))
+      (early .before .before .since .ensures)
+      (early .before .after-delay .ensures))))
 
   add-e : lts.Need-add-e (claims t) (here t) own.Post Inv-loop μ-loop
   add-e c = search needs
@@ -180,7 +187,8 @@ module _ (t : ℕ) where
 
   loop-again : lts.Need-loop-again (claims t) (here t) own.Post Inv-loop μ-loop
   loop-again c =
-      let a = c .before .before .before .before .before .before .before .before .before .before .before .before .before .before .args in
+      let early = c .before .before .before .before .before .before .before .before .before .before in
+      let a = early .before .before .before .before .args in
       let l = c .before .before .before .before .loop in
       let now-is = c .before .before .before .before .before .before .before .after-delay .result in
       let test = c .before .before .before .loop-test .taken in
@@ -188,9 +196,12 @@ module _ (t : ℕ) where
         l .inv .0,
         ⊎-elim
             (λ w.
-            trying-stuck (a .head) (a .edges .now) (a .grain) (a .symbols .now) (a .stamps .now) (a .depth) now-is (l .inv .1) test (w .1 .result) (w .1 .ensures) _ (w .2 .result) can (w .0 .taken) (w .2 .ensures) (w .3 .left))
+            trying-stuck (a .head) (a .edges .now) (a .grain) (a .symbols .now) (a .stamps .now) (a .depth) now-is
+            (l .inv .1) test (w .1 .result) (w .1 .ensures) _ (w .2 .result) can (w .0 .taken) (w .2 .ensures)
+            (w .3 .left))
             (λ w.
-            trying-other (a .head) (a .edges .now) (a .grain) (a .symbols .now) (a .stamps .now) (a .depth) now-is (l .inv .1) test _ can (w .left))
+            trying-other (a .head) (a .edges .now) (a .grain) (a .symbols .now) (a .stamps .now) (a .depth) now-is
+            (l .inv .1) test _ can (w .left))
             (c .if2 .came),
       )
 
@@ -210,7 +221,8 @@ module _ (t : ℕ) where
       ∙ ap (λ (p : Path). placed (a .depth) p)
       (sym none
       ∙ sym
-      (at-event (a .head) (a .edges .now) (a .grain) (a .symbols .now) (a .stamps .now) (a .depth) (a .last .0) _ (a .from) _
+      (at-event (a .head) (a .edges .now) (a .grain) (a .symbols .now) (a .stamps .now) (a .depth) (a .last .0) _
+      (a .from) _
       (s .pre .1)
       (c .before .before .before .before .before .before .before .before .if1 .left)
       (omega (arith, c .before .before .before .before .before .before .before .shared-slice-known4 .given (a .depth)))

@@ -36,14 +36,16 @@ start-at-requires : tie.Need-start-at-requires Inv-loop μ-loop
 start-at-requires c κs = search needs
 
 least-from-requires : tie.Need-least-from-requires Inv-loop μ-loop
-least-from-requires c κs = start-ready _ _ _ _ (c .before .before .before .before .before .loop .inv .0) (c .start-at .ensures .1)
+least-from-requires c κs =
+    start-ready _ _ _ _ (c .before .before .before .before .before .loop .inv .0) (c .start-at .ensures .1)
 
 with-start-requires : tie.Need-with-start-requires Inv-loop μ-loop
 with-start-requires c κs = search needs
 
 returns : tie.Need-returns Inv-loop μ-loop
 returns c =
-    let a = c .before .before .before .before .before .before .before .before .before .before .before .before .before .args in
+    let a =
+    c .before .before .before .before .before .before .before .before .before .before .before .before .before .args in
     let l = c .before .before .before .before .before .before .before .before .loop in
     let from = c .before .before .before .start-at in
     c .with-start .ensures
@@ -78,8 +80,11 @@ loop-again c =
       l .inv .0,
       ⊎-elim
           (λ w.
-          starting-stuck (a .head) (a .edges .now) (a .grain) (a .symbols .now) (a .stamps .now) (l .inv .1) test _ _ (w .1 .result) (l .inv .0) same bit-is (w .0 .taken) (w .1 .ensures .0) (w .1 .ensures .1) _ (w .2 .ensures) (w .3 .left))
-          (λ w. starting-other (a .head) (a .edges .now) (a .grain) (a .symbols .now) (a .stamps .now) (l .inv .1) test _ _ same bit-is (w .left))
+          starting-stuck (a .head) (a .edges .now) (a .grain) (a .symbols .now) (a .stamps .now) (l .inv .1) test _
+          _ (w .1 .result) (l .inv .0) same bit-is (w .0 .taken) (w .1 .ensures .0) (w .1 .ensures .1) _
+          (w .2 .ensures) (w .3 .left))
+          (λ w. starting-other (a .head) (a .edges .now) (a .grain) (a .symbols .now) (a .stamps .now) (l .inv .1)
+          test _ _ same bit-is (w .left))
           (c .if1 .came),
     )
 
@@ -89,7 +94,8 @@ no-branch-requires c κs = search needs
 returns-2 : tie.Need-returns-2 Inv-loop μ-loop
 returns-2 c =
     let a = c .before .before .before .before .before .before .before .args in
-    let none = starting-none (a .head) (a .edges .now) (a .grain) (a .symbols .now) (a .stamps .now) (c .before .before .loop .inv .1) (c .before .loop-test .left) in
+    let none = starting-none (a .head) (a .edges .now) (a .grain) (a .symbols .now) (a .stamps .now)
+    (c .before .before .loop .inv .1) (c .before .loop-test .left) in
     c .no-branch .ensures ∙ ap (λ (p : Path). begun p) (sym none)
 
 pub least-start-spec : {M : Type 1} → statement M

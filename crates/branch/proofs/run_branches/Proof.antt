@@ -1,5 +1,6 @@
 -- `branch::run_branches` meets its contract: the rule is checked, then the word, then the least run is looked for.
-use Rattle.branch.proofs.Starts.{rule-refuses, word-refuses, begins, run-is-least}
+use Rattle.model.proofs.Inputs.{rule-refused, word-refused, both-passed}
+use Rattle.branch.proofs.Starts.{refusal-is, begins, run-is-least}
 use borrow.Author.Needs.{needs}
 use Rattle.branch.proofs.run_branches.Statement.{statement}
 use Rattle.branch.proofs.run_branches.Tie as tie
@@ -14,8 +15,9 @@ returns : tie.Need-returns
 returns c =
     let a = c .before .before .before .before .before .before .before .args in
     let rule = c .before .before .before .check-rule in
-    rule-refuses (a .head) (a .edges .now) (a .grain) (a .symbols .now) (a .stamps .now) (rule .result) _ (rule .ensures)
-    (c .before .if1 .taken)
+    refusal-is (a .head) (a .edges .now) (a .grain) (a .symbols .now) (a .stamps .now) (rule .result) _
+    (rule-refused (a .head) (a .edges .now) (a .grain) 12 (a .symbols .now) (a .stamps .now) (rule .result)
+    (rule .ensures) (c .before .if1 .taken))
     (c .refused .ensures)
 
 check-word-requires : tie.Need-check-word-requires
@@ -29,11 +31,13 @@ returns-2 c =
     let a = c .before .before .before .before .before .before .before .before .before .before .args in
     let rule = c .before .before .before .before .before .before .check-rule in
     let word = c .before .before .before .check-word in
-    word-refuses (a .head) (a .edges .now) (a .grain) (a .symbols .now) (a .stamps .now) (rule .result) (word .result) (rule .ensures)
+    refusal-is (a .head) (a .edges .now) (a .grain) (a .symbols .now) (a .stamps .now) (word .result) _
+    (word-refused (a .head) (a .edges .now) (a .grain) 12 (a .symbols .now) (a .stamps .now) (rule .result)
+    (word .result)
+    (rule .ensures)
     (word .ensures)
     (c .before .before .before .before .if1 .left)
-    _
-    (c .before .if2 .taken)
+    (c .before .if2 .taken))
     (c .refused2 .ensures)
 
 least-start-requires : tie.Need-least-start-requires
@@ -41,20 +45,26 @@ least-start-requires c κs =
     let a = c .before .before .before .before .before .before .before .before .before .args in
     let rule = c .before .before .before .before .before .check-rule in
     let word = c .before .before .check-word in
-    begins (a .head) (a .edges .now) (a .grain) (a .symbols .now) (a .stamps .now) (rule .result) (word .result) (rule .ensures)
+    begins (a .head) (a .edges .now) (a .grain) (a .symbols .now) (a .stamps .now)
+    (both-passed (a .head) (a .edges .now) (a .grain) 12 (a .symbols .now) (a .stamps .now) (rule .result)
+    (word .result)
+    (rule .ensures)
     (word .ensures)
     (c .before .before .before .if1 .left)
-    (c .if2 .left)
+    (c .if2 .left))
 
 returns-3 : tie.Need-returns-3
 returns-3 c =
     let a = c .before .before .before .before .before .before .before .before .before .before .args in
     let rule = c .before .before .before .before .before .before .check-rule in
     let word = c .before .before .before .check-word in
-    run-is-least (a .head) (a .edges .now) (a .grain) (a .symbols .now) (a .stamps .now) (rule .result) (word .result) (rule .ensures)
+    run-is-least (a .head) (a .edges .now) (a .grain) (a .symbols .now) (a .stamps .now)
+    (both-passed (a .head) (a .edges .now) (a .grain) 12 (a .symbols .now) (a .stamps .now) (rule .result)
+    (word .result)
+    (rule .ensures)
     (word .ensures)
     (c .before .before .before .before .if1 .left)
-    (c .before .if2 .left)
+    (c .before .if2 .left))
     _
     (c .least-start .ensures)
 

@@ -9,8 +9,6 @@ use Rattle.exact.proofs.Starting.{zeroed-whole}
 use borrow.Author.Needs.{needs}
 use Rattle.exact.proofs.cleared.Statement.{statement}
 use Rattle.exact.proofs.cleared.Tie as tie
-use Rattle.exact.proofs.cleared.Reads as reads
-use Rattle.exact.proofs.cleared.Lts as lts
 
 abbrev Inv-loop : tie.InvT-loop
 Inv-loop answer scratch₀ end i₀ scratch i =

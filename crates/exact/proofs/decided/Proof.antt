@@ -2,8 +2,6 @@
 use Rattle.exact.proofs.Starting.{yes-is, no-is}
 use Rattle.exact.proofs.decided.Statement.{statement}
 use Rattle.exact.proofs.decided.Tie as tie
-use Rattle.exact.proofs.decided.Reads as reads
-use Rattle.exact.proofs.decided.Lts as lts
 
 returns : tie.Need-returns
 returns c = yes-is (c .before .args .yes) (c .if1 .taken)

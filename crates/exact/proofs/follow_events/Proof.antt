@@ -1,7 +1,7 @@
 -- `exact::follow_events` meets its contract: refusal and verdict over the events left are those of the word.
 use Rattle.exact.proofs.Running.{from-most}
-use mathlib.Core.Path.{_≡_, sym, _∙_, ap}
-use Prim.Native.Nat.{ℕ, _+_, _-_, _*_}
+use mathlib.Core.Path.{_≡_, _∙_}
+use Prim.Native.Nat.{_+_, _-_, _*_}
 use native.Mathlib.Omega.{arith}
 use borrow.Author.Needs.{needs}
 use lib.ListN.{length}
@@ -9,14 +9,6 @@ use Rattle.exact.proofs.Running.{other-known, to-known, final-known, Ru
 use Rattle.exact.proofs.Running.{running-next, final-fits, running-end}
 use Rattle.exact.proofs.follow_events.Statement.{statement}
 use Rattle.exact.proofs.follow_events.Tie as tie
-use Rattle.exact.proofs.follow_events.Reads as reads
-use Rattle.exact.proofs.follow_events.Lts as lts
-use Rattle.edges.proofs.wide32.Reads as wide32-reads
-use Rattle.exact.proofs.decided.Reads as decided-reads
-use Rattle.exact.proofs.event.by_configs.Reads as by-configs-reads
-use Rattle.exact.proofs.full.Reads as full-reads
-use Rattle.exact.proofs.some_final.Reads as some-final-reads
-use Rattle.model.proofs.Stamp.since.Reads as since-reads
 
 abbrev Inv-loop : tie.InvT-loop
 Inv-loop head edges grain symbols stamps scratch₀ room first clocks other n₀ from₀ last₀ i₀ scratch n from last i =
@@ -41,8 +33,12 @@ mul-other c =
 
 loop-holds : tie.Need-loop-holds Inv-loop μ-loop
 loop-holds c =
-    let w = c .wide32 in
-    (w .ensures .0, other-known _ _ _ (w .ensures .0), running _ _ _ _ _ _ _ _ (c .before .before .before .before .before .pre))
+    let w = c .wide32 in (
+      w .ensures .0,
+      other-known _ _ _ (w .ensures .0),
+      running _ _ _ _ _ _ _ _
+          (c .before .before .before .before .before .pre),
+    )
 
 mul-t21 : tie.Need-mul-t21 Inv-loop μ-loop
 mul-t21 c = search needs
@@ -54,7 +50,12 @@ sub-to : tie.Need-sub-to Inv-loop μ-loop
 sub-to c =
     let a = c .before .before .before .before .before .before .before .before .args in
     let l = c .before .before .loop in
-    omega (arith, l .inv .1, from-most (a .head) (a .edges .now) (a .grain) (a .symbols .now) (a .stamps .now) (a .room) (l .inv .2))
+    omega (
+      arith,
+      l .inv .1,
+      from-most (a .head) (a .edges .now) (a .grain) (a .symbols .now) (a .stamps .now)
+          (a .room) (l .inv .2),
+    )
 
 since-requires : tie.Need-since-requires Inv-loop μ-loop
 since-requires c κs = search needs
@@ -69,7 +70,8 @@ by-configs-requires : tie.Need-by-configs-requires Inv-loop μ-loop
 by-configs-requires c κs =
     let a = c .before .before .before .before .before .before .before .before .before .before .before .args in
     let l = c .before .before .before .before .before .loop in
-    step-ready (a .head) (a .edges .now) (a .grain) (a .symbols .now) (a .stamps .now) (a .room) (l .inv .2) (c .before .before .before .before .loop-test .taken) _ _
+    step-ready (a .head) (a .edges .now) (a .grain) (a .symbols .now) (a .stamps .now) (a .room) (l .inv .2)
+    (c .before .before .before .before .loop-test .taken) _ _
     (to-known (a .room) _ _ (l .from) (l .inv .0))
     (c .before .before .since .ensures)
     (omega (arith, c .before .before .before .shared-slice-known4 .given (l .i)))
@@ -87,17 +89,24 @@ full-requires : tie.Need-full-requires Inv-loop μ-loop
 full-requires c κs = search needs
 
 same-length : tie.Need-same-length Inv-loop μ-loop
-same-length c = c .before .before .before .before .before .by-configs .kept .1 .1 .1 .1 .1 .0 ∙ c .before .before .before .before .before .before .before .before .before .before .before .loop .inv .2 .length-is
+same-length c =
+    c .before .before .before .before .before .by-configs .kept .1 .1 .1 .1 .1 .0 ∙
+    c .before .before .before .before .before .before .before .before .before .before .before .loop .inv .2 .length-is
 
 returns : tie.Need-returns Inv-loop μ-loop
 returns c =
-    let a = c .before .before .before .before .before .before .before .before .before .before .before .before .before .before .before .before .before .args in
-    let l = c .before .before .before .before .before .before .before .before .before .before .before .loop in
+    let early = c .before .before .before .before .before .before .before .before .before .before in
+    let a = early .before .before .before .before .before .before .before .args in
+    let l = early .before .loop in
     let made = c .before .before .before .before .before .by-configs in
-    running-full (a .head) (a .edges .now) (a .grain) (a .symbols .now) (a .stamps .now) (a .room) (l .inv .2) (c .before .before .before .before .before .before .before .before .before .before .loop-test .taken) _ _
+    running-full (a .head) (a .edges .now) (a .grain) (a .symbols .now) (a .stamps .now) (a .room) (l .inv .2)
+    (early .loop-test .taken) _ _
     (to-known (a .room) _ _ (l .from) (l .inv .0))
     (c .before .before .before .before .before .before .before .before .since .ensures)
-    (omega (arith, c .before .before .before .before .before .before .before .before .before .shared-slice-known4 .given (l .i)))
+    (omega (
+      arith,
+      c .before .before .before .before .before .before .before .before .before .shared-slice-known4 .given (l .i),
+    ))
     _
     (made .result)
     (made .ensures)
@@ -113,14 +122,19 @@ loop-less c = search needs
 
 loop-again : tie.Need-loop-again Inv-loop μ-loop
 loop-again c =
-    let a = c .before .before .before .before .before .before .before .before .before .before .before .before .before .before .before .before .before .args in
-    let l = c .before .before .before .before .before .before .before .before .before .before .before .loop in
+    let early = c .before .before .before .before .before .before .before .before .before .before in
+    let a = early .before .before .before .before .before .before .before .args in
+    let l = early .before .loop in
     let made = c .before .before .before .before .before .by-configs in
     let next =
-    running-next (a .head) (a .edges .now) (a .grain) (a .symbols .now) (a .stamps .now) (a .room) (l .inv .2) (c .before .before .before .before .before .before .before .before .before .before .loop-test .taken) _ _
+    running-next (a .head) (a .edges .now) (a .grain) (a .symbols .now) (a .stamps .now) (a .room) (l .inv .2)
+    (early .loop-test .taken) _ _
     (to-known (a .room) _ _ (l .from) (l .inv .0))
     (c .before .before .before .before .before .before .before .before .since .ensures)
-    (omega (arith, c .before .before .before .before .before .before .before .before .before .shared-slice-known4 .given (l .i)))
+    (omega (
+      arith,
+      c .before .before .before .before .before .before .before .before .before .shared-slice-known4 .given (l .i),
+    ))
     _
     (made .result)
     (made .ensures)
@@ -134,7 +148,12 @@ some-final-requires c κs =
     let a = c .before .before .before .before .before .before .before .before .args in
     let l = c .before .before .loop in (
       omega (arith, l .inv .0, l .inv .2 .begins .clocks-most),
-      omega (arith, other-known (l .n) _ _ (l .inv .0), final-fits (a .head) (a .edges .now) (a .grain) (a .symbols .now) (a .stamps .now) (a .room) (l .inv .2)),
+      omega (
+        arith,
+        other-known (l .n) _ _ (l .inv .0),
+        final-fits (a .head) (a .edges .now) (a .grain)
+            (a .symbols .now) (a .stamps .now) (a .room) (l .inv .2),
+      ),
     )
 
 decided-requires : tie.Need-decided-requires Inv-loop μ-loop
@@ -148,7 +167,8 @@ returns-2 c =
     let a = c .before .before .before .before .before .before .before .before .before .before .args in
     let l = c .before .before .before .before .loop in
     let final = c .before .some-final in
-    running-end (a .head) (a .edges .now) (a .grain) (a .symbols .now) (a .stamps .now) (a .room) (l .inv .2) _ (final .result) (c .before .before .before .loop-test .left)
+    running-end (a .head) (a .edges .now) (a .grain) (a .symbols .now) (a .stamps .now) (a .room) (l .inv .2) _
+    (final .result) (c .before .before .before .loop-test .left)
     (final-known _ (a .head .clocks) (a .head .ends) (l .n) (l .from) (l .scratch) _ (l .inv .0) (final .ensures))
     (c .decided .ensures)
 

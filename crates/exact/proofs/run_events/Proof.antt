@@ -4,12 +4,6 @@ use Rattle.exact.proofs.Outcome.{start-roomy, start-full, start-made, a
 use borrow.Author.Needs.{needs}
 use Rattle.exact.proofs.run_events.Statement.{statement}
 use Rattle.exact.proofs.run_events.Tie as tie
-use Rattle.exact.proofs.run_events.Reads as reads
-use Rattle.exact.proofs.run_events.Lts as lts
-use Rattle.edges.proofs.wide32.Reads as wide32-reads
-use Rattle.exact.proofs.follow_events.Reads as follow-events-reads
-use Rattle.exact.proofs.full.Reads as full-reads
-use Rattle.exact.proofs.start_configs.Reads as start-configs-reads
 
 wide32-requires : tie.Need-wide32-requires
 wide32-requires c κs = search needs
@@ -27,7 +21,8 @@ start-configs-requires : tie.Need-start-configs-requires
 start-configs-requires c κs =
     let a = c .before .before .before .before .before .before .args in
     let w = c .before .wide32 in
-    start-roomy (a .head) (a .edges .now) (a .grain) (a .symbols .now) (a .stamps .now) (a .scratch .now) (w .result) (w .ensures .0) (c .before .before .before .before .before .before .pre)
+    start-roomy (a .head) (a .edges .now) (a .grain) (a .symbols .now) (a .stamps .now) (a .scratch .now)
+    (w .result) (w .ensures .0) (c .before .before .before .before .before .before .pre)
 
 enum-known-started : tie.Need-enum-known-started
 enum-known-started c = search needs
@@ -46,28 +41,35 @@ returns c =
     let a = c .before .before .before .before .before .before .before .before .before .before .before .before .args in
     let w = c .before .before .before .before .before .before .before .wide32 in
     let started = c .before .before .before .before .before .start-configs in
-    start-full (a .head) (a .edges .now) (a .grain) (a .symbols .now) (a .stamps .now) (a .scratch .now) (w .result) (w .ensures .0) _ (started .result) (started .ensures) _
+    start-full (a .head) (a .edges .now) (a .grain) (a .symbols .now) (a .stamps .now) (a .scratch .now) (w .result)
+    (w .ensures .0) _ (started .result) (started .ensures) _
     (c .before .enum-told .given .1)
     (c .full .ensures)
 
 follow-events-requires : tie.Need-follow-events-requires
 follow-events-requires c κs =
-    let a = c .before .before .before .before .before .before .before .before .before .before .before .before .before .args in
+    let a =
+    c .before .before .before .before .before .before .before .before .before .before .before .before .before .args in
     let w = c .before .before .before .before .before .before .before .before .wide32 in
     let started = c .before .before .before .before .before .before .start-configs in
-    start-made (a .head) (a .edges .now) (a .grain) (a .symbols .now) (a .stamps .now) (a .scratch .now) (w .result) (w .ensures .0) _ (started .result) (started .ensures) _
+    start-made (a .head) (a .edges .now) (a .grain) (a .symbols .now) (a .stamps .now) (a .scratch .now) (w .result)
+    (w .ensures .0) _ (started .result) (started .ensures) _
     (c .before .before .started .given .1)
     (started .kept .1 .0)
     (c .before .before .before .before .before .before .before .before .before .before .before .before .before .pre)
 
 same-length-2 : tie.Need-same-length-2
-same-length-2 c = c .before .before .follow-events .kept .1 .1 .1 .1 .1 .0 ∙ c .before .before .before .before .before .before .before .before .before .start-configs .kept .1 .0
+same-length-2 c =
+    c .before .before .follow-events .kept .1 .1 .1 .1 .1 .0 ∙
+    c .before .before .before .before .before .before .before .before .before .start-configs .kept .1 .0
 
 returns-2 : tie.Need-returns-2
 returns-2 c =
-    let a = c .before .before .before .before .before .before .before .before .before .before .before .before .before .before .before .before .args in
-    let w = c .before .before .before .before .before .before .before .before .before .before .before .wide32 in
-    answered (a .head) (a .edges .now) (a .grain) (a .symbols .now) (a .stamps .now) (a .scratch .now) (w .result) (w .ensures .0) _ (c .before .before .follow-events .ensures)
+    let early = c .before .before .before .before .before .before .before .before .before .before in
+    let a = early .before .before .before .before .before .before .args in
+    let w = early .before .wide32 in
+    answered (a .head) (a .edges .now) (a .grain) (a .symbols .now) (a .stamps .now) (a .scratch .now) (w .result)
+    (w .ensures .0) _ (c .before .before .follow-events .ensures)
 
 pub run-events-spec : {M : Type 1} → statement M
 run-events-spec =

@@ -7,10 +7,6 @@ use Rattle.exact.proofs.Starting.{Passing, passing, place-within, passi
 use borrow.Author.Needs.{needs}
 use Rattle.exact.proofs.some_final.Statement.{statement}
 use Rattle.exact.proofs.some_final.Tie as tie
-use Rattle.exact.proofs.some_final.Reads as reads
-use Rattle.exact.proofs.some_final.Lts as lts
-use Rattle.ages.proofs.has_location.Reads as has-location-reads
-use Rattle.exact.proofs.bank.number_in.Reads as number-in-reads
 
 abbrev Inv-loop : tie.InvT-loop
 Inv-loop set scratch from clocks n width at₀ i₀ at i =
@@ -33,7 +29,8 @@ has-location-requires c κs = search needs
 
 returns : tie.Need-returns Inv-loop μ-loop
 returns c =
-    pass-found (c .before .before .before .before .loop .inv .2) (c .before .before .before .loop-test .taken) _ _ (c .before .before .number-in .ensures)
+    pass-found (c .before .before .before .before .loop .inv .2) (c .before .before .before .loop-test .taken) _ _
+    (c .before .before .number-in .ensures)
     (c .before .has-location .ensures)
     (c .if1 .taken)
 
@@ -42,8 +39,11 @@ add-at c =
     let a = c .before .before .before .before .before .before .args in
     let l = c .before .before .before .before .loop in
     let h = c .before .before .before .loop-test .taken in
-    omega
-    (arith, place-within (a .clocks) (a .n) (a .from) (l .i) (l .at) (length (a .scratch .now)) h (l .inv .2 .place-is) (l .inv .1))
+    omega (
+      arith,
+      place-within (a .clocks) (a .n) (a .from) (l .i) (l .at) (length (a .scratch .now)) h
+          (l .inv .2 .place-is) (l .inv .1),
+    )
 
 add-i : tie.Need-add-i Inv-loop μ-loop
 add-i c = search needs

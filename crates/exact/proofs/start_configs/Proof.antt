@@ -1,20 +1,13 @@
 -- `exact::start_configs` meets its contract: the initial locations passed are written, those from l on are left.
-use mathlib.Core.Path.{_≡_, sym, _∙_, ap, subst}
 use mathlib.Core.Logic.{⊎-elim}
-use Prim.Native.Nat.{ℕ, _-_, _<_}
+use Prim.Native.Nat.{_-_}
 use lib.ListN.{length}
 use Rattle.exact.specs.declared.bank.Added.the-variants.{Count, Full}
-use Rattle.exact.proofs.Starting.{Starting, starting, starting-other, starting-added, starting-full, started, starts-known, roomy-start}
+use Rattle.exact.proofs.Starting.{Starting, starting, starting-other, starting-added, starting-full, started}
+use Rattle.exact.proofs.Starting.{starts-known, roomy-start}
 use borrow.Author.Needs.{needs}
 use Rattle.exact.proofs.start_configs.Statement.{statement}
 use Rattle.exact.proofs.start_configs.Tie as tie
-use Rattle.exact.proofs.start_configs.Reads as reads
-use Rattle.exact.proofs.start_configs.Lts as lts
-use Rattle.ages.proofs.has_bit.Reads as has-bit-reads
-use Rattle.ages.proofs.start_at.Reads as start-at-reads
-use Rattle.edges.proofs.wide16.Reads as wide16-reads
-use Rattle.edges.proofs.wide32.Reads as wide32-reads
-use Rattle.exact.proofs.bank.append.Reads as append-reads
 
 abbrev Inv-loop : tie.InvT-loop
 Inv-loop bank₀ room clocks starts n₀ l₀ bank n l = Starting clocks starts room n l (length bank₀) bank
@@ -58,14 +51,16 @@ same-length c = search needs
 
 returns : tie.Need-returns Inv-loop μ-loop
 returns c =
-    let a = c .before .before .before .before .before .before .before .before .before .before .before .before .before .before .before .args in
-    let clocks = c .before .before .before .before .before .before .before .before .before .before .before .before .before .wide32 in
-    let starts = c .before .before .before .before .before .before .before .before .before .before .before .before .wide322 in
+    let early = c .before .before .before .before .before .before .before .before .before .before in
+    let a = early .before .before .before .before .before .args in
+    let clocks = early .before .before .before .wide32 in
+    let starts = early .before .before .wide322 in
     let from = c .before .before .before .before .before .start-at in
     let done = c .before .before .before .before .append in
     let over =
-    starting-full (clocks .result) (starts .result) (a .room) (c .before .before .before .before .before .before .before .before .before .before .before .loop .inv)
-    (c .before .before .before .before .before .before .before .before .before .before .loop-test .taken)
+    starting-full (clocks .result) (starts .result) (a .room)
+    (early .before .loop .inv)
+    (early .loop-test .taken)
     _
     _
     (c .before .before .before .before .before .before .before .before .before .wide16 .ensures .0)
@@ -78,7 +73,8 @@ returns c =
     (done .result)
     (done .ensures)
     (c .enum-told .given .1) in
-    starts-known _ (a .head .clocks) _ (a .head .starts) (a .room) (a .bank .now) Full (clocks .ensures .0) (starts .ensures .0)
+    starts-known _ (a .head .clocks) _ (a .head .starts) (a .room) (a .bank .now) Full (clocks .ensures .0)
+    (starts .ensures .0)
     over
 
 add-l : tie.Need-add-l Inv-loop μ-loop
@@ -99,7 +95,8 @@ loop-again c =
     ⊎-elim
     (λ w.
     rw (w .9, w .10)
-    (starting-added clocks starts (a .room) (l .inv) test _ _ same set (w .0 .taken) (w .2 .result) (w .2 .ensures .0) (w .2 .ensures .1) _ (w .3 .result) (w .3 .ensures) _ (w .7 .given .1) (w .3 .kept .0)))
+    (starting-added clocks starts (a .room) (l .inv) test _ _ same set (w .0 .taken) (w .2 .result)
+    (w .2 .ensures .0) (w .2 .ensures .1) _ (w .3 .result) (w .3 .ensures) _ (w .7 .given .1) (w .3 .kept .0)))
     (λ w. rw (w .1, w .2) (starting-other clocks starts (a .room) (l .inv) test _ _ same set (w .0 .left)))
     (c .if1 .came)
 

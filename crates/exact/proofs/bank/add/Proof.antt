@@ -4,10 +4,6 @@ use Rattle.exact.proofs.Adding.{there-fits, added-known, added-new}
 use borrow.Author.Needs.{needs}
 use Rattle.exact.proofs.bank.add.Statement.{statement}
 use Rattle.exact.proofs.bank.add.Tie as tie
-use Rattle.exact.proofs.bank.add.Reads as reads
-use Rattle.exact.proofs.bank.add.Lts as lts
-use Rattle.exact.proofs.bank.append.Reads as append-reads
-use Rattle.exact.proofs.bank.has_config.Reads as has-config-reads
 
 has-config-requires : tie.Need-has-config-requires
 has-config-requires c κs =
@@ -20,7 +16,8 @@ same-length c = search needs
 returns : tie.Need-returns
 returns c =
     let a = c .before .before .before .before .args in
-    added-known (a .clocks) (a .room) (a .n) (configOf (a .clocks) (a .c)) (a .bank .now) (c .before .before .before .before .pre) _ (c .before .has-config .ensures)
+    added-known (a .clocks) (a .room) (a .n) (configOf (a .clocks) (a .c)) (a .bank .now)
+    (c .before .before .before .before .pre) _ (c .before .has-config .ensures)
     (c .if1 .taken)
 
 append-requires : tie.Need-append-requires
@@ -33,7 +30,8 @@ returns-2 : tie.Need-returns-2
 returns-2 c =
     let a = c .before .before .before .before .before .before .before .before .args in
     let done = c .before .before .append in
-    added-new (a .clocks) (a .room) (a .n) (configOf (a .clocks) (a .c)) (a .bank .now) (c .before .before .before .before .before .before .before .before .pre) _ (done .last .0) (done .result)
+    added-new (a .clocks) (a .room) (a .n) (configOf (a .clocks) (a .c)) (a .bank .now)
+    (c .before .before .before .before .before .before .before .before .pre) _ (done .last .0) (done .result)
     (c .before .before .before .before .before .has-config .ensures)
     (c .before .before .before .before .if1 .left)
     (done .ensures)

@@ -6,14 +6,12 @@ use Rattle.exact.proofs.Adding.{there-fits, next-fits, append-full, app
 use borrow.Author.Needs.{needs}
 use Rattle.exact.proofs.bank.append.Statement.{statement}
 use Rattle.exact.proofs.bank.append.Tie as tie
-use Rattle.exact.proofs.bank.append.Reads as reads
-use Rattle.exact.proofs.bank.append.Lts as lts
-use Rattle.exact.proofs.bank.store.Reads as store-reads
 
 returns : tie.Need-returns
 returns c =
     let a = c .before .before .args in
-    append-full (a .clocks) (a .room) (a .n) (configOf (a .clocks) (a .c)) (a .bank .now) (c .before .before .pre) (c .if1 .taken)
+    append-full (a .clocks) (a .room) (a .n) (configOf (a .clocks) (a .c)) (a .bank .now) (c .before .before .pre)
+    (c .if1 .taken)
 
 add-store : tie.Need-add-store
 add-store c = search needs
@@ -25,8 +23,11 @@ mul-store c =
 
 store-requires : tie.Need-store-requires
 store-requires c κs =
-    let a = c .before .before .before .args in
-    (search needs, next-fits (a .clocks) (a .room) (a .n) (a .bank .now) (c .before .before .before .pre) (c .before .if1 .left))
+    let a = c .before .before .before .args in (
+      search needs,
+      next-fits (a .clocks) (a .room) (a .n) (a .bank .now) (c .before .before .before .pre)
+          (c .before .if1 .left),
+    )
 
 add-t10 : tie.Need-add-t10
 add-t10 c = search needs
@@ -37,7 +38,8 @@ same-length c = search needs
 returns-2 : tie.Need-returns-2
 returns-2 c =
     let a = c .before .before .before .before .before .before .args in
-    append-new (a .clocks) (a .room) (a .n) (configOf (a .clocks) (a .c)) (a .bank .now) (c .before .before .before .before .before .before .pre) _
+    append-new (a .clocks) (a .room) (a .n) (configOf (a .clocks) (a .c)) (a .bank .now)
+    (c .before .before .before .before .before .before .pre) _
     (c .before .before .before .before .if1 .left)
     (ages-length (a .clocks) (a .c .ages) (search (needs, length-mapped)) (search needs))
     (c .before .before .store .ensures)

@@ -8,10 +8,6 @@ use Rattle.exact.proofs.Adding.{Looking, looking, looking-next, look-fo
 use borrow.Author.Needs.{needs}
 use Rattle.exact.proofs.bank.has_config.Statement.{statement}
 use Rattle.exact.proofs.bank.has_config.Tie as tie
-use Rattle.exact.proofs.bank.has_config.Reads as reads
-use Rattle.exact.proofs.bank.has_config.Lts as lts
-use Rattle.ages.proofs.same_configuration.Reads as same-configuration-reads
-use Rattle.exact.proofs.bank.load.Reads as load-reads
 
 abbrev Inv-loop : tie.InvT-loop
 Inv-loop bank clocks n c width at₀ i₀ at i =
@@ -31,8 +27,11 @@ load-requires : tie.Need-load-requires Inv-loop μ-loop
 load-requires c κs =
     let a = c .before .before .before .args in
     let l = c .before .loop in
-    omega
-    (arith, within-bank (a .clocks) (a .n) (l .i) (l .at) (length (a .bank .now)) (c .loop-test .taken) (l .inv .3 .place-is) (l .inv .2))
+    omega (
+      arith,
+      within-bank (a .clocks) (a .n) (l .i) (l .at) (length (a .bank .now)) (c .loop-test .taken)
+          (l .inv .3 .place-is) (l .inv .2),
+    )
 
 same-configuration-requires : tie.Need-same-configuration-requires Inv-loop μ-loop
 same-configuration-requires c κs = search needs
@@ -40,7 +39,8 @@ same-configuration-requires c κs = search needs
 returns : tie.Need-returns Inv-loop μ-loop
 returns c =
     let l = c .before .before .before .before .loop in
-    look-found (l .inv .3) (c .before .before .before .loop-test .taken) _ (c .before .before .load .ensures) (l .inv .0) _
+    look-found (l .inv .3) (c .before .before .before .loop-test .taken) _ (c .before .before .load .ensures)
+    (l .inv .0) _
     (c .before .same-configuration .ensures)
     (c .if1 .taken)
 
@@ -48,8 +48,11 @@ add-at : tie.Need-add-at Inv-loop μ-loop
 add-at c =
     let a = c .before .before .before .before .before .before .args in
     let l = c .before .before .before .before .loop in
-    omega
-    (arith, within-bank (a .clocks) (a .n) (l .i) (l .at) (length (a .bank .now)) (c .before .before .before .loop-test .taken) (l .inv .3 .place-is) (l .inv .2))
+    omega (
+      arith,
+      within-bank (a .clocks) (a .n) (l .i) (l .at) (length (a .bank .now))
+          (c .before .before .before .loop-test .taken) (l .inv .3 .place-is) (l .inv .2),
+    )
 
 add-i : tie.Need-add-i Inv-loop μ-loop
 add-i c = search needs
@@ -63,7 +66,8 @@ loop-again c =
       l .inv .0,
       l .inv .1,
       l .inv .2,
-      looking-next (l .inv .3) (c .before .before .before .loop-test .taken) _ (c .before .before .load .ensures) (l .inv .0) _
+      looking-next (l .inv .3) (c .before .before .before .loop-test .taken) _ (c .before .before .load .ensures)
+          (l .inv .0) _
           (c .before .same-configuration .ensures)
           (c .if1 .left),
     )

@@ -3,9 +3,6 @@ use Rattle.exact.proofs.Adding.{four-read}
 use borrow.Author.Needs.{needs}
 use Rattle.exact.proofs.bank.load.Statement.{statement}
 use Rattle.exact.proofs.bank.load.Tie as tie
-use Rattle.exact.proofs.bank.load.Reads as reads
-use Rattle.exact.proofs.bank.load.Lts as lts
-use Rattle.exact.proofs.bank.number_in.Reads as number-in-reads
 
 add-number-in : tie.Need-add-number-in
 add-number-in c = search needs
@@ -40,7 +37,8 @@ returns c =
     record {
       location-is = c .number-in5 .ensures;
       ages-are =
-          four-read (a .at) _ _ _ _ (a .bank .now) (c .before .before .before .before .number-in .ensures) (c .before .before .before .number-in2 .ensures)
+          four-read (a .at) _ _ _ _ (a .bank .now) (c .before .before .before .before .number-in .ensures)
+          (c .before .before .before .number-in2 .ensures)
           (c .before .before .number-in3 .ensures)
           (c .before .number-in4 .ensures);
     }

@@ -4,8 +4,6 @@ use lib.ListN.{List·getD-eq-default}
 use borrow.Author.Needs.{needs}
 use Rattle.exact.proofs.bank.number_in.Statement.{statement}
 use Rattle.exact.proofs.bank.number_in.Tie as tie
-use Rattle.exact.proofs.bank.number_in.Reads as reads
-use Rattle.exact.proofs.bank.number_in.Lts as lts
 
 returns : tie.Need-returns
 returns c = sym (List·getD-eq-default (c .before .args .bank .now) 0 (c .if1 .taken))

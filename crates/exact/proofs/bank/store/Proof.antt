@@ -9,9 +9,6 @@ use Rattle.exact.proofs.Adding.{Storing, storing, storing-next, stored-
 use borrow.Author.Needs.{needs}
 use Rattle.exact.proofs.bank.store.Statement.{statement}
 use Rattle.exact.proofs.bank.store.Tie as tie
-use Rattle.exact.proofs.bank.store.Reads as reads
-use Rattle.exact.proofs.bank.store.Lts as lts
-use Rattle.ages.proofs.age_of.Reads as age-of-reads
 
 abbrev Inv-loop : tie.InvT-loop
 Inv-loop bank₀ at clocks ages k₀ bank k =

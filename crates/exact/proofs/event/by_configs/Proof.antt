@@ -1,6 +1,6 @@
 -- `exact::event::by_configs` meets its contract: the configurations passed are done, those from number i on are left.
 use Rattle.exact.proofs.Moving.{span-known, end-known}
-use mathlib.Core.Path.{_≡_, sym, _∙_, ap}
+use mathlib.Core.Path.{_≡_, ap}
 use Prim.Native.Nat.{ℕ, _+_, _-_, _*_}
 use native.Mathlib.Omega.{arith}
 use lib.ListN.{length}
@@ -10,12 +10,6 @@ use Rattle.exact.proofs.Moving.{Moving, moving, place-in, part-ready, m
 use borrow.Author.Needs.{needs}
 use Rattle.exact.proofs.event.by_configs.Statement.{statement}
 use Rattle.exact.proofs.event.by_configs.Tie as tie
-use Rattle.exact.proofs.event.by_configs.Reads as reads
-use Rattle.exact.proofs.event.by_configs.Lts as lts
-use Rattle.ages.proofs.after_delay.Reads as after-delay-reads
-use Rattle.edges.proofs.wide32.Reads as wide32-reads
-use Rattle.exact.proofs.bank.load.Reads as load-reads
-use Rattle.exact.proofs.event.by_edges.Reads as by-edges-reads
 
 abbrev Inv-loop : tie.InvT-loop
 Inv-loop head edges grain symbol delay scratch₀ from n to room width end held₀ at₀ i₀ scratch held at i =
@@ -47,13 +41,21 @@ add-end c =
     omega (arith, end-known (s .args .to) (s .args .room) (w .result) _ (w .ensures .0), s .pre .banks .to-fits)
 
 loop-holds : tie.Need-loop-holds Inv-loop μ-loop
-loop-holds c =
-    (search needs, end-known _ _ _ _ (c .wide32 .ensures .0), moving _ _ _ _ _ _ _ _ _ _ (c .before .before .before .pre))
+loop-holds c = (
+  search needs,
+  end-known _ _ _ _ (c .wide32 .ensures .0),
+  moving _ _ _ _ _ _ _ _ _ _
+      (c .before .before .before .pre),
+)
 
 load-requires : tie.Need-load-requires Inv-loop μ-loop
 load-requires c κs =
     let a = c .before .before .before .before .before .before .args in
-    omega (arith, place-in (a .head) (a .edges .now) (a .grain) (a .symbol) (a .delay .0) (a .room) (a .from) (a .n) (a .to) (c .before .before .loop .inv .2) (c .before .loop-test .taken))
+    omega (
+      arith,
+      place-in (a .head) (a .edges .now) (a .grain) (a .symbol) (a .delay .0) (a .room) (a .from) (a .n)
+          (a .to) (c .before .before .loop .inv .2) (c .before .loop-test .taken),
+    )
 
 after-delay-requires : tie.Need-after-delay-requires Inv-loop μ-loop
 after-delay-requires c κs = search needs
@@ -78,7 +80,9 @@ by-edges-requires c κs =
     let l = c .before .before .before .before .before .loop in
     let w = c .before .before .before .before .before .before .wide32 in (
       l .inv .2 .edges-most,
-      part-ready (a .head) (a .edges .now) (a .grain) (a .symbol) (a .delay .0) (a .room) (a .from) (a .n) (a .to) (l .inv .2) (c .before .before .before .before .loop-test .taken) _ (span-known (a .to) (a .room) (w .result) _ (w .ensures .0)),
+      part-ready (a .head) (a .edges .now) (a .grain) (a .symbol) (a .delay .0) (a .room) (a .from) (a .n) (a .to)
+          (l .inv .2) (c .before .before .before .before .loop-test .taken) _
+          (span-known (a .to) (a .room) (w .result) _ (w .ensures .0)),
     )
 
 enum-known-added : tie.Need-enum-known-added Inv-loop μ-loop
@@ -92,13 +96,16 @@ same-length c = search needs
 
 returns : tie.Need-returns Inv-loop μ-loop
 returns c =
-    let a = c .before .before .before .before .before .before .before .before .before .before .before .before .before .before .args in
-    let l = c .before .before .before .before .before .before .before .before .before .before .loop in
-    let w = c .before .before .before .before .before .before .before .before .before .before .before .wide32 in
+    let early = c .before .before .before .before .before .before .before .before .before .before in
+    let a = early .before .before .before .before .args in
+    let l = early .loop in
+    let w = early .before .wide32 in
     let was = c .before .before .before .before .before .before .before .load in
     let after = c .before .before .before .before .before .before .after-delay in
     let made = c .before .before .before .before .by-edges in
-    moving-full (a .head) (a .edges .now) (a .grain) (a .symbol) (a .delay .0) (a .room) (a .from) (a .n) (a .to) (l .inv .2) (c .before .before .before .before .before .before .before .before .before .loop-test .taken) (was .result) (after .result) (was .ensures) (after .ensures) _
+    moving-full (a .head) (a .edges .now) (a .grain) (a .symbol) (a .delay .0) (a .room) (a .from) (a .n) (a .to)
+    (l .inv .2) (c .before .before .before .before .before .before .before .before .before .loop-test .taken)
+    (was .result) (after .result) (was .ensures) (after .ensures) _
     (span-known (a .to) (a .room) (w .result) _ (w .ensures .0))
     _
     (made .result)
@@ -108,9 +115,18 @@ returns c =
 
 add-at : tie.Need-add-at Inv-loop μ-loop
 add-at c =
-    let a = c .before .before .before .before .before .before .before .before .before .before .before .before .before .before .before .args in
-    let l = c .before .before .before .before .before .before .before .before .before .before .before .loop in
-    omega (arith, c .before .before .before .before .before .before .before .before .before .before .before .before .before .before .before .good .1 .1 .1 .1 .1 .0, l .inv .0, l .inv .2 .length-is, place-in (a .head) (a .edges .now) (a .grain) (a .symbol) (a .delay .0) (a .room) (a .from) (a .n) (a .to) (l .inv .2) (c .before .before .before .before .before .before .before .before .before .before .loop-test .taken))
+    let early = c .before .before .before .before .before .before .before .before .before .before in
+    let a = early .before .before .before .before .before .args in
+    let l = early .before .loop in
+    omega (
+      arith,
+      early .before .before .before .before .before .good .1 .1 .1 .1 .1 .0,
+      l .inv .0,
+      l .inv .2 .length-is,
+      place-in (a .head) (a .edges .now) (a .grain) (a .symbol) (a .delay .0)
+          (a .room) (a .from) (a .n) (a .to) (l .inv .2)
+          (early .loop-test .taken),
+    )
 
 add-i : tie.Need-add-i Inv-loop μ-loop
 add-i c = search needs
@@ -120,15 +136,19 @@ loop-less c = search needs
 
 loop-again : tie.Need-loop-again Inv-loop μ-loop
 loop-again c =
-    let a = c .before .before .before .before .before .before .before .before .before .before .before .before .before .before .before .args in
-    let l = c .before .before .before .before .before .before .before .before .before .before .before .loop in
-    let w = c .before .before .before .before .before .before .before .before .before .before .before .before .wide32 in
+    let early = c .before .before .before .before .before .before .before .before .before .before in
+    let a = early .before .before .before .before .before .args in
+    let l = early .before .loop in
+    let w = early .before .before .wide32 in
     let was = c .before .before .before .before .before .before .before .before .load in
     let after = c .before .before .before .before .before .before .before .after-delay in
     let made = c .before .before .before .before .before .by-edges in (
       l .inv .0,
       l .inv .1,
-      moving-next (a .head) (a .edges .now) (a .grain) (a .symbol) (a .delay .0) (a .room) (a .from) (a .n) (a .to) (l .inv .2) (c .before .before .before .before .before .before .before .before .before .before .loop-test .taken) (was .result) (after .result) (was .ensures) (after .ensures) _
+      moving-next (a .head) (a .edges .now) (a .grain) (a .symbol) (a .delay .0) (a .room) (a .from) (a .n) (a .to)
+          (l .inv .2)
+          (early .loop-test .taken)
+          (was .result) (after .result) (was .ensures) (after .ensures) _
           (span-known (a .to) (a .room) (w .result) _ (w .ensures .0))
           _
           (made .result)
@@ -146,7 +166,8 @@ same-length-2 c = c .before .loop .inv .2 .length-is
 returns-2 : tie.Need-returns-2 Inv-loop μ-loop
 returns-2 c =
     let a = c .before .before .before .before .before .args in
-    moved-all (a .head) (a .edges .now) (a .grain) (a .symbol) (a .delay .0) (a .room) (a .from) (a .n) (a .to) (c .before .loop .inv .2) (c .loop-test .left)
+    moved-all (a .head) (a .edges .now) (a .grain) (a .symbol) (a .delay .0) (a .room) (a .from) (a .n) (a .to)
+    (c .before .loop .inv .2) (c .loop-test .left)
 
 pub by-configs-spec : {M : Type 1} → statement M
 by-configs-spec =

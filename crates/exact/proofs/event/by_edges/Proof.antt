@@ -1,23 +1,16 @@
 -- `exact::event::by_edges` meets its contract: the edges passed are done, those from e on are left.
 use Rattle.exact.proofs.Spreading.{clocks-known, roomy-known}
 use Rattle.exact.specs.declared.bank.Added.the-variants.{Count, Full}
-use mathlib.Core.Path.{_≡_, sym, _∙_, ap}
 use mathlib.Core.Logic.{⊎-elim}
 use Prim.Native.Nat.{_-_, _≤_}
-use native.Mathlib.Omega.{arith}
 use lib.ListN.{length}
 use Rattle.exact.specs.Banks.{configsAt}
 use Rattle.exact.specs.Ready.{byEdgesOf}
-use Rattle.exact.proofs.Spreading.{Spreading, spreading, spreading-other, spreading-added, spreading-full, spread-all}
+use Rattle.exact.proofs.Spreading.{Spreading, spreading, spreading-other, spreading-added, spreading-full}
+use Rattle.exact.proofs.Spreading.{spread-all}
 use borrow.Author.Needs.{needs}
 use Rattle.exact.proofs.event.by_edges.Statement.{statement}
 use Rattle.exact.proofs.event.by_edges.Tie as tie
-use Rattle.exact.proofs.event.by_edges.Reads as reads
-use Rattle.exact.proofs.event.by_edges.Lts as lts
-use Rattle.ages.proofs.after_edge.Reads as after-edge-reads
-use Rattle.ages.proofs.can_take.Reads as can-take-reads
-use Rattle.edges.proofs.wide32.Reads as wide32-reads
-use Rattle.exact.proofs.bank.add.Reads as add-reads
 
 abbrev Inv-loop : tie.InvT-loop
 Inv-loop edges grain symbol from bank₀ room n clocks count held₀ e₀ bank held e =
@@ -37,8 +30,11 @@ cast-count : tie.Need-cast-count Inv-loop μ-loop
 cast-count c = search needs
 
 loop-holds : tie.Need-loop-holds Inv-loop μ-loop
-loop-holds c =
-    (search needs, spreading _ _ _ _ _ _ _ _ _ (roomy-known _ _ _ _ _ (c .before .wide32 .ensures .0) (c .before .before .before .before .pre .1)))
+loop-holds c = (
+  search needs,
+  spreading _ _ _ _ _ _ _ _ _
+      (roomy-known _ _ _ _ _ (c .before .wide32 .ensures .0) (c .before .before .before .before .pre .1)),
+)
 
 can-take-requires : tie.Need-can-take-requires Inv-loop μ-loop
 can-take-requires c κs = search needs
@@ -60,9 +56,10 @@ same-length c = search needs
 
 returns : tie.Need-returns Inv-loop μ-loop
 returns c =
-    let a = c .before .before .before .before .before .before .before .before .before .before .before .before .before .before .before .args in
-    let l = c .before .before .before .before .before .before .before .before .before .before .loop in
-    let w = c .before .before .before .before .before .before .before .before .before .before .before .before .wide32 in
+    let early = c .before .before .before .before .before .before .before .before .before .before in
+    let a = early .before .before .before .before .before .args in
+    let l = early .loop in
+    let w = early .before .before .wide32 in
     let next = c .before .before .before .before .before .before .after-edge in
     let add = c .before .before .before .before .add in
     let over =
@@ -77,7 +74,8 @@ returns c =
     (add .result)
     (add .ensures)
     (c .enum-told .given .1) in
-    clocks-known (w .result) (a .head .clocks) (a .head .count) (a .edges .now) (a .grain) (a .symbol) (a .from) (a .room) (a .n) (a .bank .now) (a .bank .now) Full (w .ensures .0) over
+    clocks-known (w .result) (a .head .clocks) (a .head .count) (a .edges .now) (a .grain) (a .symbol) (a .from)
+    (a .room) (a .n) (a .bank .now) (a .bank .now) Full (w .ensures .0) over
 
 add-e : tie.Need-add-e Inv-loop μ-loop
 add-e c = search needs
@@ -96,8 +94,11 @@ loop-again c =
       ⊎-elim
           (λ w.
           rw (w .9, w .10)
-          (spreading-added clocks (a .head .count) (a .edges .now) (a .grain) (a .symbol) (a .from) (a .room) (l .inv .1) test _ can (w .0 .taken) (w .1 .result) (w .1 .ensures) _ (w .3 .result) (w .3 .ensures) _ (w .7 .given .1) (w .3 .kept .0)))
-          (λ w. rw (w .1, w .2) (spreading-other clocks (a .head .count) (a .edges .now) (a .grain) (a .symbol) (a .from) (a .room) (l .inv .1) test _ can (w .0 .left)))
+          (spreading-added clocks (a .head .count) (a .edges .now) (a .grain) (a .symbol) (a .from) (a .room)
+          (l .inv .1) test _ can (w .0 .taken) (w .1 .result) (w .1 .ensures) _ (w .3 .result) (w .3 .ensures) _
+          (w .7 .given .1) (w .3 .kept .0)))
+          (λ w. rw (w .1, w .2) (spreading-other clocks (a .head .count) (a .edges .now) (a .grain) (a .symbol)
+          (a .from) (a .room) (l .inv .1) test _ can (w .0 .left)))
           (c .if1 .came),
     )
 
@@ -108,8 +109,10 @@ returns-2 : tie.Need-returns-2 Inv-loop μ-loop
 returns-2 c =
     let a = c .before .before .before .before .before .before .args in
     let w = c .before .before .before .wide32 in
-    clocks-known (w .result) (a .head .clocks) (a .head .count) (a .edges .now) (a .grain) (a .symbol) (a .from) (a .room) (a .n) (a .bank .now) _ (Count _) (w .ensures .0)
-    (spread-all (w .result) (a .head .count) (a .edges .now) (a .grain) (a .symbol) (a .from) (a .room) (c .before .loop .inv .1) (c .loop-test .left))
+    clocks-known (w .result) (a .head .clocks) (a .head .count) (a .edges .now) (a .grain) (a .symbol) (a .from)
+    (a .room) (a .n) (a .bank .now) _ (Count _) (w .ensures .0)
+    (spread-all (w .result) (a .head .count) (a .edges .now) (a .grain) (a .symbol) (a .from) (a .room)
+    (c .before .loop .inv .1) (c .loop-test .left))
 
 pub by-edges-spec : {M : Type 1} → statement M
 by-edges-spec =
