@@ -1,0 +1,236 @@
+// P1 to P8 through all four runners: exact, by branch, table, follower. Then a case for each of 26, also at place 0,
+// and 30 to 34: number and place.
+ghost use Prim.Native.Nat.{ℕ, _-_, _≤_};
+ghost use lib.ListN.{length};
+use branch::run_branches;
+use construct::build_table;
+use exact::run_exact;
+use follower::follow_event;
+use follower::start_follower;
+use libc::STDOUT_FILENO;
+use model::Built;
+use model::Follower;
+use model::Head;
+use model::Stamp;
+use reader::read_rule;
+use walk::run_table;
+use walk::verdict;
+
+fn print_number(n: usize) {
+    io::print_decimal(STDOUT_FILENO, n as u64);
+}
+
+fn print_blank() {
+    io::write_all(STDOUT_FILENO, b" ");
+}
+
+fn end_line() {
+    io::write_all(STDOUT_FILENO, b"\n");
+}
+
+fn print_refusal(number: u8, place: usize) {
+    print_number(number as usize);
+    print_blank();
+    print_number(place);
+    end_line();
+}
+
+// The follower's verdict after all events, from the start.
+fn follow_all(
+    built: Built,
+    cells: &[u32],
+    rows: &[u32],
+    pool: &[u32],
+    grain: u32,
+    symbols: &[u16],
+    stamps: &[u32],
+) -> bool {
+    let started = start_follower(grain);
+    let mut follower = started.follower;
+    let mut i: usize = 0;
+    while i < symbols.len() {
+        if i < stamps.len() {
+            let followed = follow_event(
+                follower,
+                built,
+                cells,
+                rows,
+                pool,
+                symbols[i],
+                Stamp(stamps[i]),
+            );
+            follower = followed.follower;
+        }
+        i += 1;
+    }
+    verdict(built, rows, pool, follower.row)
+}
+
+// A word's verdict by each runner.
+fn print_word(
+    head: Head,
+    edges: &[u16],
+    built: Built,
+    cells: &[u32],
+    rows: &[u32],
+    pool: &[u32],
+    grain: u32,
+    symbols: &[u16],
+    stamps: &[u32],
+) {
+    let mut scratch = [7u32; 64];
+    let exact = run_exact(head, edges, grain, symbols, stamps, &mut scratch);
+    print_number(exact.value);
+    let branch = run_branches(head, edges, grain, symbols, stamps);
+    print_number(branch.found as usize);
+    let table = run_table(built, cells, rows, pool, grain, symbols, stamps);
+    print_number(table.value);
+    print_number(follow_all(built, cells, rows, pool, grain, symbols, stamps) as usize);
+    end_line();
+}
+
+// What the exact runner answers in a room, over one file and one event.
+fn print_exact(file: &[u8], scratch: &mut [u32], symbols: &[u16], stamps: &[u32]) {
+    let mut edges = [7u16; 7424];
+    let reading = read_rule(file, &mut edges);
+    let head = reading.head;
+    let answer = run_exact(head, &edges, 2, symbols, stamps, scratch);
+    print_refusal(answer.number, answer.place);
+}
+
+// What the table runner answers to a word.
+fn print_table(
+    built: Built,
+    cells: &[u32],
+    rows: &[u32],
+    pool: &[u32],
+    grain: u32,
+    symbols: &[u16],
+    stamps: &[u32],
+) {
+    let answer = run_table(built, cells, rows, pool, grain, symbols, stamps);
+    print_refusal(answer.number, answer.place);
+}
+
+fn print_stray(built: Built, cells: &[u32], rows: &[u32], pool: &[u32]) {
+    let stray = Follower {
+        grain: 2,
+        row: 3,
+        reset: Stamp(0),
+        last: Stamp(0),
+        count: 0,
+    };
+    let followed = follow_event(stray, built, cells, rows, pool, 0, Stamp(2));
+    print_refusal(followed.number, followed.place);
+}
+
+fn print_words(head: Head, edges: &[u16], built: Built, cells: &[u32], rows: &[u32], pool: &[u32]) {
+    let symbols = [0u16, 1, 0, 1];
+    let stamps = [2u32, 4, 4, 6];
+    print_word(
+        head,
+        edges,
+        built,
+        cells,
+        rows,
+        pool,
+        2,
+        &symbols[..0],
+        &stamps[..0],
+    );
+    print_word(
+        head,
+        edges,
+        built,
+        cells,
+        rows,
+        pool,
+        2,
+        &symbols[..1],
+        &stamps[..1],
+    );
+    print_word(
+        head,
+        edges,
+        built,
+        cells,
+        rows,
+        pool,
+        2,
+        &symbols[..2],
+        &stamps[..2],
+    );
+    print_word(
+        head,
+        edges,
+        built,
+        cells,
+        rows,
+        pool,
+        2,
+        &symbols[..2],
+        &[2u32, 3],
+    );
+    print_word(
+        head,
+        edges,
+        built,
+        cells,
+        rows,
+        pool,
+        2,
+        &symbols[..1],
+        &[1u32],
+    );
+    print_word(
+        head,
+        edges,
+        built,
+        cells,
+        rows,
+        pool,
+        2,
+        &symbols[..3],
+        &stamps[..3],
+    );
+    print_word(head, edges, built, cells, rows, pool, 2, &symbols, &stamps);
+    print_word(
+        head,
+        edges,
+        built,
+        cells,
+        rows,
+        pool,
+        3,
+        &symbols[..2],
+        &[3u32, 7],
+    );
+}
+
+fn print_refusals(file: &[u8], built: Built, cells: &[u32], rows: &[u32], pool: &[u32]) {
+    let either =
+        b"\x06\x00\x01\x00\x02\x00\x01\x00\x01\x00\x02\x00\x02\x00\x00\x00\x08\x00\x05\x00\x00\x00\x00\x00\x00\x00\x00\x00\x08\x00\x05\x00\x00\x00\x01\x00\x00\x00\x00\x00";
+    print_exact(file, &mut [7u32; 3], &[0u16], &[2u32]);
+    print_exact(either, &mut [7u32; 4], &[0u16], &[2u32]);
+    print_table(built, cells, rows, pool, 0, &[0u16], &[2u32]);
+    print_table(built, cells, rows, pool, 2, &[0u16, 1], &[2u32]);
+    print_table(built, cells, rows, pool, 2, &[0u16, 2], &[2u32, 1]);
+    print_table(built, cells, rows, pool, 2, &[0u16, 1], &[2u32, 1]);
+    print_stray(built, cells, rows, pool);
+}
+
+fn main() {
+    let worked =
+        b"\x06\x00\x01\x00\x02\x00\x02\x00\x01\x00\x02\x00\x02\x00\x00\x00\x02\x00\x03\x00\x00\x00\x0e\x00\x05\x00\x00\x00\x01\x00\x00\x00\x01\x00\x00\x00\x02\x00\x01\x00\x0e\x00\x05\x00\x01\x00\x00\x00\x01\x00\x00\x00\x00\x00\x03\x00\x01\x00";
+    let mut edges = [7u16; 7424];
+    let reading = read_rule(worked, &mut edges);
+    let head = reading.head;
+    let mut scratch = [7u32; 6];
+    let mut cells = [7u32; 24];
+    let mut rows = [7u32; 6];
+    let mut pool = [7u32; 2];
+    let building = build_table(head, &edges, &mut scratch, &mut cells, &mut rows, &mut pool);
+    let built = building.built;
+    print_words(head, &edges, built, &cells, &rows, &pool);
+    print_refusals(worked, built, &cells, &rows, &pool);
+}
