@@ -1,3 +1,6 @@
+-- Edges by where they leave, linked
+pub mod LeavingLaws
+pub mod EdgeLaws
 -- Marks as a set, gathered in place; the targets of a row
 pub mod MarkLaws
 pub mod Gathering

@@ -1,4 +1,5 @@
 pub mod Lent
+pub mod Leaving
 pub mod Marks
 pub mod Rows
 pub mod Cells

@@ -11,6 +11,13 @@ pub(crate) fn narrow32(x: usize) -> u32
     x as u32
 }
 
+pub(crate) fn narrow16(x: usize) -> u16
+    requires { ⌜ x < 65536 ⌝ }
+    ensures { λ r. ⌜ r ≡ x ⌝ }
+{
+    x as u16
+}
+
 pub(crate) fn narrow8(x: usize) -> u8
     requires { ⌜ x < 256 ⌝ }
     ensures { λ r. ⌜ r ≡ x ⌝ }

@@ -8,6 +8,7 @@ use rule::check_rule;
 
 mod build;
 mod cells;
+mod leaving;
 mod lent;
 mod marks;
 mod rows;

@@ -1,0 +1,48 @@
+-- The edges that leave a location on a symbol, linked one to the next, so that a pair looks at no others.
+use mathlib.Core.Path.{_≡_}
+use mathlib.Core.Bool.{Bool, _&&_}
+use mathlib.Core.List.{List, [], _∷_}
+use Prim.Native.Nat.{ℕ, suc, _+_, _*_, _≤_, _<_}
+use lib.Dec.{eqb, ltb}
+use lib.ListN.{length, getD, drop}
+use Rattle.model.specs.Basics.{pick}
+use Rattle.model.specs.Rules.{Edge, Rule}
+use Rattle.model.specs.Runs.{noEdge}
+
+abbrev pub leaves : ℕ → ℕ → Edge → Bool
+leaves l s e = eqb (e .source) l && eqb (e .symbol) s
+
+-- the first edge that leaves l on s, of edges numbered from n on; the number past them if there is none
+abbrev pub firstLeaving : ℕ → ℕ → ℕ → List Edge → ℕ
+firstLeaving l s n [] = n
+firstLeaving l s n (e ∷ es) = pick (leaves l s e) n (firstLeaving l s (suc n) es)
+
+-- the first from edge n on
+abbrev pub leavingFrom : List Edge → ℕ → ℕ → ℕ → ℕ
+leavingFrom es l s n = firstLeaving l s n (drop n es)
+
+abbrev pub edgeOf : List Edge → ℕ → Edge
+edgeOf es n = getD es n noEdge
+
+-- The links: 16 places to a location, for the first edge on each symbol; then a place to an edge, for the next like it.
+abbrev pub firstPlace : ℕ → ℕ → ℕ
+firstPlace l s = 16 * l + s
+
+abbrev pub nextPlace : ℕ → ℕ
+nextPlace n = 512 + n
+
+-- a location or a symbol that no rule has is left by no edge
+abbrev pub firstLink : ℕ → ℕ → ℕ → List ℕ → ℕ
+firstLink count l s links = pick (ltb l 32 && ltb s 16) (getD links (firstPlace l s) 0) count
+
+-- the edges from n on are linked
+pub record LinkedFrom (es : List Edge) (n : ℕ) (links : List ℕ) : Type 0 where
+  pub long : length links ≡ 768
+  pub firsts : (l s : ℕ) → l < 32 → s < 16 → getD links (firstPlace l s) 0 ≡ leavingFrom es l s n
+  pub nexts :
+      (k : ℕ) → n ≤ k → k < length es
+      → getD links (nextPlace k) 0 ≡ leavingFrom es (edgeOf es k .source) (edgeOf es k .symbol) (suc k)
+
+-- all edges of a rule are
+abbrev pub Linked : Rule → List ℕ → Type 0
+Linked r links = LinkedFrom (r .edges) 0 links
