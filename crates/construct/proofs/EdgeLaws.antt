@@ -137,6 +137,20 @@ targets-blind :
     → pairTargets r s i timer x (e ∷ es) row ≡ pairTargets r s i timer x es row
 targets-blind r s i timer x row e es q = rw (not-allowed r s i x e q)
 
+-- so both are the same from the next edge that leaves
+resets-from :
+    (r : Rule) (s i x n : ℕ)
+    → pairResets r s i x (drop n (r .edges))
+    ≡ pairResets r s i x (drop (leavingFrom (r .edges) (locationOf r x) s n) (r .edges))
+resets-from r s i x n = from-first (locationOf r x) s (pairResets r s i x) (resets-blind r s i x) (r .edges) n
+
+pub targets-from :
+    (r : Rule) (s i : ℕ) (timer : Bool) (x : ℕ) (row : List ℕ) (n : ℕ)
+    → pairTargets r s i timer x (drop n (r .edges)) row
+    ≡ pairTargets r s i timer x (drop (leavingFrom (r .edges) (locationOf r x) s n) (r .edges)) row
+targets-from r s i timer x row n =
+    from-first (locationOf r x) s (λ es. pairTargets r s i timer x es row) (targets-blind r s i timer x row) (r .edges) n
+
 -- What the code tests at edge n, and where it leads, is the construction's.
 module _
     (h : Head) (t : List ℕ) {z : Scale} (valid : validRule (ruleIn h t) ≡ true) (scaled : Scaled (ruleIn h t) z) {n : ℕ}
@@ -186,7 +200,7 @@ looking-start r s i x n q =
     rw q
     (record {
       standing = standing-from (r .edges) (locationOf r x) s 0 (omega arith);
-      rest = sym (from-first (locationOf r x) s (pairResets r s i x) (resets-blind r s i x) (r .edges) 0);
+      rest = sym (resets-from r s i x 0);
     })
 
 module _ {r : Rule} {s i x n : ℕ} (look : Looking r s i x n) where
@@ -213,7 +227,7 @@ module _ {r : Rule} {s i x n : ℕ} (look : Looking r s i x n) where
       (record {
         standing = standing-from (r .edges) (locationOf r x) s (suc n) l;
         rest =
-            sym (from-first (locationOf r x) s (pairResets r s i x) (resets-blind r s i x) (r .edges) (suc n))
+            sym (resets-from r s i x (suc n))
             ∙ (sym here-not ∙ look .rest);
       })
 

@@ -14,6 +14,7 @@ ghost use Rattle.construct.specs.Cells.{AllFilled};
 ghost use Rattle.construct.specs.Builds.{CanPlaceStart, StartPlaced, CanBuild, notBuilt, builtFrom};
 use crate::Progress;
 use crate::cells::fill_rows;
+use crate::leaving::link_edges;
 use crate::lent::clear;
 use crate::lent::lesser;
 use crate::lent::narrow8;
@@ -85,7 +86,8 @@ pub(crate) fn fill_tables(
     if p.number != 0 {
         return p;
     }
-    fill_rows(head, edges, scale, marks, cells, rows, pool, p)
+    let links = link_edges(head, edges);
+    fill_rows(head, edges, &links, scale, marks, cells, rows, pool, p)
 }
 
 // Clocks, cm and the weight of a location.

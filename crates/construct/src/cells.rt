@@ -5,6 +5,7 @@ ghost use lib.ListN.{length};
 ghost use Rattle.model.specs.Basics.{oneIf};
 ghost use Rattle.model.specs.Construction.{width};
 ghost use Rattle.model.specs.Layout.{ruleIn};
+ghost use Rattle.construct.specs.Leaving.{Linked};
 ghost use Rattle.construct.specs.Rows.{rowsIn};
 ghost use Rattle.construct.specs.Cells.{CanLeave, CellMade, CanFill, SymbolFilled, RowFilled, CanFillAll, AllFilled};
 use crate::Filled;
@@ -33,6 +34,7 @@ pub(crate) fn cell_of(row: usize, timer: bool) -> u32
 pub(crate) fn make_cell(
     head: Head,
     edges: &[u16],
+    links: &[u16],
     scale: Scale,
     row: usize,
     input: Input,
@@ -42,6 +44,7 @@ pub(crate) fn make_cell(
     p: Progress,
 ) -> Filled
     requires { ⌜ CanLeave (ruleIn head (now edges)) scale (now marks) (now rows) (now pool) p row ⌝ }
+    requires { ⌜ Linked (ruleIn head (now edges)) (now links) ⌝ }
     ensures { λ r.
         ⌜ CellMade (ruleIn head (now (edges .entry))) row input
         (rowsIn (p .rows) (now (rows .entry)) (now (pool .entry))) (p .room) (now (marks .entry)) (now (marks .exit))
@@ -49,7 +52,7 @@ pub(crate) fn make_cell(
 {
     let start = wide32(rows[2 * row]);
     let end = start + wide32(rows[2 * row + 1]);
-    let marked = mark_next(head, edges, scale, input, &pool[start..end], marks);
+    let marked = mark_next(head, edges, links, scale, input, &pool[start..end], marks);
     let placed = place_marks(marks, marked.span, rows, pool, p);
     let progress = placed.progress;
     Filled {
@@ -70,6 +73,7 @@ pub(crate) fn place_of(row: usize, symbols: usize, symbol: usize, width: usize) 
 pub(crate) fn fill_symbol(
     head: Head,
     edges: &[u16],
+    links: &[u16],
     scale: Scale,
     row: usize,
     symbol: u32,
@@ -81,6 +85,7 @@ pub(crate) fn fill_symbol(
 ) -> Progress
     requires { ⌜ CanFill (ruleIn head (now edges)) scale (now marks) (now cells) (now rows) (now pool) p row ⌝ }
     requires { ⌜ symbol < head .symbols ⌝ }
+    requires { ⌜ Linked (ruleIn head (now edges)) (now links) ⌝ }
     ensures { λ r.
         ⌜ SymbolFilled (ruleIn head (now (edges .entry))) row symbol
         (rowsIn (p .rows) (now (rows .entry)) (now (pool .entry))) (p .room) (now (marks .entry)) (now (marks .exit))
@@ -95,7 +100,18 @@ pub(crate) fn fill_symbol(
             symbol,
             interval: narrow32(i),
         };
-        let filled = make_cell(head, edges, scale, row, input, marks, rows, pool, progress);
+        let filled = make_cell(
+            head,
+            edges,
+            links,
+            scale,
+            row,
+            input,
+            marks,
+            rows,
+            pool,
+            progress,
+        );
         progress = filled.progress;
         if progress.number != 0 {
             return progress;
@@ -110,6 +126,7 @@ pub(crate) fn fill_symbol(
 pub(crate) fn fill_row(
     head: Head,
     edges: &[u16],
+    links: &[u16],
     scale: Scale,
     row: usize,
     marks: &mut [u32],
@@ -119,6 +136,7 @@ pub(crate) fn fill_row(
     p: Progress,
 ) -> Progress
     requires { ⌜ CanFill (ruleIn head (now edges)) scale (now marks) (now cells) (now rows) (now pool) p row ⌝ }
+    requires { ⌜ Linked (ruleIn head (now edges)) (now links) ⌝ }
     ensures { λ r.
         ⌜ RowFilled (ruleIn head (now (edges .entry))) row
         (rowsIn (p .rows) (now (rows .entry)) (now (pool .entry))) (p .room) (now (marks .entry)) (now (marks .exit))
@@ -130,6 +148,7 @@ pub(crate) fn fill_row(
         progress = fill_symbol(
             head,
             edges,
+            links,
             scale,
             row,
             symbol,
@@ -151,6 +170,7 @@ pub(crate) fn fill_row(
 pub(crate) fn fill_rows(
     head: Head,
     edges: &[u16],
+    links: &[u16],
     scale: Scale,
     marks: &mut [u32],
     cells: &mut [u32],
@@ -159,6 +179,7 @@ pub(crate) fn fill_rows(
     p: Progress,
 ) -> Progress
     requires { ⌜ CanFillAll (ruleIn head (now edges)) scale (now marks) (now cells) (now rows) (now pool) p ⌝ }
+    requires { ⌜ Linked (ruleIn head (now edges)) (now links) ⌝ }
     ensures { λ r.
         ⌜ AllFilled (ruleIn head (now (edges .entry))) (p .room) (now (marks .entry)) (now (marks .exit))
         (now (cells .entry)) (now (cells .exit)) (now (rows .exit)) (now (pool .exit)) r ⌝ }
@@ -166,7 +187,18 @@ pub(crate) fn fill_rows(
     let mut progress = p;
     let mut row: usize = 0;
     while row < progress.rows {
-        progress = fill_row(head, edges, scale, row, marks, cells, rows, pool, progress);
+        progress = fill_row(
+            head,
+            edges,
+            links,
+            scale,
+            row,
+            marks,
+            cells,
+            rows,
+            pool,
+            progress,
+        );
         if progress.number != 0 {
             return progress;
         }

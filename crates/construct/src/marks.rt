@@ -5,9 +5,13 @@ ghost use lib.ListN.{length};
 ghost use Rattle.model.specs.Basics.{zeros};
 ghost use Rattle.model.specs.Layout.{ruleIn, locationsIn};
 ghost use Rattle.model.specs.Construction.{withCode, pairTargets, rowTargets};
+ghost use Rattle.construct.specs.Leaving.{Linked};
 ghost use Rattle.construct.specs.Marks.{codesIn, InSpan, CanMark, MarksAre, Gathered, startCodesBy, CanStart, Ready, NextMarked};
 use crate::Marked;
 use crate::Span;
+use crate::leaving::first_edge;
+use crate::leaving::next_edge;
+use crate::leaving::row_resets;
 use crate::lent::narrow32;
 use edges::wide32;
 use model::Head;
@@ -17,7 +21,6 @@ use pairs::codes::unpack;
 use pairs::guards::allows;
 use pairs::moves::target;
 use pairs::numbers::has;
-use pairs::resets::row_resets;
 
 // Marks a code.
 pub(crate) fn mark(marks: &mut [u32], span: Span, code: usize) -> Span
@@ -79,6 +82,7 @@ pub(crate) fn mark_starts(starts: u32, weight: u32, marks: &mut [u32]) -> Span
 pub(crate) fn mark_pair(
     head: Head,
     edges: &[u16],
+    links: &[u16],
     scale: Scale,
     input: Input,
     timer: bool,
@@ -88,6 +92,7 @@ pub(crate) fn mark_pair(
 ) -> Span
     requires { ⌜ Ready (ruleIn head (now edges)) scale (now marks) ⌝ }
     requires { ⌜ InSpan (now marks) before ⌝ }
+    requires { ⌜ Linked (ruleIn head (now edges)) (now links) ⌝ }
     ensures { λ r.
         ⌜ MarksAre
         (pairTargets (ruleIn head (now (edges .entry))) (input .symbol) (input .interval) timer code
@@ -96,13 +101,13 @@ pub(crate) fn mark_pair(
 {
     let pair = unpack(scale, code);
     let mut span = before;
-    let mut e: u32 = 0;
+    let mut e = first_edge(links, head.count, pair.location, input.symbol);
     while e < head.count {
         if allows(edges, e, scale.top, input, pair) {
             let to = target(edges, e, scale, input.interval, timer, pair);
             span = mark(marks, span, to);
         }
-        e += 1;
+        e = next_edge(links, e);
     }
     span
 }
@@ -111,6 +116,7 @@ pub(crate) fn mark_pair(
 pub(crate) fn mark_row(
     head: Head,
     edges: &[u16],
+    links: &[u16],
     scale: Scale,
     input: Input,
     timer: bool,
@@ -119,6 +125,7 @@ pub(crate) fn mark_row(
 ) -> Span
     requires { ⌜ Ready (ruleIn head (now edges)) scale (now marks) ⌝ }
     requires { ⌜ now marks ≡ zeros (length (now marks)) ⌝ }
+    requires { ⌜ Linked (ruleIn head (now edges)) (now links) ⌝ }
     ensures { λ r.
         ⌜ MarksAre
         (rowTargets (ruleIn head (now (edges .entry))) (input .symbol) (input .interval) timer (now (row .entry)) [])
@@ -130,7 +137,7 @@ pub(crate) fn mark_row(
     };
     let mut n: usize = 0;
     while n < row.len() {
-        span = mark_pair(head, edges, scale, input, timer, row[n], marks, span);
+        span = mark_pair(head, edges, links, scale, input, timer, row[n], marks, span);
         n += 1;
     }
     span
@@ -140,6 +147,7 @@ pub(crate) fn mark_row(
 pub(crate) fn mark_next(
     head: Head,
     edges: &[u16],
+    links: &[u16],
     scale: Scale,
     input: Input,
     row: &[u32],
@@ -147,9 +155,10 @@ pub(crate) fn mark_next(
 ) -> Marked
     requires { ⌜ Ready (ruleIn head (now edges)) scale (now marks) ⌝ }
     requires { ⌜ now marks ≡ zeros (length (now marks)) ⌝ }
+    requires { ⌜ Linked (ruleIn head (now edges)) (now links) ⌝ }
     ensures { λ r. ⌜ NextMarked (ruleIn head (now (edges .entry))) input (now (row .entry)) (now (marks .exit)) r ⌝ }
 {
-    let timer = row_resets(edges, head.count, scale, input, row);
-    let span = mark_row(head, edges, scale, input, timer, row, marks);
+    let timer = row_resets(head, edges, links, scale, input, row);
+    let span = mark_row(head, edges, links, scale, input, timer, row, marks);
     Marked { timer, span }
 }

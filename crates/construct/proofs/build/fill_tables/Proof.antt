@@ -82,24 +82,33 @@ returns c =
     (after-row-room .row-room .ensures))
     (c .if1 .taken)
 
+link-edges-requires : tie.Need-link-edges-requires
+link-edges-requires c κs = search needs
+
+slice-aggregate-fill-rows : tie.Need-slice-aggregate-fill-rows
+slice-aggregate-fill-rows c = search needs
+
 fill-rows-requires : tie.Need-fill-rows-requires
 fill-rows-requires c κs =
-    let at-if1 = c .before .before .before .before in
+    let after-link-edges = c .before .before .before .before .before in
+    let at-if1 = after-link-edges .before in
     let after-place-start = at-if1 .before .before .before .before .before .before .before .before in
     let after-row-room = after-place-start .before .before .before .before in
     let after-wide8 = after-row-room .before in
     let after-wide32 = after-wide8 .before in
-    let s = after-wide32 .before .before .before .before .before .before in
-    start-fills (ruleIn (s .args .head) (s .args .edges .now))
-    (start-row (s .args .head) (s .args .edges .now) (s .args .scale) (s .pre .ready .scaled))
-    (after-place-start .place-start .ensures)
-    _
-    (s .pre)
-    (after-place-start .place-start .kept .1 .1 .0)
-    (each-is (s .args .head) (s .args .edges .now) _ _ (s .pre .ready) (after-wide32 .wide32 .ensures .0)
-    (after-wide8 .wide8 .ensures .0))
-    (room-cells (length (s .args .cells .now)) (length (s .args .rows .now)) _ _ (after-row-room .row-room .ensures))
-    (at-if1 .if1 .left)
+    let s = after-wide32 .before .before .before .before .before .before in (
+      start-fills (ruleIn (s .args .head) (s .args .edges .now))
+          (start-row (s .args .head) (s .args .edges .now) (s .args .scale) (s .pre .ready .scaled))
+          (after-place-start .place-start .ensures)
+          _
+          (s .pre)
+          (after-place-start .place-start .kept .1 .1 .0)
+          (each-is (s .args .head) (s .args .edges .now) _ _ (s .pre .ready) (after-wide32 .wide32 .ensures .0)
+          (after-wide8 .wide8 .ensures .0))
+          (room-cells (length (s .args .cells .now)) (length (s .args .rows .now)) _ _ (after-row-room .row-room .ensures))
+          (at-if1 .if1 .left),
+      after-link-edges .link-edges .ensures,
+    )
 
 same-length-4 : tie.Need-same-length-4
 same-length-4 c = search needs
@@ -117,7 +126,7 @@ returns-2 : tie.Need-returns-2
 returns-2 c =
     let after-fill-rows = c .before .before .before .before .before .before .before .before in
     let after-place-start = after-fill-rows .before .before .before .before .before .before .before .before .before
-    .before .before .before .before in
+    .before .before .before .before .before .before in
     let after-row-room = after-place-start .before .before .before .before in
     let after-wide8 = after-row-room .before in
     let after-wide32 = after-wide8 .before in
@@ -149,6 +158,8 @@ fill-tables-spec =
     same-length-2
     same-length-3
     returns
+    link-edges-requires
+    slice-aggregate-fill-rows
     fill-rows-requires
     same-length-4
     same-length-5

@@ -11,25 +11,27 @@ use Rattle.construct.proofs.cells.fill_row.Statement.{statement}
 use Rattle.construct.proofs.cells.fill_row.Tie as tie
 
 abbrev Inv-loop : tie.InvT-loop
-Inv-loop head edges scale row marks₀ cells₀ rows₀ pool₀ progress₀ symbol₀ marks cells rows pool progress symbol =
+Inv-loop head edges links scale row marks₀ cells₀ rows₀ pool₀ progress₀ symbol₀ marks cells rows pool progress symbol =
     (length marks ≡ length marks₀) × (length rows ≡ length rows₀) × (length pool ≡ length pool₀)
     × FillingRow (ruleIn head edges) row (rowsIn (progress₀ .rows) rows₀ pool₀) (progress₀ .room) marks₀ cells₀
     symbol marks
     cells rows pool progress
 
 abbrev μ-loop : tie.MeasureT-loop
-μ-loop head edges scale row marks₀ cells₀ rows₀ pool₀ progress₀ symbol₀ marks cells rows pool progress symbol =
+μ-loop head edges links scale row marks₀ cells₀ rows₀ pool₀ progress₀ symbol₀ marks cells rows pool progress symbol =
     head .symbols - symbol
 
 loop-holds : tie.Need-loop-holds Inv-loop μ-loop
-loop-holds c = (refl, refl, refl, row-start _ _ _ _ _ _ _ _ (c .before .before .before .before .before .pre))
+loop-holds c = (refl, refl, refl, row-start _ _ _ _ _ _ _ _ (c .before .before .before .before .before .before .pre .0))
 
 fill-symbol-requires : tie.Need-fill-symbol-requires Inv-loop μ-loop
 fill-symbol-requires c κs =
     let at-if1 = c .before .before .before .before in
     let at-loop = at-if1 .before .before in
-    let start = at-loop .before .before .before .before .before .before in
-    (row-can (at-loop .loop .inv .3) (start .pre .leave .ready) (start .pre .cells-fit), at-if1 .if1 .taken)
+    let start = at-loop .before .before .before .before .before .before .before in (
+      row-can (at-loop .loop .inv .3) (start .pre .0 .leave .ready) (start .pre .0 .cells-fit),
+      (at-if1 .if1 .taken, start .pre .1),
+    )
 
 same-length : tie.Need-same-length Inv-loop μ-loop
 same-length c = search needs
@@ -48,7 +50,7 @@ returns c =
     let after-fill-symbol = c .before .before .before .before .before .before .before .before .before .before in
     let at-if1 = after-fill-symbol .before .before .before .before .before in
     let at-loop = at-if1 .before .before in
-    let s = at-loop .before .before .before .before .before .before in
+    let s = at-loop .before .before .before .before .before .before .before in
     row-refused (at-loop .loop .inv .3) (rw (symbols-of (s .args .head) (s .args .edges .now)) (at-if1 .if1 .taken))
     (after-fill-symbol .fill-symbol .ensures)
     (c .if2 .taken)
@@ -64,16 +66,16 @@ loop-again c =
     let after-fill-symbol = c .before .before .before .before .before .before .before .before .before .before in
     let at-if1 = after-fill-symbol .before .before .before .before .before in
     let at-loop = at-if1 .before .before in
-    let s = at-loop .before .before .before .before .before .before in
+    let s = at-loop .before .before .before .before .before .before .before in
     let l = at-loop .loop in (
-      after-fill-symbol .fill-symbol .kept .1 .1 .1 .1 .1 .0 ∙ l .inv .0,
-      after-fill-symbol .fill-symbol .kept .1 .1 .1 .1 .1 .1 .1 .0 ∙ l .inv .1,
-      after-fill-symbol .fill-symbol .kept .1 .1 .1 .1 .1 .1 .1 .1 .0 ∙ l .inv .2,
+      after-fill-symbol .fill-symbol .kept .1 .1 .1 .1 .1 .1 .0 ∙ l .inv .0,
+      after-fill-symbol .fill-symbol .kept .1 .1 .1 .1 .1 .1 .1 .1 .0 ∙ l .inv .1,
+      after-fill-symbol .fill-symbol .kept .1 .1 .1 .1 .1 .1 .1 .1 .1 .0 ∙ l .inv .2,
       row-next (l .inv .3) (rw (symbols-of (s .args .head) (s .args .edges .now)) (at-if1 .if1 .taken))
           (after-fill-symbol .fill-symbol .ensures)
           (c .if2 .left)
-          (after-fill-symbol .fill-symbol .kept .1 .1 .1 .1 .1 .1 .0)
-          (s .pre .cells-fit),
+          (after-fill-symbol .fill-symbol .kept .1 .1 .1 .1 .1 .1 .1 .0)
+          (s .pre .0 .cells-fit),
     )
 
 same-length-5 : tie.Need-same-length-5 Inv-loop μ-loop
@@ -91,7 +93,7 @@ same-length-8 c = search needs
 returns-2 : tie.Need-returns-2 Inv-loop μ-loop
 returns-2 c =
     let at-loop = c .before .before in
-    let s = at-loop .before .before .before .before .before .before in
+    let s = at-loop .before .before .before .before .before .before .before in
     row-end (at-loop .loop .inv .3) (rw (symbols-of (s .args .head) (s .args .edges .now)) (c .if1 .left))
 
 pub fill-row-spec : {M : Type 1} → statement M

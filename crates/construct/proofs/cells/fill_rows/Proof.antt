@@ -12,25 +12,28 @@ use Rattle.construct.proofs.cells.fill_rows.Statement.{statement}
 use Rattle.construct.proofs.cells.fill_rows.Tie as tie
 
 abbrev Inv-loop : tie.InvT-loop
-Inv-loop head edges scale marks₀ cells₀ rows₀ pool₀ progress₀ row₀ marks cells rows pool progress row =
+Inv-loop head edges links scale marks₀ cells₀ rows₀ pool₀ progress₀ row₀ marks cells rows pool progress row =
     (length marks ≡ length marks₀) × (length rows ≡ length rows₀) × (length pool ≡ length pool₀)
     × FillingAll (ruleIn head edges) (suc mostRows) (rowsOf (ruleIn head edges)) (progress₀ .room) marks₀ cells₀ row
     marks cells
     rows pool progress
 
 abbrev μ-loop : tie.MeasureT-loop
-μ-loop head edges scale marks₀ cells₀ rows₀ pool₀ progress₀ row₀ marks cells rows pool progress row =
+μ-loop head edges links scale marks₀ cells₀ rows₀ pool₀ progress₀ row₀ marks cells rows pool progress row =
     mostRows - row
 
 loop-holds : tie.Need-loop-holds Inv-loop μ-loop
-loop-holds c = (refl, refl, refl, all-start _ _ _ _ _ _ _ (c .before .before .before .before .before .pre))
+loop-holds c = (refl, refl, refl, all-start _ _ _ _ _ _ _ (c .before .before .before .before .before .before .pre .0))
 
 fill-row-requires : tie.Need-fill-row-requires Inv-loop μ-loop
 fill-row-requires c κs =
     let at-if1 = c .before .before .before .before in
     let at-loop = at-if1 .before .before in
-    let start = at-loop .before .before .before .before .before .before in
-    all-can (omega arith) (at-loop .loop .inv .3) (start .pre .ready) (start .pre .cells-fit) (at-if1 .if1 .taken)
+    let start = at-loop .before .before .before .before .before .before .before in (
+      all-can (omega arith) (at-loop .loop .inv .3) (start .pre .0 .ready) (start .pre .0 .cells-fit)
+          (at-if1 .if1 .taken),
+      start .pre .1,
+    )
 
 same-length : tie.Need-same-length Inv-loop μ-loop
 same-length c = search needs
@@ -67,14 +70,14 @@ loop-again c =
     let after-fill-row = c .before .before .before .before .before .before .before .before .before .before in
     let at-if1 = after-fill-row .before .before .before .before .before in
     let at-loop = at-if1 .before .before in
-    let start = at-loop .before .before .before .before .before .before in
+    let start = at-loop .before .before .before .before .before .before .before in
     let l = at-loop .loop in (
-      after-fill-row .fill-row .kept .1 .1 .1 .1 .0 ∙ l .inv .0,
-      after-fill-row .fill-row .kept .1 .1 .1 .1 .1 .1 .0 ∙ l .inv .1,
-      after-fill-row .fill-row .kept .1 .1 .1 .1 .1 .1 .1 .0 ∙ l .inv .2,
+      after-fill-row .fill-row .kept .1 .1 .1 .1 .1 .0 ∙ l .inv .0,
+      after-fill-row .fill-row .kept .1 .1 .1 .1 .1 .1 .1 .0 ∙ l .inv .1,
+      after-fill-row .fill-row .kept .1 .1 .1 .1 .1 .1 .1 .1 .0 ∙ l .inv .2,
       all-next (omega arith) (l .inv .3) (at-if1 .if1 .taken) (after-fill-row .fill-row .ensures) (c .if2 .left)
-          (after-fill-row .fill-row .kept .1 .1 .1 .1 .1 .0)
-          (start .pre .cells-fit),
+          (after-fill-row .fill-row .kept .1 .1 .1 .1 .1 .1 .0)
+          (start .pre .0 .cells-fit),
     )
 
 same-length-5 : tie.Need-same-length-5 Inv-loop μ-loop

@@ -12,7 +12,7 @@ use Rattle.construct.proofs.cells.fill_symbol.Statement.{statement}
 use Rattle.construct.proofs.cells.fill_symbol.Tie as tie
 
 abbrev Inv-loop : tie.InvT-loop
-Inv-loop head edges scale row symbol marks₀ cells₀ rows₀ pool₀ width at progress₀ i₀ marks cells rows pool progress i =
+Inv-loop head edges links scale row symbol marks₀ cells₀ rows₀ pool₀ width at progress₀ i₀ marks cells rows pool progress i =
     (width ≡ widthOf (ruleIn head edges)) × (width ≤ 512) × (at ≡ (row * ruleIn head edges .symbols + symbol) * width)
     × (length marks ≡ length marks₀) × (length rows ≡ length rows₀) × (length pool ≡ length pool₀)
     × Filling (ruleIn head edges) row symbol at (rowsIn (progress₀ .rows) rows₀ pool₀) (progress₀ .room) marks₀
@@ -20,20 +20,20 @@ Inv-loop head edges scale row symbol marks₀ cells₀ rows₀ pool₀ width at 
     cells rows pool progress
 
 abbrev μ-loop : tie.MeasureT-loop
-μ-loop head edges scale row symbol marks₀ cells₀ rows₀ pool₀ width at progress₀ i₀ marks cells rows pool progress i =
+μ-loop head edges links scale row symbol marks₀ cells₀ rows₀ pool₀ width at progress₀ i₀ marks cells rows pool progress i =
     width - i
 
 -- the cell's place lies in the table
 fits :
     (c : tie.In-loop Inv-loop μ-loop)
     → c .before .before .place-of .result + c .before .loop .i
-    < length (c .before .before .before .before .before .before .before .before .before .before .before .args .cells
+    < length (c .before .before .before .before .before .before .before .before .before .before .before .before .args .cells
     .now)
 fits c =
-    let s = c .before .before .before .before .before .before .before .before .before .before .before in
+    let s = c .before .before .before .before .before .before .before .before .before .before .before .before in
     let l = c .before .loop in
     filling-fits (l .inv .6) _ (l .inv .0) (c .loop-test .taken)
-    (rw (symbols-of (s .args .head) (s .args .edges .now)) (s .pre .1))
+    (rw (symbols-of (s .args .head) (s .args .edges .now)) (s .pre .1 .0))
     (s .pre .0 .cells-fit)
     (l .inv .2)
 
@@ -55,12 +55,12 @@ wide32-requires-2 c κs = search needs
 place-of-requires : tie.Need-place-of-requires Inv-loop μ-loop
 place-of-requires c κs =
     let after-wide8 = c .before .before in
-    let s = after-wide8 .before .before .before .before .before .before in
+    let s = after-wide8 .before .before .before .before .before .before .before in
     let few : s .args .head .symbols ≤ 16 = symbols-few (s .args .head) (s .args .edges .now)
     (s .pre .0 .leave .ready) in (
       omega (arith, s .pre .0 .leave .row-below, s .pre .0 .leave .held .in-room, s .pre .0 .leave .held .room-most),
       omega (arith, few, c .before .wide32 .ensures .0),
-      omega (arith, few, s .pre .1, c .wide322 .ensures .0),
+      omega (arith, few, s .pre .1 .0, c .wide322 .ensures .0),
       omega (arith, after-wide8 .wide8 .ensures .1),
     )
 
@@ -68,7 +68,7 @@ loop-holds : tie.Need-loop-holds Inv-loop μ-loop
 loop-holds c =
     let after-wide32 = c .before .before in
     let after-wide8 = after-wide32 .before in
-    let s = after-wide8 .before .before .before .before .before .before in (
+    let s = after-wide8 .before .before .before .before .before .before .before in (
       width-is (after-wide8 .wide8 .result) (s .pre .0 .leave .ready) (after-wide8 .wide8 .ensures .0),
       omega (arith, after-wide8 .wide8 .ensures .1),
       place-known (s .args .head) (s .args .edges .now) (s .args .row) (s .args .symbol) _ _ _ _ (c .place-of .ensures)
@@ -86,8 +86,8 @@ narrow32-requires c κs = search needs
 make-cell-requires : tie.Need-make-cell-requires Inv-loop μ-loop
 make-cell-requires c κs =
     let at-loop = c .before .before .before .before .before in
-    let start = at-loop .before .before .before .before .before .before .before .before .before .before in
-    filling-leave (at-loop .loop .inv .6) (start .pre .0 .leave .ready)
+    let start = at-loop .before .before .before .before .before .before .before .before .before .before .before in
+    (filling-leave (at-loop .loop .inv .6) (start .pre .0 .leave .ready), start .pre .1 .1)
 
 same-length : tie.Need-same-length Inv-loop μ-loop
 same-length c = search needs
@@ -116,15 +116,15 @@ add-cells : tie.Need-add-cells Inv-loop μ-loop
 add-cells c =
     let after-place = c .before .before .before .before .before .before .before .before .before .before .before
     .before .before .before in
-    let start = after-place .before .before .before .before .before .before .before .before .before .before .before in
-    omega (arith, fits after-place, start .good .1 .1 .1 .1 .1 .1 .0 .0)
+    let start = after-place .before .before .before .before .before .before .before .before .before .before .before .before in
+    omega (arith, fits after-place, start .good .1 .1 .1 .1 .1 .1 .1 .0 .0)
 
 mul-cells : tie.Need-mul-cells Inv-loop μ-loop
 mul-cells c =
     let after-place = c .before .before .before .before .before .before .before .before .before .before .before
     .before .before .before in
-    let start = after-place .before .before .before .before .before .before .before .before .before .before .before in
-    scaled-fits _ (length (start .args .cells .now)) 4 (fits after-place) (start .good .1 .1 .1 .1 .1 .1 .0 .1)
+    let start = after-place .before .before .before .before .before .before .before .before .before .before .before .before in
+    scaled-fits _ (length (start .args .cells .now)) 4 (fits after-place) (start .good .1 .1 .1 .1 .1 .1 .1 .0 .1)
 
 slice-write-cells : tie.Need-slice-write-cells Inv-loop μ-loop
 slice-write-cells c =
@@ -149,9 +149,9 @@ loop-again c =
       l .inv .0,
       l .inv .1,
       l .inv .2,
-      after-make-cell .make-cell .kept .1 .1 .1 .1 .1 .0 ∙ l .inv .3,
-      after-make-cell .make-cell .kept .1 .1 .1 .1 .1 .1 .0 ∙ l .inv .4,
-      after-make-cell .make-cell .kept .1 .1 .1 .1 .1 .1 .1 .0 ∙ l .inv .5,
+      after-make-cell .make-cell .kept .1 .1 .1 .1 .1 .1 .0 ∙ l .inv .3,
+      after-make-cell .make-cell .kept .1 .1 .1 .1 .1 .1 .1 .0 ∙ l .inv .4,
+      after-make-cell .make-cell .kept .1 .1 .1 .1 .1 .1 .1 .1 .0 ∙ l .inv .5,
       filling-next (l .inv .6) (omega (arith, in-loop .loop-test .taken, l .inv .0)) refl
           (after-narrow32 .narrow32 .ensures) (after-make-cell .make-cell .ensures) _
           (c .if1 .left)
@@ -173,7 +173,7 @@ same-length-8 c = search needs
 
 returns-2 : tie.Need-returns-2 Inv-loop μ-loop
 returns-2 c =
-    let start = c .before .before .before .before .before .before .before .before .before .before .before in
+    let start = c .before .before .before .before .before .before .before .before .before .before .before .before in
     filling-end (c .before .loop .inv .6) (omega (arith, c .loop-test .left, c .before .loop .inv .0))
     (c .before .loop .inv .2 ∙ ap (λ (w : ℕ).
     (start .args .row * ruleIn (start .args .head) (start .args .edges .now) .symbols + start .args .symbol) * w)

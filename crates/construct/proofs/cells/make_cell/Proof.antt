@@ -48,8 +48,8 @@ part-mark-next-start c = search needs
 part-mark-next-end : tie.Need-part-mark-next-end
 part-mark-next-end c =
     let after-wide32 = c .before .before .before in
-    let start = after-wide32 .before .before .before .before .before .before in
-    part-fits (start .pre .held) (start .args .row) _ _ (start .pre .row-below) (after-wide32 .wide32 .ensures .0)
+    let start = after-wide32 .before .before .before .before .before .before .before in
+    part-fits (start .pre .0 .held) (start .args .row) _ _ (start .pre .0 .row-below) (after-wide32 .wide32 .ensures .0)
     (c .before .wide322 .ensures .0)
 
 mark-next-requires : tie.Need-mark-next-requires
@@ -76,13 +76,13 @@ returns c =
     let after-mark-next = after-place-marks .before .before .before .before .before .before in
     let after-wide322 = after-mark-next .before .before .before .before in
     let after-wide32 = after-wide322 .before .before in
-    let s = after-wide32 .before .before .before .before .before .before in
+    let s = after-wide32 .before .before .before .before .before .before .before in
     cell-made (ruleIn (s .args .head) (s .args .edges .now)) (s .args .row) (s .args .input)
     (rowsIn (s .args .p .rows) (s .args .rows .now) (s .args .pool .now))
     (after-mark-next .mark-next .result) (after-place-marks .place-marks .result) _
-    (part-is (s .pre .held) (s .args .row) _ _ (s .pre .row-below) (after-wide32 .wide32 .ensures .0)
+    (part-is (s .pre .0 .held) (s .args .row) _ _ (s .pre .0 .row-below) (after-wide32 .wide32 .ensures .0)
     (after-wide322 .wide322 .ensures .0))
-    (after-mark-next .mark-next .kept .1 .1 .1 .1 .1 .0)
+    (after-mark-next .mark-next .kept .1 .1 .1 .1 .1 .1 .0)
     (after-mark-next .mark-next .ensures)
     (after-place-marks .place-marks .ensures)
     (c .cell-of .ensures)

@@ -32,7 +32,7 @@ loop-holds c =
     let a = c .before .before .before .args in (
       omega arith,
       linked-none _ _ _ (sym (edges-length (c .before .wide32 .result) (a .edges .now))) refl
-      (λ k h. getD-replicate 768 k (c .narrow16 .result) 0 h ∙ c .narrow16 .ensures),
+          (λ k h. getD-replicate 768 k (c .narrow16 .result) 0 h ∙ c .narrow16 .ensures),
     )
 
 sub-e : tie.Need-sub-e Inv-loop μ-loop
@@ -82,9 +82,13 @@ array-write-links c =
     let after-wide32 = at-loop .before .before in
     let start = after-wide32 .before .before in
     let a = start .args in
-    omega
-    (arith, c .before .before .loop-test .taken, at-loop .loop .inv .0, after-wide32 .wide32 .ensures .0,
-    edges-few (a .head) (a .edges .now) (start .pre))
+    omega (
+      arith,
+      c .before .before .loop-test .taken,
+      at-loop .loop .inv .0,
+      after-wide32 .wide32 .ensures .0,
+      edges-few (a .head) (a .edges .now) (start .pre),
+    )
 
 narrow16-requires-2 : tie.Need-narrow16-requires-2 Inv-loop μ-loop
 narrow16-requires-2 c κs = search needs
@@ -93,15 +97,7 @@ mul-links-3 : tie.Need-mul-links-3 Inv-loop μ-loop
 mul-links-3 c = search needs
 
 array-write-links-2 : tie.Need-array-write-links-2 Inv-loop μ-loop
-array-write-links-2 c =
-    let at-loop = c .before .before .before .before in
-    let after-wide32 = at-loop .before .before in
-    let start = after-wide32 .before .before in
-    let a = start .args in
-    let f : Fields (a .edges .now) (edgesIn (after-wide32 .wide32 .result) (a .edges .now)) (at-loop .loop .e - 1) =
-    fields-of (a .head) (a .edges .now) (after-wide32 .wide32 .result) (at-loop .loop .e - 1) (start .pre)
-    (after-wide32 .wide32 .ensures .0) (omega (arith, c .before .before .before .loop-test .taken, at-loop .loop .inv .0)) in
-    omega (arith, f .source-is, f .symbol-is, f .source-few, f .symbol-few, c .before .before .number-at .ensures .0, c .before .number-at2 .ensures .0)
+array-write-links-2 c = array-read-links (c .before)
 
 loop-less : tie.Need-loop-less Inv-loop μ-loop
 loop-less c = search needs
@@ -114,14 +110,13 @@ loop-again c =
     let a = start .args in
     let f : Fields (a .edges .now) (edgesIn (after-wide32 .wide32 .result) (a .edges .now)) (at-loop .loop .e - 1) =
     fields-of (a .head) (a .edges .now) (after-wide32 .wide32 .result) (at-loop .loop .e - 1) (start .pre)
-    (after-wide32 .wide32 .ensures .0) (omega (arith, c .before .before .before .loop-test .taken, at-loop .loop .inv .0)) in
-    (
+    (after-wide32 .wide32 .ensures .0) (omega (arith, c .before .before .before .loop-test .taken, at-loop .loop .inv .0)) in (
       omega arith,
       link-step _ _ _ _ _ (at-loop .loop .inv .1) (c .before .before .before .loop-test .taken)
-      (omega (arith, at-loop .loop .inv .0, after-wide32 .wide32 .ensures .0, edges-few (a .head) (a .edges .now) (start .pre)))
-      (f .inside) (f .source-few) (f .symbol-few)
-      (omega (arith, f .source-is, f .symbol-is, c .before .before .number-at .ensures .0, c .before .number-at2 .ensures .0))
-      (c .narrow162 .ensures),
+          (omega (arith, at-loop .loop .inv .0, after-wide32 .wide32 .ensures .0, edges-few (a .head) (a .edges .now) (start .pre)))
+          (f .inside) (f .source-few) (f .symbol-few)
+          (omega (arith, f .source-is, f .symbol-is, c .before .before .number-at .ensures .0, c .before .number-at2 .ensures .0))
+          (c .narrow162 .ensures),
     )
 
 returns : tie.Need-returns Inv-loop μ-loop

@@ -55,10 +55,12 @@ loop-less c =
     let at-loop = in-loop .before .before in
     let start = at-loop .before .before .before .before .before in
     let a = start .args in
-    omega
-    (arith, in-loop .if1 .taken,
-    looking-later (at-loop .loop .inv) _ (start .pre .1 .1)
-    (omega (arith, edge-count (a .head) (a .edges .now), in-loop .if1 .taken)) (c .next-edge .ensures))
+    omega (
+      arith,
+      in-loop .if1 .taken,
+      looking-later (at-loop .loop .inv) _ (start .pre .1 .1)
+          (omega (arith, edge-count (a .head) (a .edges .now), in-loop .if1 .taken)) (c .next-edge .ensures),
+    )
 
 loop-again : tie.Need-loop-again Inv-loop μ-loop
 loop-again c =

@@ -17,10 +17,8 @@ returns : tie.Need-returns
 returns c =
     let after-mark-row = c .before .before in
     let after-row-resets = after-mark-row .before .before in
-    let start = after-row-resets .before .before .before .before in
-    let a = start .args in
-    next-marked (a .head) (a .edges .now) (a .scale) (a .input) (a .row .now) _ _ _ _ (start .pre .0)
-    (after-row-resets .row-resets .ensures)
+    let a = after-row-resets .before .before .before .before .before .args in
+    next-marked (a .head) (a .edges .now) (a .input) (a .row .now) _ _ _ (after-row-resets .row-resets .ensures)
     (after-mark-row .mark-row .ensures)
 
 pub mark-next-spec : {M : Type 1} → statement M

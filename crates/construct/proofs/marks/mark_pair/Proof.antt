@@ -1,27 +1,44 @@
--- `construct::marks::mark_pair` meets its contract: after e edges the targets by the first e are marked.
+-- `construct::marks::mark_pair` meets its contract: the targets by the edges passed are marked.
 use mathlib.Core.Logic.{⊎-elim}
 use mathlib.Core.Path.{_≡_, refl, _∙_, ap}
 use Prim.Native.Nat.{_-_}
+use native.Mathlib.Omega.{arith}
 use lib.ListN.{length}
 use borrow.Author.Needs.{needs}
 use Rattle.construct.proofs.MarkLaws.{marks-again}
-use Rattle.construct.proofs.TargetMarks.{Pairing, pairing-start, pairing-can, pairing-next, pairing-skip, pairing-end}
+use Rattle.construct.proofs.EdgeLaws.{first-at}
+use Rattle.construct.proofs.TargetMarks.{Pairing, pairing-start, pairing-can, pairing-next, pairing-skip, pairing-later, pairing-end}
 use Rattle.construct.specs.Marks.{codesIn}
 use Rattle.construct.proofs.marks.mark_pair.Statement.{statement}
 use Rattle.construct.proofs.marks.mark_pair.Tie as tie
 
 abbrev Inv-loop : tie.InvT-loop
-Inv-loop head edges scale input timer code marks₀ pair span₀ e₀ marks span e = (length marks ≡ length marks₀) ×
+Inv-loop head edges links scale input timer code marks₀ pair span₀ e₀ marks span e = (length marks ≡ length marks₀) ×
     Pairing head edges input timer code e (codesIn marks₀) marks span
 
 abbrev μ-loop : tie.MeasureT-loop
-μ-loop head edges scale input timer code marks₀ pair span₀ e₀ marks span e = head .count - e
+μ-loop head edges links scale input timer code marks₀ pair span₀ e₀ marks span e = head .count - e
 
 unpack-requires : tie.Need-unpack-requires Inv-loop μ-loop
 unpack-requires c κs = search needs
 
+first-edge-requires : tie.Need-first-edge-requires Inv-loop μ-loop
+first-edge-requires c κs = search needs
+
 loop-holds : tie.Need-loop-holds Inv-loop μ-loop
-loop-holds c = (refl, pairing-start _ _ _ _ _ _ _ (c .before .before .before .pre .1))
+loop-holds c =
+    let after-unpack = c .before in
+    let start = after-unpack .before .before .before .before in
+    let a = start .args in (
+      refl,
+      pairing-start (a .head) (a .edges .now) (a .input) (a .timer) (a .code) _ _ _
+          (c .first-edge .ensures
+          ∙ first-at (a .head) (a .edges .now) (a .links .now) (a .input .symbol) (a .code) _ (start .pre .0 .valid)
+          (start .pre .0 .scaled)
+          (start .pre .1 .1)
+          (after-unpack .unpack .ensures))
+          (start .pre .1 .0),
+    )
 
 allows-requires : tie.Need-allows-requires Inv-loop μ-loop
 allows-requires c κs = search needs
@@ -33,39 +50,50 @@ mark-requires : tie.Need-mark-requires Inv-loop μ-loop
 mark-requires c κs =
     let at-if1 = c .before .before .before .before in
     let at-loop = at-if1 .before .before in
-    let after-unpack = at-loop .before in
-    let start = after-unpack .before .before .before in
+    let after-unpack = at-loop .before .before in
+    let start = after-unpack .before .before .before .before in
     let l = at-loop .loop in
-    pairing-can (l .inv .1) (start .pre .0) (at-if1 .if1 .taken) _ _ (after-unpack .unpack .ensures)
+    pairing-can (l .inv .1) (start .pre .0) (start .pre .1 .1) (at-if1 .if1 .taken) _ _ (after-unpack .unpack .ensures)
     (c .before .target .ensures) (l .inv .0)
 
-add-e : tie.Need-add-e Inv-loop μ-loop
-add-e c = search needs
+next-edge-requires : tie.Need-next-edge-requires Inv-loop μ-loop
+next-edge-requires c κs = search needs
 
 loop-less : tie.Need-loop-less Inv-loop μ-loop
-loop-less c = search needs
+loop-less c =
+    let at-if1 = c .before .before .before in
+    let at-loop = at-if1 .before .before in
+    let start = at-loop .before .before .before .before .before .before in
+    omega (
+      arith,
+      at-if1 .if1 .taken,
+      pairing-later (at-loop .loop .inv .1) (start .pre .0) (start .pre .1 .1) (at-if1 .if1 .taken) _
+          (c .next-edge .ensures),
+    )
 
 loop-again : tie.Need-loop-again Inv-loop μ-loop
 loop-again c =
-    let at-if1 = c .before .before in
+    let at-if1 = c .before .before .before in
     let at-loop = at-if1 .before .before in
-    let after-unpack = at-loop .before in
-    let start = after-unpack .before .before .before in
+    let after-unpack = at-loop .before .before in
+    let start = after-unpack .before .before .before .before in
     let l = at-loop .loop in
     ⊎-elim
     (λ w. (
       ap length (w .6) ∙ (w .3 .kept .0 ∙ l .inv .0),
-      pairing-next (l .inv .1) (start .pre .0) (at-if1 .if1 .taken) _ _ _ _ _ (after-unpack .unpack .ensures)
-          (c .before .allows .ensures) (w .0 .taken)
+      pairing-next (l .inv .1) (start .pre .0) (start .pre .1 .1) (at-if1 .if1 .taken) _ _ _ _ _ _
+          (after-unpack .unpack .ensures) (c .before .before .allows .ensures) (w .0 .taken)
           (w .1 .ensures)
-          (marks-again _ _ (w .3 .ensures) (w .6) (w .7)),
+          (marks-again _ _ (w .3 .ensures) (w .6) (w .7))
+          (c .next-edge .ensures),
     ))
     (λ w. (
       ap length (w .1) ∙ l .inv .0,
-      pairing-skip (l .inv .1) (start .pre .0) (at-if1 .if1 .taken) _ _ _ _ (after-unpack .unpack .ensures)
-          (c .before .allows .ensures) (w .0 .left) (w .1) (w .2),
+      pairing-skip (l .inv .1) (start .pre .0) (start .pre .1 .1) (at-if1 .if1 .taken) _ _ _ _ _
+          (after-unpack .unpack .ensures) (c .before .before .allows .ensures) (w .0 .left) (w .1) (w .2)
+          (c .next-edge .ensures),
     ))
-    (c .if2 .came)
+    (c .before .if2 .came)
 
 same-length : tie.Need-same-length Inv-loop μ-loop
 same-length c = search needs
@@ -80,11 +108,12 @@ mark-pair-spec =
     Inv-loop
     μ-loop
     unpack-requires
+    first-edge-requires
     loop-holds
     allows-requires
     target-requires
     mark-requires
-    add-e
+    next-edge-requires
     loop-less
     loop-again
     same-length

@@ -8,14 +8,14 @@ use Rattle.construct.proofs.marks.mark_row.Statement.{statement}
 use Rattle.construct.proofs.marks.mark_row.Tie as tie
 
 abbrev Inv-loop : tie.InvT-loop
-Inv-loop head edges scale input timer row marks₀ span₀ n₀ marks span n = (length marks ≡ length marks₀) × Rowing head
+Inv-loop head edges links scale input timer row marks₀ span₀ n₀ marks span n = (length marks ≡ length marks₀) × Rowing head
     edges input timer row n marks span
 
 abbrev μ-loop : tie.MeasureT-loop
-μ-loop head edges scale input timer row marks₀ span₀ n₀ marks span n = length row - n
+μ-loop head edges links scale input timer row marks₀ span₀ n₀ marks span n = length row - n
 
 loop-holds : tie.Need-loop-holds Inv-loop μ-loop
-loop-holds c = (refl, rowing-start _ _ _ _ _ _ (c .before .before .before .pre .1))
+loop-holds c = (refl, rowing-start _ _ _ _ _ _ (c .before .before .before .before .pre .1 .0))
 
 mul-mark-pair : tie.Need-mul-mark-pair Inv-loop μ-loop
 mul-mark-pair c = search needs
@@ -25,9 +25,10 @@ shared-slice-read-mark-pair c = search needs
 
 mark-pair-requires : tie.Need-mark-pair-requires Inv-loop μ-loop
 mark-pair-requires c κs =
-    let l = c .before .before .before .loop in (
-      ready-again _ (c .before .before .before .before .before .before .before .pre .0) (l .inv .0),
-      l .inv .1 .marks-are .in-span,
+    let l = c .before .before .before .loop in
+    let start = c .before .before .before .before .before .before .before .before in (
+      ready-again _ (start .pre .0) (l .inv .0),
+      (l .inv .1 .marks-are .in-span, start .pre .1 .1),
     )
 
 add-n : tie.Need-add-n Inv-loop μ-loop
@@ -42,7 +43,7 @@ loop-again c =
     let in-loop = after-mark-pair .before .before .before in
     let at-loop = in-loop .before in
     let l = at-loop .loop in (
-      after-mark-pair .mark-pair .kept .1 .1 .1 .1 .1 .1 .0 ∙ l .inv .0,
+      after-mark-pair .mark-pair .kept .1 .1 .1 .1 .1 .1 .1 .0 ∙ l .inv .0,
       rowing-next (l .inv .1) _ _ (in-loop .loop-test .taken) (after-mark-pair .mark-pair .ensures),
     )
 
