@@ -11,11 +11,10 @@ use lib.Dec.{eqb, ltb, leb}
 use lib.ListN.{length, getD, drop, drop-of-length-le}
 use lib.Seq.{drop-cons, getD-drop}
 use Rattle.model.specs.declared.Head.{Head}
-use Rattle.model.specs.Basics.{pick}
 use Rattle.model.specs.Rules.{Edge, Rule, validRule}
 use Rattle.model.specs.Runs.{noEdge}
 use Rattle.model.specs.Layout.{edgeWidth, edgeIn, edgesIn, ruleIn}
-use Rattle.model.specs.Construction.{withCode, locationOf, allows, pairResets, rowResets, targetOf, pairTargets}
+use Rattle.model.specs.Construction.{locationOf, allows, pairResets, rowResets, targetOf, pairTargets}
 use Rattle.model.proofs.Logic.{by-test, In, here, there, in-at}
 use Rattle.model.proofs.Valid.{valid-of, Valid, EdgeIn}
 use Rattle.model.proofs.RowSets.{even-reset}
@@ -25,7 +24,7 @@ use Rattle.pairs.specs.declared.Pair.{Pair}
 use Rattle.pairs.specs.declared.Input.{Input}
 use Rattle.pairs.specs.Pairs.{Scaled, unpacked, pairAllows, pairResetsOn, pairTarget}
 use Rattle.pairs.proofs.Agreement.{location-is, allows-is, target-is}
-use Rattle.construct.specs.Leaving.{leaves, firstLeaving, leavingFrom, edgeOf, firstPlace, nextPlace, firstLink, Linked}
+use Rattle.construct.specs.Leaving.{leaves, firstLeaving, leavingFrom, edgeOf, nextPlace, firstLink, Linked}
 use Rattle.construct.proofs.LeavingLaws.{Standing, standing-from, next-is, next-later, from-first}
 
 -- the edges of the rule that head record and edge table spell

@@ -1,15 +1,15 @@
 -- Links from edge to edge: the edges that they pass by do not leave the location on the symbol.
 use mathlib.Core.Path.{_≡_, refl, sym, _∙_, ap, ap₂}
-use mathlib.Core.Bool.{Bool, true, false, _&&_, _||_}
+use mathlib.Core.Bool.{true, false}
 use mathlib.Core.List.{List, [], _∷_}
-use Prim.Native.Nat.{ℕ, suc, _+_, _-_, _*_, _≤_, _<_}
+use Prim.Native.Nat.{ℕ, suc, _+_, _-_, _≤_, _<_}
 use native.Mathlib.Omega.{arith}
 use borrow.Author.Tests.{eqb-true, eq-eqb, lt-ltb, le-ltb}
 use lib.Dec.{eqb, ltb}
 use lib.ListN.{length, getD, drop, set, length-drop, length-set, drop-of-length-le}
 use lib.Seq.{drop-cons, getD-set-same, getD-set-other}
 use Rattle.model.specs.Basics.{pick}
-use Rattle.model.specs.Rules.{Edge, Rule}
+use Rattle.model.specs.Rules.{Edge}
 use Rattle.model.specs.Runs.{noEdge}
 use Rattle.model.proofs.Logic.{no-way, by-test, and-left, and-right, and-both, Cmp, cmp, is-lt, is-eq, is-gt}
 use Rattle.construct.specs.Leaving.{leaves, firstLeaving, leavingFrom, edgeOf, firstPlace, nextPlace, firstLink, LinkedFrom}

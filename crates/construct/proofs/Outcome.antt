@@ -1,5 +1,5 @@
 -- What the builder leaves and answers, from how the filling ended: the tables of the rule's rows, or 23 or 24 and zero.
-use mathlib.Core.Path.{_≡_, sym, _∙_, ap, ap₂, subst, subst⁻¹}
+use mathlib.Core.Path.{_≡_, sym, _∙_, ap, ap₂, subst⁻¹}
 use mathlib.Core.Bool.{true, false, not}
 use mathlib.Core.List.{List, [], _++_, append-nil}
 use Prim.Native.Nat.{ℕ, _+_, _-_, _≤_, _<_}

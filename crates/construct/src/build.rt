@@ -4,7 +4,7 @@ ghost use Prim.Native.Nat.{_*_, _/_, _≤_};
 ghost use lib.ListN.{length};
 ghost use Rattle.model.specs.Basics.{zeros};
 ghost use Rattle.model.specs.Basics.{lesser as lesserOf, quotient as quotientOf};
-ghost use Rattle.model.specs.Rules.{pairCount, validRule};
+ghost use Rattle.model.specs.Rules.{pairCount};
 ghost use Rattle.model.specs.Construction.{mostRows};
 ghost use Rattle.model.specs.Layout.{ruleIn, ruleRefusal};
 ghost use Rattle.model.specs.Tables.{rowRoom};

@@ -1,7 +1,6 @@
 // Cells, by row, symbol and interval; the rows that they lead to are numbered as they are found.
 ghost use mathlib.Core.Path.{_≡_};
-ghost use Prim.Native.Nat.{_+_, _*_, _^_, _<_};
-ghost use lib.ListN.{length};
+ghost use Prim.Native.Nat.{_+_, _*_, _<_};
 ghost use Rattle.model.specs.Basics.{oneIf};
 ghost use Rattle.model.specs.Construction.{width};
 ghost use Rattle.model.specs.Layout.{ruleIn};

@@ -11,12 +11,12 @@ use lib.Seq.{getD-take}
 use Rattle.model.specs.Basics.{pick, quotient, remainder, bit}
 use Rattle.model.specs.Rules.{Atom, Edge, Rule, cm, baseCount}
 use Rattle.model.specs.Runs.{zeroedFrom, zeroed}
-use Rattle.model.specs.Construction.{regionOf, regionRelated, regionsHold, digitsOf, digitsCode, codeOf, locationOf, basesOf, allows, pairResets, rowResets, advanced, targetOf}
+use Rattle.model.specs.Construction.{regionOf, regionRelated, regionsHold, digitsOf, digitsCode, codeOf, locationOf, basesOf, allows, advanced, targetOf}
 use Rattle.model.proofs.Logic.{In, here, there}
 use Rattle.model.proofs.Valid.{EdgeIn}
 use Rattle.pairs.specs.declared.Scale.{Scale}
 use Rattle.pairs.specs.declared.Input.{Input}
-use Rattle.pairs.specs.Pairs.{Scaled, radix, unpacked, movedBases, pairAllows, pairTarget, pairResetsBy, rowResetsBy}
+use Rattle.pairs.specs.Pairs.{Scaled, radix, unpacked, movedBases, pairAllows, pairTarget}
 
 -- the first k of n digits; bases are moved one by one
 digits-take : (k n m x : ℕ) → k ≤ n → take k (digitsOf n m x) ≡ digitsOf k m x
@@ -86,17 +86,3 @@ module _ {r : Rule} {z : Scale} (scaled : Scaled r z) where
       ∙ (take-moved (r .clocks) (e .resets) timer (z .top) i (unpacked z x .bases)
       ∙ ap₂ (λ (c : ℕ) (bs : List ℕ). movedBases (e .resets) timer c i bs) (scaled .top-is) (bases-are x)) in
       ap₂ (λ (w n : ℕ). e .target * w + n) (scaled .weight-is) (ap₂ digitsCode radix-is b)
-
-  pair-resets-by :
-      (at : Input) (x : ℕ) (es : List Edge) → ((e : Edge) → In e es → EdgeIn r e)
-      → pairResetsBy (z .top) at (unpacked z x) es ≡ pairResets r (at .symbol) (at .interval) x es
-  pair-resets-by at x [] v = refl
-  pair-resets-by at x (e ∷ es) v =
-      rw (allows-is at x e (v e (here refl)), pair-resets-by at x es (λ f i. v f (there i)))
-
-  pub row-resets-is :
-      (at : Input) (xs : List ℕ) → ((e : Edge) → In e (r .edges) → EdgeIn r e)
-      → rowResetsBy z at (r .edges) xs ≡ rowResets r (at .symbol) (at .interval) xs
-  unfolding rowResets
-  row-resets-is at [] v = refl
-  row-resets-is at (x ∷ xs) v = rw (pair-resets-by at x (r .edges) v, row-resets-is at xs v)

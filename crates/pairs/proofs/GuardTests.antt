@@ -1,25 +1,24 @@
 -- Guards as the code tests them: a region by its three cases, a relation by its code, atoms and edges by their place in
 -- the edge table.
-use mathlib.Core.Path.{_≡_, refl, sym, _∙_, ap}
-use mathlib.Core.Bool.{Bool, true, false, _&&_, _||_, not}
-use mathlib.Core.List.{List, []}
+use mathlib.Core.Path.{_≡_, sym, _∙_, ap}
+use mathlib.Core.Bool.{Bool, true, false, _&&_, not}
+use mathlib.Core.List.{List}
 use Prim.Native.Nat.{ℕ, _+_, _-_, _*_, _≤_, _<_}
 use native.Mathlib.Omega.{arith}
 use native.Mathlib.Nat.{add-assoc}
-use native.Mathlib.Numerals.{add-one}
 use lib.Dec.{eqb, ltb, leb}
-use lib.ListN.{length, getD, drop}
-use lib.Seq.{getD-drop, drop-cons, drop-length}
+use lib.ListN.{getD, drop}
+use lib.Seq.{getD-drop}
 use borrow.Author.Tests.{lt-ltb, le-ltb, le-leb, eq-eqb, ne-eqb, not-true, not-false}
 use Rattle.model.specs.Rules.{Edge}
 use Rattle.model.specs.Runs.{related}
 use Rattle.model.specs.Construction.{regionOf, regionRelated, regionsHold}
-use Rattle.model.specs.Layout.{edgeFields, edgeWidth, atomsIn, edgeIn, edgesIn}
-use Rattle.model.proofs.EdgeTable.{atoms-rest, edges-rest}
+use Rattle.model.specs.Layout.{edgeFields, edgeWidth, atomsIn, edgeIn}
+use Rattle.model.proofs.EdgeTable.{atoms-rest}
 use Rattle.pairs.specs.declared.Pair.{Pair}
 use Rattle.pairs.specs.declared.Input.{Input}
 use Rattle.pairs.specs.declared.Scale.{Scale}
-use Rattle.pairs.specs.Pairs.{unpacked, packed, movedBases, pairAllows, pairTarget, pairResetsOn, pairResetsBy, rowResetsBy}
+use Rattle.pairs.specs.Pairs.{packed, movedBases, pairAllows, pairTarget, pairResetsOn}
 
 -- a region, by the code's three ways
 pub region-above : (c base i : ℕ) → c < base → 2 * c + 1 ≡ regionOf c base i
@@ -186,70 +185,3 @@ pub resets-some :
 resets-some c at p e mask r m z h =
     let q : leb 1 (e .resets) ≡ true = rw (← m) (le-leb 1 mask (omega arith)) in
     rw q h
-
--- The edges still to come say what all say, while none passed does.
-pub record Looking (c : ℕ) (at : Input) (p : Pair) (count e : ℕ) (t : List ℕ) : Type 0 where
-  pub turns : e ≤ count
-  pub rest-is :
-      pairResetsBy c at p (edgesIn (count - e) (drop (edgeWidth * e) t)) ≡ pairResetsBy c at p (edgesIn count t)
-
-pub looking-start : (c : ℕ) (at : Input) (p : Pair) (count : ℕ) (t : List ℕ) → Looking c at p count 0 t
-looking-start c at p count t = let z : count - 0 ≡ count = omega arith in record { turns = omega arith; rest-is = rw z }
-
-looking-rest :
-    (c : ℕ) (at : Input) (p : Pair) (count e : ℕ) (t : List ℕ) → e < count
-    → pairResetsBy c at p (edgesIn (count - e) (drop (edgeWidth * e) t))
-    ≡ (pairResetsOn c at p (edgeIn (drop (edgeWidth * e) t))
-    || pairResetsBy c at p (edgesIn (count - (e + 1)) (drop (edgeWidth * (e + 1)) t)))
-looking-rest c at p count e t h = ap (pairResetsBy c at p) (edges-rest count e t h)
-
-module _ {c : ℕ} {at : Input} {p : Pair} {count e : ℕ} {t : List ℕ} (inv : Looking c at p count e t) where
-  pub looking-found :
-      e < count → pairResetsOn c at p (edgeIn (drop (edgeWidth * e) t)) ≡ true
-      → true ≡ pairResetsBy c at p (edgesIn count t)
-  looking-found h q = sym (looking-rest c at p count e t h ∙ rw q) ∙ inv .rest-is
-
-  pub looking-next :
-      e < count → pairResetsOn c at p (edgeIn (drop (edgeWidth * e) t)) ≡ false → Looking c at p count (e + 1) t
-  looking-next h q = record {
-    turns = omega arith;
-    rest-is = sym (looking-rest c at p count e t h ∙ rw q) ∙ inv .rest-is;
-  }
-
-  pub looking-end : count ≤ e → false ≡ pairResetsBy c at p (edgesIn count t)
-  looking-end h = let z : count - e ≡ 0 = omega arith in rw z at (inv .rest-is)
-
--- The same over the pairs of a row.
-pub record LookingRow (z : Scale) (at : Input) (es : List Edge) (row : List ℕ) (n : ℕ) : Type 0 where
-  pub turns : n ≤ length row
-  pub rest-is : rowResetsBy z at es (drop n row) ≡ rowResetsBy z at es row
-
-pub row-start : (z : Scale) (at : Input) (es : List Edge) (row : List ℕ) → LookingRow z at es row 0
-row-start z at es row = record { turns = omega arith; rest-is = refl }
-
-row-rest :
-    (z : Scale) (at : Input) (es : List Edge) (row : List ℕ) (n : ℕ) → n < length row
-    → rowResetsBy z at es (drop n row)
-    ≡ (pairResetsBy (z .top) at (unpacked z (getD row n 0)) es || rowResetsBy z at es (drop (n + 1) row))
-row-rest z at es row n h = ap (rowResetsBy z at es) (drop-cons row n 0 h) ∙ rw (add-one n)
-
-module _ {z : Scale} {at : Input} {es : List Edge} {row : List ℕ} {n : ℕ} (inv : LookingRow z at es row n) where
-  pub row-found :
-      (p : Pair) → n < length row → p ≡ unpacked z (getD row n 0) → pairResetsBy (z .top) at p es ≡ true
-      → true ≡ rowResetsBy z at es row
-  row-found p h u q =
-      let k : pairResetsBy (z .top) at (unpacked z (getD row n 0)) es ≡ true = rw u at q in
-      sym (row-rest z at es row n h ∙ rw k) ∙ inv .rest-is
-
-  pub row-next :
-      (p : Pair) → n < length row → p ≡ unpacked z (getD row n 0) → pairResetsBy (z .top) at p es ≡ false
-      → LookingRow z at es row (n + 1)
-  row-next p h u q =
-      let k : pairResetsBy (z .top) at (unpacked z (getD row n 0)) es ≡ false = rw u at q in
-      record { turns = omega arith; rest-is = sym (row-rest z at es row n h ∙ rw k) ∙ inv .rest-is }
-
-  pub row-end : length row ≤ n → false ≡ rowResetsBy z at es row
-  row-end h =
-      let e : n ≡ length row = omega (arith, inv .turns) in
-      let none : drop n row ≡ [] = rw e (drop-length row) in
-      rw none at (inv .rest-is)

@@ -1,8 +1,8 @@
 -- Pairs, their codes and where edges lead from them, by the numbers that the code holds: the clocks, cm and the weight
 -- of a location. For the numbers of a rule they are the construction's own (proofs/Agreement.antt).
 use mathlib.Core.Path.{_≡_}
-use mathlib.Core.Bool.{Bool, false, _&&_, _||_}
-use mathlib.Core.List.{List, [], _∷_}
+use mathlib.Core.Bool.{Bool, _&&_}
+use mathlib.Core.List.{List}
 use Prim.Native.Nat.{ℕ, suc, _+_, _*_, _/_, _^_, _≤_}
 use lib.Dec.{eqb, ltb, leb}
 use lib.ListN.{take}
@@ -55,14 +55,6 @@ pairAllows c at p e =
 abbrev pub pairTarget : Scale → ℕ → Bool → Pair → Edge → ℕ
 pairTarget z i timer p e = packed z (e .target) (movedBases (e .resets) timer (z .top) i (p .bases))
 
--- some allowed edge resets a clock
+-- an allowed edge that resets a clock
 abbrev pub pairResetsOn : ℕ → Input → Pair → Edge → Bool
 pairResetsOn c at p e = leb 1 (e .resets) && pairAllows c at p e
-
-abbrev pub pairResetsBy : ℕ → Input → Pair → List Edge → Bool
-pairResetsBy c at p [] = false
-pairResetsBy c at p (e ∷ es) = pairResetsOn c at p e || pairResetsBy c at p es
-
-abbrev pub rowResetsBy : Scale → Input → List Edge → List ℕ → Bool
-rowResetsBy z at es [] = false
-rowResetsBy z at es (x ∷ xs) = pairResetsBy (z .top) at (unpacked z x) es || rowResetsBy z at es xs

@@ -1,45 +1,58 @@
 -- What each test of the code says of the definition that it stands for, over plain variables.
-use mathlib.Core.Path.{_≡_, sym, _∙_, ap, ap₂}
+use mathlib.Core.Path.{_≡_, refl, sym, _∙_, ap, ap₂}
 use mathlib.Core.Bool.{Bool, true, false, _&&_, _||_, not}
 use mathlib.Core.List.{List}
 use Prim.Native.Nat.{ℕ, suc, _+_, _-_, _*_, _^_, _≤_, _<_}
 use native.Mathlib.Omega.{arith}
 use native.Mathlib.Numerals.{add-one}
 use lib.Dec.{eqb, ltb, leb}
-use lib.ListN.{length, getD, take, drop, length-drop, drop-of-length-le}
-use lib.Seq.{drop-cons, drop-drop, take-all}
-use borrow.Author.Tests.{lt-ltb, le-ltb, le-leb, lt-leb, eq-eqb, ne-eqb}
+use lib.Bits.{bitOr, or-zero-l, or-add-and, and-le-r}
+use lib.ListN.{length, getD, take, drop, drop-of-length-le}
+use lib.Seq.{drop-cons, drop-drop}
+use borrow.Author.Tests.{eqb-true, eqb-false, lt-ltb, le-ltb, le-leb, lt-leb, eq-eqb, ne-eqb}
 use Rattle.model.specs.declared.Head.{Head}
 use Rattle.model.specs.Rules.{sizesOk, atomsOk, hasEqual, integerReset}
 use Rattle.model.specs.Layout.{edgeFields, edgeWidth, atomsIn, edgeIn}
-use Rattle.model.proofs.Logic.{or-right}
+use Rattle.model.proofs.Logic.{by-test, or-right}
 use Rattle.model.proofs.EdgeTable.{atoms-rest}
 use Rattle.edges.proofs.Answers.{failed, passed}
 use Rattle.edges.proofs.Parts.{part-rest}
 use Rattle.rule.specs.Checks.{allZero, edgeGood, edgesGood}
 
--- zeros from a place on
-pub record Zeros (i : ℕ) (xs : List ℕ) : Type 0 where
+-- no bit seen up to a place, and zeros from there on
+pub record Zeros (i seen : ℕ) (xs : List ℕ) : Type 0 where
   pub turns : i ≤ length xs
-  pub rest-is : allZero (drop i xs) ≡ allZero xs
+  pub rest-is : (eqb seen 0 && allZero (drop i xs)) ≡ allZero xs
 
 zeros-at :
     (i : ℕ) (xs : List ℕ) → i < length xs
     → allZero (drop i xs) ≡ (eqb (getD xs i 0) 0 && allZero (drop (i + 1) xs))
 zeros-at i xs h = rw (drop-cons xs i 0 h, add-one i)
 
-module _ {i : ℕ} {xs : List ℕ} (inv : Zeros i xs) where
-  pub zeros-not : i < length xs → (getD xs i 0 ≡ 0 → ⊥) → false ≡ allZero xs
-  zeros-not h n = sym (sym (inv .rest-is) ∙ (zeros-at i xs h ∙ rw (ne-eqb (getD xs i 0) 0 n)))
+-- bits of either are bits of both joined
+none-joined : (a b : ℕ) (t : Bool) → (eqb (bitOr a b) 0 && t) ≡ (eqb a 0 && (eqb b 0 && t))
+none-joined a b t =
+    by-test (eqb a 0)
+    (λ p. rw (p, eqb-true a 0 p, or-zero-l b))
+    (λ p. rw (p, ne-eqb (bitOr a b) 0 (λ q. eqb-false a 0 p (omega (arith, q, or-add-and a b, and-le-r a b)))))
 
-  pub zeros-next : i < length xs → getD xs i 0 ≡ 0 → Zeros (i + 1) xs
-  zeros-next h e = record {
+and-true : (a : Bool) → a ≡ (a && true)
+and-true true = refl
+and-true false = refl
+
+module _ {i seen : ℕ} {xs : List ℕ} (inv : Zeros i seen xs) where
+  pub zeros-next : i < length xs → Zeros (i + 1) (bitOr seen (getD xs i 0)) xs
+  zeros-next h = record {
     turns = omega arith;
-    rest-is = sym (zeros-at i xs h ∙ rw (eq-eqb (getD xs i 0) 0 e)) ∙ inv .rest-is;
+    rest-is =
+        none-joined seen (getD xs i 0) (allZero (drop (i + 1) xs))
+        ∙ (ap (λ (z : Bool). eqb seen 0 && z) (sym (zeros-at i xs h)) ∙ inv .rest-is);
   }
 
-  pub zeros-end : length xs ≤ i → true ≡ allZero xs
-  zeros-end h = sym (ap allZero (drop-of-length-le xs h)) ∙ inv .rest-is
+  pub zeros-end : length xs ≤ i → eqb seen 0 ≡ allZero xs
+  zeros-end h =
+      and-true (eqb seen 0)
+      ∙ (ap (λ (ys : List ℕ). eqb seen 0 && allZero ys) (sym (drop-of-length-le xs h)) ∙ inv .rest-is)
 
 -- The atoms from number j on, with their ranges.
 pub record Atoms (clocks count j : ℕ) (t : List ℕ) : Type 0 where

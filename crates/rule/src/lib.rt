@@ -173,15 +173,15 @@ pub(crate) fn pinned(resets: usize, atoms: &[u16], count: usize) -> bool
     false
 }
 
+// No way out of the loop: many places are then looked at in one step.
 pub(crate) fn all_zero(places: &[u16]) -> bool
     ensures { λ r. ⌜ r ≡ allZero (now (places .entry)) ⌝ }
 {
+    let mut seen: u16 = 0;
     let mut i: usize = 0;
     while i < places.len() {
-        if places[i] != 0 {
-            return false;
-        }
+        seen = seen | places[i];
         i += 1;
     }
-    true
+    seen == 0
 }

@@ -1,5 +1,4 @@
 -- `construct::leaving::row_resets` meets its contract: the pairs to come say what all say, while none passed resets.
-use mathlib.Core.Path.{sym, _∙_}
 use Prim.Native.Nat.{_-_}
 use lib.ListN.{length}
 use borrow.Author.Needs.{needs}
