@@ -19,8 +19,8 @@ use Rattle.branch.proofs.+least_from.Lts-least_from as lts
 use Rattle.ages.proofs.after_delay.Reads as after-delay-reads
 use Rattle.ages.proofs.after_edge.Reads as after-edge-reads
 use Rattle.ages.proofs.can_take.Reads as can-take-reads
-use Rattle.branch.proofs.ended.Reads as ended-reads
-use Rattle.branch.proofs.no_branch.Reads as no-branch-reads
+use Rattle.ages.proofs.has_location.Reads as has-location-reads
+use Rattle.branch.proofs.no_edges.Reads as no-edges-reads
 use Rattle.branch.proofs.with_edge.Reads as with-edge-reads
 use Rattle.edges.proofs.wide32.Reads as wide32-reads
 use Rattle.model.proofs.Stamp.since.Reads as since-reads
@@ -29,7 +29,7 @@ use Rattle.branch.proofs.+least_from.Tie.{close}
 
 -- the events left
 abbrev μ : Measures 3 kinds.ps ℕ
-μ κs a = length (now (a .1 .1 .1 .0)) - a .1 .1 .1 .1 .1 .0
+μ κs a = length (now (a .1 .1 .0)) - a .1 .1 .1 .1 .0
 
 abbrev here : ℕ → In 3 kinds.ps
 here t = and 3 kinds.ps (is 3 kinds.ps μ t) own.Pre
@@ -40,8 +40,10 @@ fewer t = and 3 kinds.ps (falls 3 kinds.ps _<_ μ t) own.Pre
 -- what each callee asks and ensures; the call of itself asks for fewer events
 abbrev claims : ℕ → lts.Claims
 claims t = (
-  ended-reads.Asked,
-  ended-reads.Learnt,
+  has-location-reads.Asked,
+  has-location-reads.Learnt,
+  no-edges-reads.Asked,
+  no-edges-reads.Learnt,
   since-reads.Asked,
   since-reads.Learnt,
   after-delay-reads.Asked,
@@ -56,35 +58,38 @@ claims t = (
   own.Post,
   with-edge-reads.Asked,
   with-edge-reads.Learnt,
-  no-branch-reads.Asked,
-  no-branch-reads.Learnt,
 )
 
 abbrev Inv-loop : lts.InvT-loop
-Inv-loop head edges grain symbols stamps depth stamp now clocks count e₀ e =
-    (depth < 12) × Trying head edges grain symbols stamps depth now clocks count e
+Inv-loop given edges symbols stamps depth stamp now clocks count e₀ e =
+    (depth < 12) × Trying (given .head) edges (given .grain) symbols stamps depth now clocks count e
 
 abbrev μ-loop : lts.MeasureT-loop
-μ-loop head edges grain symbols stamps depth stamp now clocks count e₀ e = count - e
+μ-loop given edges symbols stamps depth stamp now clocks count e₀ e = count - e
 
 module _ (t : ℕ) where
-  ended-requires : lts.Need-ended-requires (claims t) (here t) own.Post Inv-loop μ-loop
-  ended-requires c κs = search needs
+  has-location-requires : lts.Need-has-location-requires (claims t) (here t) own.Post Inv-loop μ-loop
+  has-location-requires c κs = search needs
+
+  no-edges-requires : lts.Need-no-edges-requires (claims t) (here t) own.Post Inv-loop μ-loop
+  no-edges-requires c κs = search needs
 
   returns : lts.Need-returns (claims t) (here t) own.Post Inv-loop μ-loop
   returns c =
-      let s = c .before .before .before .before .before in
+      let s = c .before .before .before .before .before .before .before in
       let a = s .args in
-      end-is (a .head) (a .edges .now) (a .grain) (a .symbols .now) (a .stamps .now) (a .depth) (a .last .0) (a .from) _
+      end-is (a .given .head) (a .edges .now) (a .given .grain) (a .symbols .now) (a .stamps .now) (a .depth) (a .last .0) (a .from) _
+      _
       (s .pre .1)
-      (c .before .if1 .taken)
-      (c .ended .ensures)
+      (c .before .before .if1 .taken)
+      (c .before .has-location .ensures)
+      (c .no-edges .ensures)
 
-  mul-t16 : lts.Need-mul-t16 (claims t) (here t) own.Post Inv-loop μ-loop
-  mul-t16 c = search needs
+  mul-t17 : lts.Need-mul-t17 (claims t) (here t) own.Post Inv-loop μ-loop
+  mul-t17 c = search needs
 
-  shared-slice-read-t19 : lts.Need-shared-slice-read-t19 (claims t) (here t) own.Post Inv-loop μ-loop
-  shared-slice-read-t19 c = search needs
+  shared-slice-read-t20 : lts.Need-shared-slice-read-t20 (claims t) (here t) own.Post Inv-loop μ-loop
+  shared-slice-read-t20 c = search needs
 
   since-requires : lts.Need-since-requires (claims t) (here t) own.Post Inv-loop μ-loop
   since-requires c κs = search needs
@@ -100,7 +105,7 @@ module _ (t : ℕ) where
 
   loop-holds : lts.Need-loop-holds (claims t) (here t) own.Post Inv-loop μ-loop
   loop-holds c =
-      let pre = c .before .before .before .before .before .before .before .before .before .pre .1 in (
+      let pre = c .before .before .before .before .before .before .before .before .before .before .pre .1 in (
         omega (arith, pre .events-most, c .before .before .before .before .before .if1 .left),
         trying-start _ _ _ _ _ _ _ _ _ (c .before .wide32 .ensures .0) (search needs),
       )
@@ -123,11 +128,11 @@ module _ (t : ℕ) where
   least-from-requires : lts.Need-least-from-requires (claims t) (here t) own.Post Inv-loop μ-loop
   least-from-requires c κs =
       let early = c .before .before .before .before .before .before .before .before .before .before in
-      let s = early .before .before .before .before .before in
+      let s = early .before .before .before .before .before .before in
       let a = s .args in
       let h = early .before .if1 .left in (
         omega (arith, s .pre .0, h),
-        next-ready (a .head) (a .edges .now) (a .symbols .now) (a .stamps .now) (a .depth) (a .last .0) _
+        next-ready (a .given .head) (a .edges .now) (a .symbols .now) (a .stamps .now) (a .depth) (a .last .0) _
             (c .before .before .before .before .before .loop .e)
             (a .from)
             _
@@ -146,11 +151,11 @@ module _ (t : ℕ) where
   returns-2 : lts.Need-returns-2 (claims t) (here t) own.Post Inv-loop μ-loop
   returns-2 c =
       let early = c .before .before .before .before .before .before .before .before .before .before in
-      let s = early .before .before .before .before .before .before .before .before in
+      let s = early .before .before .before .before .before .before .before .before .before in
       let a = s .args in
       let l = c .before .before .before .before .before .before .before .before .loop in
       let found =
-      trying-found (a .head) (a .edges .now) (a .grain) (a .symbols .now) (a .stamps .now) (a .depth)
+      trying-found (a .given .head) (a .edges .now) (a .given .grain) (a .symbols .now) (a .stamps .now) (a .depth)
       (early .before .after-delay .result)
       (l .inv .1)
       (c .before .before .before .before .before .before .before .loop-test .taken)
@@ -167,7 +172,7 @@ module _ (t : ℕ) where
       ∙ (found
       ∙ ap (λ (p : Path). placed (a .depth) p)
       (sym
-      (at-event (a .head) (a .edges .now) (a .grain) (a .symbols .now) (a .stamps .now) (a .depth) (a .last .0) _
+      (at-event (a .given .head) (a .edges .now) (a .given .grain) (a .symbols .now) (a .stamps .now) (a .depth) (a .last .0) _
       (a .from) _
       (s .pre .1)
       (early .before .before .before .before .if1 .left)
@@ -188,7 +193,7 @@ module _ (t : ℕ) where
   loop-again : lts.Need-loop-again (claims t) (here t) own.Post Inv-loop μ-loop
   loop-again c =
       let early = c .before .before .before .before .before .before .before .before .before .before in
-      let a = early .before .before .before .before .args in
+      let a = early .before .before .before .before .before .args in
       let l = c .before .before .before .before .loop in
       let now-is = c .before .before .before .before .before .before .before .after-delay .result in
       let test = c .before .before .before .loop-test .taken in
@@ -196,32 +201,32 @@ module _ (t : ℕ) where
         l .inv .0,
         ⊎-elim
             (λ w.
-            trying-stuck (a .head) (a .edges .now) (a .grain) (a .symbols .now) (a .stamps .now) (a .depth) now-is
+            trying-stuck (a .given .head) (a .edges .now) (a .given .grain) (a .symbols .now) (a .stamps .now) (a .depth) now-is
             (l .inv .1) test (w .1 .result) (w .1 .ensures) _ (w .2 .result) can (w .0 .taken) (w .2 .ensures)
             (w .3 .left))
             (λ w.
-            trying-other (a .head) (a .edges .now) (a .grain) (a .symbols .now) (a .stamps .now) (a .depth) now-is
+            trying-other (a .given .head) (a .edges .now) (a .given .grain) (a .symbols .now) (a .stamps .now) (a .depth) now-is
             (l .inv .1) test _ can (w .left))
             (c .if2 .came),
       )
 
-  no-branch-requires : lts.Need-no-branch-requires (claims t) (here t) own.Post Inv-loop μ-loop
-  no-branch-requires c κs = search needs
+  no-edges-requires-2 : lts.Need-no-edges-requires-2 (claims t) (here t) own.Post Inv-loop μ-loop
+  no-edges-requires-2 c κs = search needs
 
   returns-3 : lts.Need-returns-3 (claims t) (here t) own.Post Inv-loop μ-loop
   returns-3 c =
-      let s = c .before .before .before .before .before .before .before .before .before .before .before .before in
+      let s = c .before .before .before .before .before .before .before .before .before .before .before .before .before in
       let a = s .args in
       let none =
-      trying-none (a .head) (a .edges .now) (a .grain) (a .symbols .now) (a .stamps .now) (a .depth) _
+      trying-none (a .given .head) (a .edges .now) (a .given .grain) (a .symbols .now) (a .stamps .now) (a .depth) _
       (c .before .before .loop .inv .1)
       (c .before .loop-test .left) in
-      c .no-branch .ensures
+      c .no-edges2 .ensures
       ∙ (nowhere (a .depth) noPath (search needs) refl
       ∙ ap (λ (p : Path). placed (a .depth) p)
       (sym none
       ∙ sym
-      (at-event (a .head) (a .edges .now) (a .grain) (a .symbols .now) (a .stamps .now) (a .depth) (a .last .0) _
+      (at-event (a .given .head) (a .edges .now) (a .given .grain) (a .symbols .now) (a .stamps .now) (a .depth) (a .last .0) _
       (a .from) _
       (s .pre .1)
       (c .before .before .before .before .before .before .before .before .if1 .left)
@@ -235,10 +240,11 @@ pub +least-from-spec : {M : Type 1} → statement M
     own.Post
     Inv-loop
     μ-loop
-    (ended-requires t)
+    (has-location-requires t)
+    (no-edges-requires t)
     (returns t)
-    (mul-t16 t)
-    (shared-slice-read-t19 t)
+    (mul-t17 t)
+    (shared-slice-read-t20 t)
     (since-requires t)
     (after-delay-requires t)
     (wide32-requires t)
@@ -255,5 +261,5 @@ pub +least-from-spec : {M : Type 1} → statement M
     (add-e t)
     (loop-less t)
     (loop-again t)
-    (no-branch-requires t)
+    (no-edges-requires-2 t)
     (returns-3 t)
