@@ -10,9 +10,10 @@ ghost use Rattle.branch.specs.Branches.{Ready, Begins};
 use ages::Configuration;
 use ages::after_delay;
 use ages::after_edge;
-use ages::can_take;
+use ages::guard_holds;
 use ages::has_bit;
 use ages::has_location;
+use ages::leaves;
 use ages::start_at;
 use edges::wide16;
 use edges::wide32;
@@ -78,9 +79,12 @@ pub(crate) fn least_from(
     let now = after_delay(from, stamp.since(last));
     let clocks = wide32(head.clocks);
     let count = head.count as u16;
+    let ages = now.ages;
     let mut e: u16 = 0;
     while e < count {
-        if can_take(edges, e, clocks, given.grain, symbols[depth], now) {
+        if leaves(edges, e, now.location, symbols[depth])
+            && guard_holds(edges, e, clocks, given.grain, ages)
+        {
             let next = after_edge(edges, e, now);
             let run = least_from(given, edges, symbols, stamps, depth + 1, stamp, next);
             if run.found {
