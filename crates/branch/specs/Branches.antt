@@ -13,8 +13,8 @@ use Rattle.model.specs.Layout.{ruleIn}
 use Rattle.model.proofs.Words.{Ordered}
 use Rattle.model.proofs.Ages.{AtMost}
 use Rattle.ages.specs.declared.Configuration.{Configuration}
-use Rattle.branch.specs.declared.Run.{Run}
 use Rattle.ages.specs.Ages.{agesOf}
+use Rattle.branch.specs.declared.Run.{Run}
 
 -- the run p, its edges from place `depth` on
 abbrev pub placed : ℕ → Path → Run

@@ -23,7 +23,7 @@ use model::Stamp;
 use rule::check_rule;
 use word::check_word;
 
-// What every step of the search is given alike.
+// What every step of the search is given alike: 32 bytes, which are copied in two halves that do not overlap.
 pub(crate) struct Given {
     pub head: Head,
     pub grain: u32,
@@ -56,6 +56,7 @@ pub(crate) fn with_edge(run: Run, depth: usize, e: u16) -> Run
 }
 
 // The least accepting run from a configuration, over the events from `depth` on; its edges stand from place `depth` on.
+// An edge is tested by the two parts of `can_take`: each is small enough to be compiled into the loop.
 pub(crate) fn least_from(
     given: Given,
     edges: &[u16],
@@ -72,8 +73,7 @@ pub(crate) fn least_from(
 {
     let head = given.head;
     if symbols.len() <= depth {
-        let found = has_location(head.ends, from.location);
-        return no_edges(found);
+        return no_edges(has_location(head.ends, from.location));
     }
     let stamp = Stamp(stamps[depth]);
     let now = after_delay(from, stamp.since(last));

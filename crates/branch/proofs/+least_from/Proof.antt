@@ -83,15 +83,16 @@ module _ (t : ℕ) where
   returns c =
       let s = c .before .before .before .before .before .before .before in
       let a = s .args in
-      end-is (a .given .head) (a .edges .now) (a .given .grain) (a .symbols .now) (a .stamps .now) (a .depth) (a .last .0) (a .from) _
+      let g = a .given in
+      end-is (g .head) (a .edges .now) (g .grain) (a .symbols .now) (a .stamps .now) (a .depth) (a .last .0) (a .from) _
       _
       (s .pre .1)
       (c .before .before .if1 .taken)
       (c .before .has-location .ensures)
       (c .no-edges .ensures)
 
-  mul-t18 : lts.Need-mul-t18 (claims t) (here t) own.Post Inv-loop μ-loop
-  mul-t18 c = search needs
+  mul-t17 : lts.Need-mul-t17 (claims t) (here t) own.Post Inv-loop μ-loop
+  mul-t17 c = search needs
 
   shared-slice-read-t21 : lts.Need-shared-slice-read-t21 (claims t) (here t) own.Post Inv-loop μ-loop
   shared-slice-read-t21 c = search needs
@@ -110,8 +111,8 @@ module _ (t : ℕ) where
 
   loop-holds : lts.Need-loop-holds (claims t) (here t) own.Post Inv-loop μ-loop
   loop-holds c =
-      let early = c .before .before .before .before .before in (
-        omega (arith, early .before .before .before .before .before .before .pre .1 .events-most, early .before .if1 .left),
+      let test = c .before .before .before .before .before .before in (
+        omega (arith, test .before .before .before .before .before .pre .1 .events-most, test .if1 .left),
         trying-start _ _ _ _ _ _ _ _ _ (c .before .before .wide32 .ensures .0) (search needs),
       )
 
@@ -135,21 +136,21 @@ module _ (t : ℕ) where
 
   least-from-requires : lts.Need-least-from-requires (claims t) (here t) own.Post Inv-loop μ-loop
   least-from-requires c κs =
-      let early = c .before .before .before .before .before .before .before .before .before .before .before .before .before in
-      let s = early .before .before .before .before .before .before in
-      let a = s .args in
-      let h = early .before .if1 .left in (
-        omega (arith, s .pre .0, h),
+      let early = c .before .before .before .before .before .before .before .before .before in
+      let test = early .before .before .before .before .before in
+      let s = test .before .before .before .before .before in
+      let a = s .args in (
+        omega (arith, s .pre .0, test .if1 .left),
         next-ready (a .given .head) (a .edges .now) (a .symbols .now) (a .stamps .now) (a .depth) (a .last .0) _
             (c .before .before .before .before .before .before .before .loop .e)
             (a .from)
             _
             _
             (s .pre .1)
-            h
-            (omega (arith, early .shared-slice-known4 .given (a .depth)))
-            (c .before .before .before .before .before .before .before .before .before .before .before .before .since .ensures)
-            (c .before .before .before .before .before .before .before .before .before .before .before .after-delay .ensures)
+            (test .if1 .left)
+            (omega (arith, early .before .before .before .before .shared-slice-known4 .given (a .depth)))
+            (early .before .before .before .since .ensures)
+            (early .before .before .after-delay .ensures)
             (c .after-edge .ensures),
       )
 
@@ -158,18 +159,22 @@ module _ (t : ℕ) where
 
   returns-2 : lts.Need-returns-2 (claims t) (here t) own.Post Inv-loop μ-loop
   returns-2 c =
-      let early = c .before .before .before .before .before .before .before .before .before .before .before .before .before in
-      let s = early .before .before .before .before .before .before .before .before .before in
+      let looped = c .before .before .before .before .before .before .before .before .before .before in
+      let l = looped .loop in
+      let early = looped .before .before .before in
+      let test = early .before .before .before .before in
+      let s = test .before .before .before .before .before in
       let a = s .args in
-      let l = c .before .before .before .before .before .before .before .before .before .before .loop in
+      let g = a .given in
       let now-is = early .before .after-delay .result in
       let can =
-      guard-decides (a .given .grain) (early .wide32 .result) _ now-is (edgeAt (l .e) (a .edges .now)) _ (c .before .before .before .before .before .before .before .leaves .ensures) _
-      (c .before .before .before .before .before .before .if2 .taken) (c .before .before .before .before .before .guard-holds .ensures) in
+      guard-decides (g .grain) (early .wide32 .result) _ now-is (edgeAt (l .e) (a .edges .now)) _
+      (c .before .before .before .before .before .before .before .leaves .ensures)
+      _
+      (c .before .before .before .before .before .before .if2 .taken)
+      (c .before .before .before .before .before .guard-holds .ensures) in
       let found =
-      trying-found (a .given .head) (a .edges .now) (a .given .grain) (a .symbols .now) (a .stamps .now) (a .depth)
-      now-is
-      (l .inv .1)
+      trying-found _ _ _ _ _ _ now-is (l .inv .1)
       (c .before .before .before .before .before .before .before .before .before .loop-test .taken)
       (c .before .before .before .after-edge .result)
       (c .before .before .before .after-edge .ensures)
@@ -180,21 +185,16 @@ module _ (t : ℕ) where
       (c .before .before .before .before .if3 .taken)
       (c .before .before .least-from .ensures)
       (c .before .if4 .taken) in
-      c .with-edge .ensures
-      ∙ (found
-      ∙ ap (λ (p : Path). placed (a .depth) p)
-      (sym
-      (at-event (a .given .head) (a .edges .now) (a .given .grain) (a .symbols .now) (a .stamps .now) (a .depth) (a .last .0) _
-      (a .from) _
+      let from-here =
+      at-event (g .head) (a .edges .now) (g .grain) (a .symbols .now) (a .stamps .now) (a .depth) (a .last .0) _
+      (a .from)
+      _
       (s .pre .1)
-      (early .before .before .before .before .if1 .left)
-      (omega (
-        arith,
-        early .before .before .before .shared-slice-known4 .given
-            (a .depth),
-      ))
+      (test .if1 .left)
+      (omega (arith, early .before .before .before .shared-slice-known4 .given (a .depth)))
       (early .before .before .since .ensures)
-      (early .before .after-delay .ensures))))
+      (early .before .after-delay .ensures) in
+      c .with-edge .ensures ∙ (found ∙ ap (λ (p : Path). placed (a .depth) p) (sym from-here))
 
   add-e : lts.Need-add-e (claims t) (here t) own.Post Inv-loop μ-loop
   add-e c = search needs
@@ -204,30 +204,33 @@ module _ (t : ℕ) where
 
   loop-again : lts.Need-loop-again (claims t) (here t) own.Post Inv-loop μ-loop
   loop-again c =
-      let early = c .before .before .before .before .before .before .before .before .before .before .before in
-      let a = early .before .before .before .before .before .args in
       let l = c .before .before .before .before .loop in
-      let now-is = c .before .before .before .before .before .before .before .before .after-delay .result in
+      let early = c .before .before .before .before .before .before .before in
+      let a = early .before .before .before .before .before .before .before .before .before .args in
+      let d = a .given .grain in
+      let clocks = early .wide32 .result in
+      let now-is = early .before .after-delay .result in
+      let at = edgeAt (l .e) (a .edges .now) in
       let test = c .before .before .before .loop-test .taken in
-      let clocks = c .before .before .before .before .before .before .before .wide32 .result in
-      let left = c .before .leaves .ensures in
-      let at = edgeAt (l .e) (a .edges .now) in (
+      let left = c .before .leaves .ensures in (
         l .inv .0,
         ⊎-elim
             (λ w.
-            trying-stuck (a .given .head) (a .edges .now) (a .given .grain) (a .symbols .now) (a .stamps .now) (a .depth)
-            now-is (l .inv .1) test (w .3 .result) (w .3 .ensures) _ (w .4 .result)
-            (guard-decides (a .given .grain) clocks _ now-is at _ left _ (w .0 .taken) (w .1 .ensures)) (w .2 .taken)
-            (w .4 .ensures) (w .5 .left))
+            trying-stuck _ _ _ _ _ _ now-is (l .inv .1) test (w .3 .result) (w .3 .ensures) _ (w .4 .result)
+            (guard-decides d clocks _ now-is at _ left _ (w .0 .taken) (w .1 .ensures))
+            (w .2 .taken)
+            (w .4 .ensures)
+            (w .5 .left))
             (λ v.
             ⊎-elim
             (λ w.
-            trying-other (a .given .head) (a .edges .now) (a .given .grain) (a .symbols .now) (a .stamps .now) (a .depth)
-            now-is (l .inv .1) test _
-            (guard-decides (a .given .grain) clocks _ now-is at _ left _ (w .0 .taken) (w .1 .ensures)) (w .2 .left))
+            trying-other _ _ _ _ _ _ now-is (l .inv .1) test _
+            (guard-decides d clocks _ now-is at _ left _ (w .0 .taken) (w .1 .ensures))
+            (w .2 .left))
             (λ w.
-            trying-other (a .given .head) (a .edges .now) (a .given .grain) (a .symbols .now) (a .stamps .now) (a .depth)
-            now-is (l .inv .1) test _ (not-leaving (a .given .grain) clocks _ now-is at _ left (w .left)) (w .left))
+            trying-other _ _ _ _ _ _ now-is (l .inv .1) test _
+            (not-leaving d clocks _ now-is at _ left (w .left))
+            (w .left))
             (v .came))
             (c .if2 .came),
       )
@@ -237,24 +240,24 @@ module _ (t : ℕ) where
 
   returns-3 : lts.Need-returns-3 (claims t) (here t) own.Post Inv-loop μ-loop
   returns-3 c =
-      let s = c .before .before .before .before .before .before .before .before .before .before .before .before .before .before in
+      let early = c .before .before .before .before .before in
+      let test = early .before .before .before .before in
+      let s = test .before .before .before .before .before in
       let a = s .args in
-      let none =
-      trying-none (a .given .head) (a .edges .now) (a .given .grain) (a .symbols .now) (a .stamps .now) (a .depth) _
-      (c .before .before .loop .inv .1)
-      (c .before .loop-test .left) in
+      let g = a .given in
+      let none = trying-none _ _ _ _ _ _ _ (c .before .before .loop .inv .1) (c .before .loop-test .left) in
+      let from-here =
+      at-event (g .head) (a .edges .now) (g .grain) (a .symbols .now) (a .stamps .now) (a .depth) (a .last .0) _
+      (a .from)
+      _
+      (s .pre .1)
+      (test .if1 .left)
+      (omega (arith, early .before .before .before .shared-slice-known4 .given (a .depth)))
+      (early .before .before .since .ensures)
+      (early .before .after-delay .ensures) in
       c .no-edges2 .ensures
       ∙ (nowhere (a .depth) noPath (search needs) refl
-      ∙ ap (λ (p : Path). placed (a .depth) p)
-      (sym none
-      ∙ sym
-      (at-event (a .given .head) (a .edges .now) (a .given .grain) (a .symbols .now) (a .stamps .now) (a .depth) (a .last .0) _
-      (a .from) _
-      (s .pre .1)
-      (c .before .before .before .before .before .before .before .before .before .if1 .left)
-      (omega (arith, c .before .before .before .before .before .before .before .before .shared-slice-known4 .given (a .depth)))
-      (c .before .before .before .before .before .before .before .since .ensures)
-      (c .before .before .before .before .before .before .after-delay .ensures))))
+      ∙ ap (λ (p : Path). placed (a .depth) p) (sym none ∙ sym from-here))
 
 pub +least-from-spec : {M : Type 1} → statement M
 +least-from-spec = close μ λ t. lts.spec (claims t)
@@ -265,7 +268,7 @@ pub +least-from-spec : {M : Type 1} → statement M
     (has-location-requires t)
     (no-edges-requires t)
     (returns t)
-    (mul-t18 t)
+    (mul-t17 t)
     (shared-slice-read-t21 t)
     (since-requires t)
     (after-delay-requires t)
