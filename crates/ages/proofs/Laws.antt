@@ -15,14 +15,14 @@ use borrow.Author.Tests.{le-leb, lt-leb, eq-eqb, ne-eqb, not-true, not-false}
 use Rattle.model.specs.declared.Age.{Age}
 use Rattle.model.specs.Basics.{same, pick, lesser, bit, isIn}
 use Rattle.model.specs.Rules.{Edge}
-use Rattle.model.specs.Words.{Event}
-use Rattle.model.specs.Runs.{Config, related, holds, zeroed, canTake}
+use Rattle.model.specs.Runs.{Config, related, holds, zeroed}
 use Rattle.model.specs.Layout.{edgeFields, edgeWidth, atomsIn, locationsIn}
-use Rattle.model.proofs.Logic.{by-test}
 use Rattle.model.proofs.EdgeTable.{atoms-rest}
 use Rattle.model.proofs.Ages.{bits-in, bits-high}
 use Rattle.ages.specs.declared.Ages.{Ages}
+use Rattle.ages.specs.declared.Configuration.{Configuration}
 use Rattle.ages.specs.Ages.{sameConfig, numbersOf, agesOf, mostAge, olderCapped, atomHolds, atomAt, edgeAt}
+use Rattle.ages.specs.Ages.{leaves, takes}
 
 -- owning an array of ages tells the length of the list of what they hold, and so of the list
 pub length-mapped : (X Y : Type 0) (f : X → Y) (xs : List X) (n : ℕ) → length (map f xs) ≡ n → length xs ≡ n
@@ -205,26 +205,21 @@ count-known d ages t e count h = rw h
 
 -- source, symbol and guard, tested in this order
 pub other-source :
-    (d l : ℕ) (ages : List ℕ) (v : Event) (e : Edge) (n m : ℕ) → n ≡ e .source → m ≡ l → (n ≡ m → ⊥)
-    → false ≡ canTake d l ages v e
-other-source d l ages v e n m h k g = rw (ne-eqb (e .source) l (λ q. g (h ∙ (q ∙ sym k))))
+    (l symbol : ℕ) (e : Edge) (n m : ℕ) → n ≡ e .source → m ≡ l → (n ≡ m → ⊥) → false ≡ leaves l symbol e
+other-source l symbol e n m h k g = rw (ne-eqb (e .source) l (λ q. g (h ∙ (q ∙ sym k))))
 
-pub other-symbol :
-    (d l : ℕ) (ages : List ℕ) (v : Event) (e : Edge) (n m : ℕ) → n ≡ e .symbol → m ≡ v .symbol → (n ≡ m → ⊥)
-    → false ≡ canTake d l ages v e
-other-symbol d l ages v e n m h k g =
-    let z : eqb (e .symbol) (v .symbol) ≡ false = ne-eqb (e .symbol) (v .symbol) (λ q. g (h ∙ (q ∙ sym k))) in
-    by-test (eqb (e .source) l) (λ s. rw (s, z)) (λ s. rw s)
+pub symbol-decides :
+    (l symbol : ℕ) (e : Edge) (n n′ m m′ : ℕ) → n ≡ e .source → n′ ≡ l → n ≡ n′ → m ≡ e .symbol → m′ ≡ symbol
+    → eqb m m′ ≡ leaves l symbol e
+symbol-decides l symbol e n n′ m m′ a b c f g = rw (eq-eqb (e .source) l (sym a ∙ (c ∙ b)), f, g)
 
-pub guard-decides :
-    (d l : ℕ) (ages : List ℕ) (v : Event) (e : Edge) (n n′ m m′ : ℕ) (r : Bool) → n ≡ e .source → n′ ≡ l → n ≡ n′
-    → m ≡ e .symbol
-    → m′ ≡ v .symbol
-    → m ≡ m′
-    → r ≡ holds d ages (e .atoms)
-    → r ≡ canTake d l ages v e
-guard-decides d l ages v e n n′ m m′ r a b c f g h i =
-    rw (eq-eqb (e .source) l (sym a ∙ (c ∙ b)), eq-eqb (e .symbol) (v .symbol) (sym f ∙ (h ∙ g))) i
+module _ (d k symbol : ℕ) (from : Configuration) (e : Edge) (r : Bool) (t : r ≡ leaves (from .location) symbol e) where
+  pub not-leaving : r ≡ false → r ≡ takes d k symbol from e
+  not-leaving f = f ∙ rw (sym t ∙ f)
+
+  pub guard-decides :
+      (g : Bool) → r ≡ true → g ≡ holds d (agesOf k (from .ages)) (e .atoms) → g ≡ takes d k symbol from e
+  guard-decides g f h = rw (sym t ∙ f) h
 
 -- Two lists of one length are the same from place k on exactly if they are the same there and after.
 same-step :

@@ -7,7 +7,7 @@ ghost use Rattle.model.specs.Basics.{pick, lesser, zeros, bit, isIn, same};
 ghost use Rattle.model.specs.Runs.{related, holds, zeroed};
 ghost use Rattle.model.specs.Layout.{locationsIn};
 ghost use Rattle.ages.specs.Ages.{numbersOf, agesOf, mostAge, olderCapped, Waited, Moved};
-ghost use Rattle.ages.specs.Ages.{atomHolds, atomAt, edgeAt, takes, configOf, sameConfig};
+ghost use Rattle.ages.specs.Ages.{atomHolds, atomAt, edgeAt, leaves, takes, configOf, sameConfig};
 use edges::number_at;
 use edges::wide16;
 use edges::wide32;
@@ -161,7 +161,18 @@ pub fn guard_holds(edges: &[u16], e: u16, clocks: usize, grain: u32, ages: Ages)
     true
 }
 
-// Edge `e` leaves the location, with the symbol, and its guard holds.
+// Edge `e` leaves the location, with the symbol.
+pub fn leaves(edges: &[u16], e: u16, location: u32, symbol: u16) -> bool
+    ensures { λ r. ⌜ r ≡ leaves location symbol (edgeAt e (now (edges .entry))) ⌝ }
+{
+    let at = 29 * wide16(e);
+    if number_at(edges, at) != wide32(location) {
+        return false;
+    }
+    number_at(edges, at + 2) == wide16(symbol)
+}
+
+// Edge `e` can be taken: it leaves the location, with the symbol, and its guard holds.
 pub fn can_take(
     edges: &[u16],
     e: u16,
@@ -172,15 +183,8 @@ pub fn can_take(
 ) -> bool
     ensures { λ r. ⌜ r ≡ takes grain clocks symbol from (edgeAt e (now (edges .entry))) ⌝ }
 {
-    let at = 29 * wide16(e);
     let ages = from.ages;
-    if number_at(edges, at) != wide32(from.location) {
-        return false;
-    }
-    if number_at(edges, at + 2) != wide16(symbol) {
-        return false;
-    }
-    guard_holds(edges, e, clocks, grain, ages)
+    leaves(edges, e, from.location, symbol) && guard_holds(edges, e, clocks, grain, ages)
 }
 
 // Time passes: every age grows by the delay, the location stays.

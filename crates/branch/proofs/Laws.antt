@@ -8,7 +8,6 @@ use native.Mathlib.Numerals.{add-one}
 use lib.ListN.{length, getD, set, drop, length-replicate, replicate-append-replicate}
 use lib.Seq.{set-at}
 use Rattle.model.specs.declared.Head.{Head}
-use Rattle.model.specs.declared.Branch.{Branch}
 use Rattle.model.specs.Basics.{pick, isIn, zeros, filled}
 use Rattle.model.specs.Rules.{Edge}
 use Rattle.model.specs.Words.{eventsOf}
@@ -21,6 +20,7 @@ use Rattle.model.proofs.Ages.{AtMost, older-most, zeroed-most}
 use Rattle.ages.specs.declared.Configuration.{Configuration}
 use Rattle.ages.specs.Ages.{agesOf, edgeAt, takes, Waited, Moved}
 use Rattle.ages.proofs.Moves.{waited-until, moved-ages}
+use Rattle.branch.specs.declared.Run.{Run}
 use Rattle.branch.specs.Branches.{placed, withEdge, leastAt, Ready}
 
 -- A run in the twelve places. No run: all zero, wherever it would begin.
@@ -29,7 +29,7 @@ nowhere depth p h e =
     let n : depth + (12 - depth - 0) ≡ 12 = omega arith in
     let z : zeros depth ++ filled (12 - depth) [] ≡ zeros 12 =
     replicate-append-replicate depth (12 - depth - 0) 0 ∙ ap (λ (j : ℕ). zeros j) n in
-    ap (λ (es : List ℕ). record { number = 0; place = 0; found = p .found; start = 0; edges = es })
+    ap (λ (es : List ℕ). record { edges = es; found = p .found })
     (ap (λ (xs : List ℕ). filled 12 xs) e
     ∙ (sym z ∙ ap (λ (xs : List ℕ). zeros depth ++ filled (12 - depth) xs) (sym e)))
 
@@ -48,13 +48,6 @@ edge-before depth e xs h =
     ∙ (set-at (zeros depth) 0 (filled (12 - suc depth) xs) e depth (length-replicate depth 0)
     ∙ ap (λ (j : ℕ). zeros depth ++ (e ∷ (xs ++ zeros j))) k))
 
--- where a run ends that takes no edge
-pub ended-is :
-    (b : Branch) (t : Bool) (ends l : ℕ) → b ≡ placed 0 noPath → t ≡ isIn l (locationsIn ends)
-    → record { number = b .number; place = b .place; found = t; start = b .start; edges = b .edges }
-    ≡ placed 0 (path (isIn l (locationsIn ends)) 0 [])
-ended-is b t ends l e f = rw (e, f)
-
 -- with no events left
 pub at-end :
     (head : Head) (edges : List ℕ) (d : ℕ) (symbols stamps : List ℕ) (depth last : ℕ) (from : Configuration)
@@ -65,17 +58,17 @@ at-end head edges d symbols stamps depth last from h = rw (events-end symbols st
 
 pub end-is :
     (head : Head) (edges : List ℕ) (d : ℕ) (symbols stamps : List ℕ) (depth last : ℕ) (from : Configuration)
-    (r : Branch)
+    (t : Bool) (r : Run)
     → Ready head symbols stamps depth last from
     → length symbols ≤ depth
-    → r ≡ placed 0 (path (isIn (from .location) (locationsIn (head .ends))) 0 [])
+    → t ≡ isIn (from .location) (locationsIn (head .ends))
+    → r ≡ placed 0 (path t 0 [])
     → r ≡ placed depth (leastAt head edges d symbols stamps depth last from)
-end-is head edges d symbols stamps depth last from r ready h e =
+end-is head edges d symbols stamps depth last from t r ready h f e =
     e
-    ∙ (nowhere depth (path (isIn (from .location) (locationsIn (head .ends))) 0 [])
-    (omega (arith, ready .depth-in, ready .events-most))
-    refl
-    ∙ ap (λ (p : Path). placed depth p) (sym (at-end head edges d symbols stamps depth last from h)))
+    ∙ (nowhere depth (path t 0 []) (omega (arith, ready .depth-in, ready .events-most)) refl
+    ∙ ap (λ (p : Path). placed depth p)
+    (ap (λ (x : Bool). path x 0 []) f ∙ sym (at-end head edges d symbols stamps depth last from h)))
 
 -- one event: v is the event, `now` the configuration after the delay
 module _ (head : Head) (edges : List ℕ) (d : ℕ) (symbols stamps : List ℕ) (depth : ℕ) (now : Configuration) where
@@ -149,22 +142,22 @@ module _ (head : Head) (edges : List ℕ) (d : ℕ) (symbols stamps : List ℕ) 
 
       -- no accepting run that way
       pub trying-stuck :
-          (r : Bool) (run : Branch) → r ≡ takes d clocks (getD symbols depth 0) now (edgeAt e edges) → r ≡ true
+          (r : Bool) (run : Run) → r ≡ takes d clocks (getD symbols depth 0) now (edgeAt e edges) → r ≡ true
           → run ≡ placed (depth + 1) (leastAt head edges d symbols stamps (depth + 1) (getD stamps depth 0) next)
           → run .found ≡ false
           → Trying clocks count (e + 1)
       trying-stuck r run t f p g =
-          skip (ap (λ (q : Path). q .found) (reached r t f) ∙ (sym (ap (λ (b : Branch). b .found) p) ∙ g))
+          skip (ap (λ (q : Path). q .found) (reached r t f) ∙ (sym (ap (λ (b : Run). b .found) p) ∙ g))
 
       pub trying-found :
-          (r : Bool) (run : Branch) → depth < 12 → r ≡ takes d clocks (getD symbols depth 0) now (edgeAt e edges)
+          (r : Bool) (run : Run) → depth < 12 → r ≡ takes d clocks (getD symbols depth 0) now (edgeAt e edges)
           → r ≡ true
           → run ≡ placed (depth + 1) (leastAt head edges d symbols stamps (depth + 1) (getD stamps depth 0) next)
           → run .found ≡ true
           → withEdge run depth e ≡ placed depth (tryFrom 0)
       trying-found r run b t f p g =
           let q : Path = leastAt head edges d symbols stamps (depth + 1) (getD stamps depth 0) next in
-          let found : q .found ≡ true = sym (ap (λ (x : Branch). x .found) p) ∙ g in
+          let found : q .found ≡ true = sym (ap (λ (x : Run). x .found) p) ∙ g in
           let by : byEdge e ≡ q = reached r t f in
           let whole : tryFrom 0 ≡ path true 0 (e ∷ q .taken) =
           sym (inv .rest-is) ∙ (try-step e (omega (arith, inv .count-is)) ∙ rw (by, found)) in

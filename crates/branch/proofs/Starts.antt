@@ -19,7 +19,8 @@ use Rattle.model.proofs.Ages.{zeros-most, bits-more, bits-skip}
 use Rattle.ages.specs.declared.Configuration.{Configuration}
 use Rattle.ages.specs.Ages.{numbersOf}
 use Rattle.ages.proofs.Moves.{start-ages}
-use Rattle.branch.specs.Branches.{placed, withStart, refusedBy, leastAt, begun, leastOf, Ready, Begins}
+use Rattle.branch.specs.declared.Run.{Run}
+use Rattle.branch.specs.Branches.{placed, withStart, noBranch, leastAt, begun, leastOf, Ready, Begins}
 
 -- before the first event, all ages 0
 pub start-ready :
@@ -80,19 +81,19 @@ module _ (head : Head) (edges : List ℕ) (d : ℕ) (symbols stamps : List ℕ) 
         start-step = rw (left, bits-more (32 - (l + 1)) l (head .starts) is-start, add-one l)
 
         pub starting-stuck :
-            (run : Branch) → run ≡ placed 0 (leastAt head edges d symbols stamps 0 0 from) → run .found ≡ false
+            (run : Run) → run ≡ placed 0 (leastAt head edges d symbols stamps 0 0 from) → run .found ≡ false
             → Starting starts (l + 1)
         starting-stuck run p f =
             let none : runFrom l .found ≡ false =
-            ap (λ (q : Path). q .found) (sym run-is) ∙ (sym (ap (λ (x : Branch). x .found) p) ∙ f) in
+            ap (λ (q : Path). q .found) (sym run-is) ∙ (sym (ap (λ (x : Run). x .found) p) ∙ f) in
             on-to (start-step ∙ rw none)
 
         pub starting-found :
-            (run : Branch) → run ≡ placed 0 (leastAt head edges d symbols stamps 0 0 from) → run .found ≡ true
+            (run : Run) → run ≡ placed 0 (leastAt head edges d symbols stamps 0 0 from) → run .found ≡ true
             → withStart run l ≡ begun (leastOf head edges d symbols stamps)
         starting-found run p f =
             let q : run ≡ placed 0 (runFrom l) = p ∙ ap (λ (x : Path). placed 0 x) run-is in
-            let found : runFrom l .found ≡ true = sym (ap (λ (x : Branch). x .found) q) ∙ f in
+            let found : runFrom l .found ≡ true = sym (ap (λ (x : Run). x .found) q) ∙ f in
             let whole : leastOf head edges d symbols stamps ≡ path true l (runFrom l .taken) =
             sym (inv .rest-is) ∙ (start-step ∙ rw found) in
             rw (q, whole, found)
@@ -120,7 +121,7 @@ begun-is p none = by-test (p .found) (λ e. rw e) (λ e. rw (none e))
 module _ (head : Head) (edges : List ℕ) (d : ℕ) (symbols stamps : List ℕ) where
   pub refusal-is :
       (a : Answer) (r : Branch) → Refused head edges d mostBranchEvents symbols stamps a
-      → r ≡ refusedBy (a .number) (a .place)
+      → r ≡ noBranch (a .number) (a .place)
       → RunsBranches head edges d symbols stamps r
   refusal-is a r f e = record { answer-is = e ∙ rw (f .answer-is, f .not-passed) }
 

@@ -1,4 +1,4 @@
--- A branch record as a run from some event on, and what must hold there.
+-- A run from some event on and the branch record that it becomes, and what must hold before a search.
 use mathlib.Core.Path.{_≡_}
 use mathlib.Core.Bool.{false}
 use mathlib.Core.List.{List, _++_}
@@ -14,39 +14,25 @@ use Rattle.model.proofs.Words.{Ordered}
 use Rattle.model.proofs.Ages.{AtMost}
 use Rattle.ages.specs.declared.Configuration.{Configuration}
 use Rattle.ages.specs.Ages.{agesOf}
+use Rattle.branch.specs.declared.Run.{Run}
 
--- the run p, its edges from place `depth` on, its start not known yet
-abbrev pub placed : ℕ → Path → Branch
+-- the run p, its edges from place `depth` on
+abbrev pub placed : ℕ → Path → Run
 placed depth p = record {
-  number = 0;
-  place = 0;
-  found = p .found;
-  start = 0;
   edges = zeros depth ++ filled (mostBranchEvents - depth) (p .taken);
+  found = p .found;
 }
 
 -- the run with edge e at a place, and with its start
-abbrev pub withEdge : Branch → ℕ → ℕ → Branch
-withEdge run depth e = record {
-  number = run .number;
-  place = run .place;
-  found = run .found;
-  start = run .start;
-  edges = set (run .edges) depth e;
-}
+abbrev pub withEdge : Run → ℕ → ℕ → Run
+withEdge run depth e = record { edges = set (run .edges) depth e; found = run .found }
 
-abbrev pub withStart : Branch → ℕ → Branch
-withStart run l = record {
-  number = run .number;
-  place = run .place;
-  found = run .found;
-  start = l;
-  edges = run .edges;
-}
+abbrev pub withStart : Run → ℕ → Branch
+withStart run l = record { number = 0; place = 0; found = run .found; start = l; edges = run .edges }
 
--- a refusal, all else zero
-abbrev pub refusedBy : ℕ → ℕ → Branch
-refusedBy n p = record { number = n; place = p; found = false; start = 0; edges = zeros mostBranchEvents }
+-- no run: a refusal or none, all else zero
+abbrev pub noBranch : ℕ → ℕ → Branch
+noBranch n p = record { number = n; place = p; found = false; start = 0; edges = zeros mostBranchEvents }
 
 -- the least accepting run from a configuration, over the events from `depth` on, after the stamp `last`
 abbrev pub leastAt : Head → List ℕ → ℕ → List ℕ → List ℕ → ℕ → ℕ → Configuration → Path

@@ -3,18 +3,17 @@
 ghost use mathlib.Core.Path.{_≡_};
 ghost use mathlib.Core.List.{[]};
 ghost use Prim.Native.Nat.{_<_};
-ghost use Rattle.model.specs.Basics.{isIn};
-ghost use Rattle.model.specs.Runs.{noPath, path};
-ghost use Rattle.model.specs.Layout.{locationsIn};
+ghost use Rattle.model.specs.Runs.{path};
 ghost use Rattle.model.specs.Promises.{RunsBranches};
-ghost use Rattle.branch.specs.Branches.{placed, begun, withEdge, withStart, refusedBy, leastAt, leastOf};
+ghost use Rattle.branch.specs.Branches.{placed, begun, withEdge, withStart, noBranch, leastAt, leastOf};
 ghost use Rattle.branch.specs.Branches.{Ready, Begins};
 use ages::Configuration;
 use ages::after_delay;
 use ages::after_edge;
-use ages::can_take;
+use ages::guard_holds;
 use ages::has_bit;
 use ages::has_location;
+use ages::leaves;
 use ages::start_at;
 use edges::wide16;
 use edges::wide32;
@@ -24,81 +23,104 @@ use model::Stamp;
 use rule::check_rule;
 use word::check_word;
 
-// No accepting run: all zero.
-pub(crate) fn no_branch() -> Branch
-    ensures { λ r. ⌜ r ≡ placed 0 noPath ⌝ }
+// What every step of the search is given alike: 32 bytes, which are copied in two halves that do not overlap.
+pub(crate) struct Given {
+    pub head: Head,
+    pub grain: u32,
+}
+
+// A run while it is searched for: its edges from some place on, all else zero. Small, for every step answers one.
+pub(crate) struct Run {
+    pub edges: [u16; 12],
+    pub found: bool,
+}
+
+// The run that takes no edge.
+pub(crate) fn no_edges(found: bool) -> Run
+    ensures { λ r. ⌜ r ≡ placed 0 (path found 0 []) ⌝ }
 {
-    Branch {
-        number: 0,
-        place: 0,
-        found: false,
-        start: 0,
+    Run {
         edges: [0; 12],
+        found,
     }
 }
 
-// With no events left a run ends where it is.
-pub(crate) fn ended(ends: u32, location: u32) -> Branch
-    ensures { λ r. ⌜ r ≡ placed 0 (path (isIn location (locationsIn ends)) 0 []) ⌝ }
-{
-    let mut branch = no_branch();
-    branch.found = has_location(ends, location);
-    branch
-}
-
 // The run with edge `e` for event `depth`.
-pub(crate) fn with_edge(run: Branch, depth: usize, e: u16) -> Branch
+pub(crate) fn with_edge(run: Run, depth: usize, e: u16) -> Run
     requires { ⌜ depth < 12 ⌝ }
     ensures { λ r. ⌜ r ≡ withEdge run depth e ⌝ }
 {
-    let mut branch = run;
-    branch.edges[depth] = e;
-    branch
+    let mut longer = run;
+    longer.edges[depth] = e;
+    longer
 }
 
 // The least accepting run from a configuration, over the events from `depth` on; its edges stand from place `depth` on.
+// An edge is tested by the two parts of `can_take`: each is small enough to be compiled into the loop.
 pub(crate) fn least_from(
-    head: Head,
+    given: Given,
     edges: &[u16],
-    grain: u32,
     symbols: &[u16],
     stamps: &[u32],
     depth: usize,
     last: Stamp,
     from: Configuration,
-) -> Branch
-    requires { ⌜ Ready head (now symbols) (now stamps) depth (last .0) from ⌝ }
+) -> Run
+    requires { ⌜ Ready (given .head) (now symbols) (now stamps) depth (last .0) from ⌝ }
     ensures { λ r. ⌜ r ≡ placed depth
-        (leastAt head (now (edges .entry)) grain (now (symbols .entry)) (now (stamps .entry)) depth (last .0) from) ⌝ }
+        (leastAt (given .head) (now (edges .entry)) (given .grain) (now (symbols .entry)) (now (stamps .entry)) depth
+        (last .0) from) ⌝ }
 {
+    let head = given.head;
     if symbols.len() <= depth {
-        return ended(head.ends, from.location);
+        return no_edges(has_location(head.ends, from.location));
     }
     let stamp = Stamp(stamps[depth]);
     let now = after_delay(from, stamp.since(last));
     let clocks = wide32(head.clocks);
     let count = head.count as u16;
+    let ages = now.ages;
     let mut e: u16 = 0;
     while e < count {
-        if can_take(edges, e, clocks, grain, symbols[depth], now) {
+        if leaves(edges, e, now.location, symbols[depth])
+            && guard_holds(edges, e, clocks, given.grain, ages)
+        {
             let next = after_edge(edges, e, now);
-            let run = least_from(head, edges, grain, symbols, stamps, depth + 1, stamp, next);
+            let run = least_from(given, edges, symbols, stamps, depth + 1, stamp, next);
             if run.found {
                 return with_edge(run, depth, e);
             }
         }
         e += 1;
     }
-    no_branch()
+    no_edges(false)
 }
 
-// The run from location `start`.
-pub(crate) fn with_start(run: Branch, start: u16) -> Branch
+// The run from location `start`, as it is answered.
+pub(crate) fn with_start(run: Run, start: u16) -> Branch
     ensures { λ r. ⌜ r ≡ withStart run start ⌝ }
 {
-    let mut branch = run;
-    branch.start = start;
-    branch
+    let edges = run.edges;
+    Branch {
+        number: 0,
+        place: 0,
+        found: run.found,
+        start,
+        edges,
+    }
+}
+
+// No run: all zero but the number and place of a refusal.
+pub(crate) fn no_branch(number: u8, place: usize) -> Branch
+    ensures { λ r. ⌜ r ≡ noBranch number place ⌝ }
+{
+    Branch {
+        number,
+        place,
+        found: false,
+        start: 0,
+        edges: [0; 12],
+    }
 }
 
 // The least accepting run by its start: the first initial location from which there is one.
@@ -113,32 +135,20 @@ pub(crate) fn least_start(
     ensures { λ r. ⌜ r ≡ begun
         (leastOf head (now (edges .entry)) grain (now (symbols .entry)) (now (stamps .entry))) ⌝ }
 {
+    let given = Given { head, grain };
     let starts = wide32(head.starts);
     let mut l: u16 = 0;
     while l < 32 {
         if has_bit(starts, wide16(l)) {
             let from = start_at(l as u32);
-            let run = least_from(head, edges, grain, symbols, stamps, 0, Stamp(0), from);
+            let run = least_from(given, edges, symbols, stamps, 0, Stamp(0), from);
             if run.found {
                 return with_start(run, l);
             }
         }
         l += 1;
     }
-    no_branch()
-}
-
-// A refusal: its number and place, all else zero.
-pub(crate) fn refused(number: u8, place: usize) -> Branch
-    ensures { λ r. ⌜ r ≡ refusedBy number place ⌝ }
-{
-    Branch {
-        number,
-        place,
-        found: false,
-        start: 0,
-        edges: [0; 12],
-    }
+    no_branch(0, 0)
 }
 
 // 20, 21, 30 to 33 with at most 12 events; then the least accepting run.
@@ -153,11 +163,11 @@ pub fn run_branches(
 {
     let rule = check_rule(head, edges);
     if rule.number != 0 {
-        return refused(rule.number, rule.place);
+        return no_branch(rule.number, rule.place);
     }
     let word = check_word(head.symbols, grain, 12, symbols, stamps);
     if word.number != 0 {
-        return refused(word.number, word.place);
+        return no_branch(word.number, word.place);
     }
     least_start(head, edges, grain, symbols, stamps)
 }

@@ -1,81 +1,31 @@
--- `ages::can_take` meets its contract: source and symbol are the edge's numbers 0 and 2, then the guard.
-use Rattle.ages.specs.Ages.{withSymbol, edgeAt}
-use Rattle.ages.proofs.Laws.{edge-number, edge-source, other-source, other-symbol, guard-decides}
+-- `ages::can_take` meets its contract: source and symbol, then the guard.
+use Rattle.ages.specs.Ages.{edgeAt}
+use Rattle.ages.proofs.Laws.{not-leaving, guard-decides}
 use borrow.Author.Needs.{needs}
 use Rattle.ages.proofs.can_take.Statement.{statement}
 use Rattle.ages.proofs.can_take.Tie as tie
 
-wide16-requires : tie.Need-wide16-requires
-wide16-requires c κs = search needs
-
-mul-at : tie.Need-mul-at
-mul-at c = search needs
-
-number-at-requires : tie.Need-number-at-requires
-number-at-requires c κs = search needs
-
-wide32-requires : tie.Need-wide32-requires
-wide32-requires c κs = search needs
-
-returns : tie.Need-returns
-returns c =
-    let a = c .before .before .before .before .before .before .args in
-    let w = c .before .before .before .before .wide16 in
-    let n = c .before .before .number-at .ensures in
-    other-source _ _ _ (withSymbol (a .symbol)) (edgeAt (a .e) (a .edges .now)) _ _
-    (edge-source (a .edges .now) (w .result) (a .e) _ (w .ensures .0) (n .0))
-    (c .before .wide32 .ensures .0)
-    (c .if1 .taken)
-
-add-number-at : tie.Need-add-number-at
-add-number-at c = search needs
-
-number-at-requires-2 : tie.Need-number-at-requires-2
-number-at-requires-2 c κs = search needs
-
-wide16-requires-2 : tie.Need-wide16-requires-2
-wide16-requires-2 c κs = search needs
-
-returns-2 : tie.Need-returns-2
-returns-2 c =
-    let a = c .before .before .before .before .before .before .before .before .before .args in
-    let w = c .before .before .before .before .before .before .before .wide16 in
-    let m = c .before .before .number-at2 .ensures in
-    other-symbol _ _ _ (withSymbol (a .symbol)) (edgeAt (a .e) (a .edges .now)) _ _
-    (edge-number (a .edges .now) (w .result) (a .e) 2 _ (w .ensures .0) (m .0))
-    (c .before .wide162 .ensures .0)
-    (c .if2 .taken)
+leaves-requires : tie.Need-leaves-requires
+leaves-requires c κs = search needs
 
 guard-holds-requires : tie.Need-guard-holds-requires
 guard-holds-requires c κs = search needs
 
-returns-3 : tie.Need-returns-3
-returns-3 c =
-    let a = c .before .before .before .before .before .before .before .before .before .before .args in
-    let w = c .before .before .before .before .before .before .before .before .wide16 in
-    let n = c .before .before .before .before .before .before .number-at .ensures in
-    let m = c .before .before .before .number-at2 .ensures in
-    guard-decides _ _ _ (withSymbol (a .symbol)) (edgeAt (a .e) (a .edges .now)) _ _ _ _ _
-    (edge-source (a .edges .now) (w .result) (a .e) _ (w .ensures .0) (n .0))
-    (c .before .before .before .before .before .wide32 .ensures .0)
-    (c .before .before .before .before .if1 .left)
-    (edge-number (a .edges .now) (w .result) (a .e) 2 _ (w .ensures .0) (m .0))
-    (c .before .before .wide162 .ensures .0)
-    (c .before .if2 .left)
+returns : tie.Need-returns
+returns c =
+    let a = c .before .before .before .before .before .args in
+    guard-decides (a .grain) (a .clocks) (a .symbol) (a .from) (edgeAt (a .e) (a .edges .now)) _
+    (c .before .before .leaves .ensures)
+    _
+    (c .before .if1 .taken)
     (c .guard-holds .ensures)
 
+returns-2 : tie.Need-returns-2
+returns-2 c =
+    let a = c .before .before .before .before .args in
+    not-leaving (a .grain) (a .clocks) (a .symbol) (a .from) (edgeAt (a .e) (a .edges .now)) _
+    (c .before .leaves .ensures)
+    (c .if1 .left)
+
 pub can-take-spec : {M : Type 1} → statement M
-can-take-spec =
-    tie.close
-    (tie.spec
-    wide16-requires
-    mul-at
-    number-at-requires
-    wide32-requires
-    returns
-    add-number-at
-    number-at-requires-2
-    wide16-requires-2
-    returns-2
-    guard-holds-requires
-    returns-3)
+can-take-spec = tie.close (tie.spec leaves-requires guard-holds-requires returns returns-2)

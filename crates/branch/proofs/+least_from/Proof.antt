@@ -10,6 +10,8 @@ use borrow.Fn.Kinds.{In}
 use borrow.Fn.PlainCycle.{Measures, is, falls, and}
 use denote.Ref.{now}
 use Rattle.model.specs.Runs.{Path, noPath}
+use Rattle.ages.specs.Ages.{edgeAt}
+use Rattle.ages.proofs.Laws.{not-leaving, guard-decides}
 use Rattle.branch.specs.Branches.{placed}
 use Rattle.branch.proofs.Laws.{end-is, Trying, trying-start, trying-other, trying-stuck, trying-found}
 use Rattle.branch.proofs.Laws.{trying-none, at-event, next-ready, nowhere}
@@ -18,9 +20,10 @@ use Rattle.branch.proofs.least_from.Kinds as kinds
 use Rattle.branch.proofs.+least_from.Lts-least_from as lts
 use Rattle.ages.proofs.after_delay.Reads as after-delay-reads
 use Rattle.ages.proofs.after_edge.Reads as after-edge-reads
-use Rattle.ages.proofs.can_take.Reads as can-take-reads
-use Rattle.branch.proofs.ended.Reads as ended-reads
-use Rattle.branch.proofs.no_branch.Reads as no-branch-reads
+use Rattle.ages.proofs.guard_holds.Reads as guard-holds-reads
+use Rattle.ages.proofs.has_location.Reads as has-location-reads
+use Rattle.ages.proofs.leaves.Reads as leaves-reads
+use Rattle.branch.proofs.no_edges.Reads as no-edges-reads
 use Rattle.branch.proofs.with_edge.Reads as with-edge-reads
 use Rattle.edges.proofs.wide32.Reads as wide32-reads
 use Rattle.model.proofs.Stamp.since.Reads as since-reads
@@ -29,7 +32,7 @@ use Rattle.branch.proofs.+least_from.Tie.{close}
 
 -- the events left
 abbrev μ : Measures 3 kinds.ps ℕ
-μ κs a = length (now (a .1 .1 .1 .0)) - a .1 .1 .1 .1 .1 .0
+μ κs a = length (now (a .1 .1 .0)) - a .1 .1 .1 .1 .0
 
 abbrev here : ℕ → In 3 kinds.ps
 here t = and 3 kinds.ps (is 3 kinds.ps μ t) own.Pre
@@ -40,51 +43,59 @@ fewer t = and 3 kinds.ps (falls 3 kinds.ps _<_ μ t) own.Pre
 -- what each callee asks and ensures; the call of itself asks for fewer events
 abbrev claims : ℕ → lts.Claims
 claims t = (
-  ended-reads.Asked,
-  ended-reads.Learnt,
+  has-location-reads.Asked,
+  has-location-reads.Learnt,
+  no-edges-reads.Asked,
+  no-edges-reads.Learnt,
   since-reads.Asked,
   since-reads.Learnt,
   after-delay-reads.Asked,
   after-delay-reads.Learnt,
   wide32-reads.Asked,
   wide32-reads.Learnt,
-  can-take-reads.Asked,
-  can-take-reads.Learnt,
+  leaves-reads.Asked,
+  leaves-reads.Learnt,
+  guard-holds-reads.Asked,
+  guard-holds-reads.Learnt,
   after-edge-reads.Asked,
   after-edge-reads.Learnt,
   fewer t,
   own.Post,
   with-edge-reads.Asked,
   with-edge-reads.Learnt,
-  no-branch-reads.Asked,
-  no-branch-reads.Learnt,
 )
 
 abbrev Inv-loop : lts.InvT-loop
-Inv-loop head edges grain symbols stamps depth stamp now clocks count e₀ e =
-    (depth < 12) × Trying head edges grain symbols stamps depth now clocks count e
+Inv-loop given edges symbols stamps depth stamp now clocks count ages e₀ e =
+    (depth < 12) × Trying (given .head) edges (given .grain) symbols stamps depth now clocks count e
 
 abbrev μ-loop : lts.MeasureT-loop
-μ-loop head edges grain symbols stamps depth stamp now clocks count e₀ e = count - e
+μ-loop given edges symbols stamps depth stamp now clocks count ages e₀ e = count - e
 
 module _ (t : ℕ) where
-  ended-requires : lts.Need-ended-requires (claims t) (here t) own.Post Inv-loop μ-loop
-  ended-requires c κs = search needs
+  has-location-requires : lts.Need-has-location-requires (claims t) (here t) own.Post Inv-loop μ-loop
+  has-location-requires c κs = search needs
+
+  no-edges-requires : lts.Need-no-edges-requires (claims t) (here t) own.Post Inv-loop μ-loop
+  no-edges-requires c κs = search needs
 
   returns : lts.Need-returns (claims t) (here t) own.Post Inv-loop μ-loop
   returns c =
-      let s = c .before .before .before .before .before in
+      let s = c .before .before .before .before .before .before .before in
       let a = s .args in
-      end-is (a .head) (a .edges .now) (a .grain) (a .symbols .now) (a .stamps .now) (a .depth) (a .last .0) (a .from) _
+      let g = a .given in
+      end-is (g .head) (a .edges .now) (g .grain) (a .symbols .now) (a .stamps .now) (a .depth) (a .last .0) (a .from) _
+      _
       (s .pre .1)
-      (c .before .if1 .taken)
-      (c .ended .ensures)
+      (c .before .before .if1 .taken)
+      (c .before .has-location .ensures)
+      (c .no-edges .ensures)
 
-  mul-t16 : lts.Need-mul-t16 (claims t) (here t) own.Post Inv-loop μ-loop
-  mul-t16 c = search needs
+  mul-t17 : lts.Need-mul-t17 (claims t) (here t) own.Post Inv-loop μ-loop
+  mul-t17 c = search needs
 
-  shared-slice-read-t19 : lts.Need-shared-slice-read-t19 (claims t) (here t) own.Post Inv-loop μ-loop
-  shared-slice-read-t19 c = search needs
+  shared-slice-read-t21 : lts.Need-shared-slice-read-t21 (claims t) (here t) own.Post Inv-loop μ-loop
+  shared-slice-read-t21 c = search needs
 
   since-requires : lts.Need-since-requires (claims t) (here t) own.Post Inv-loop μ-loop
   since-requires c κs = search needs
@@ -100,19 +111,22 @@ module _ (t : ℕ) where
 
   loop-holds : lts.Need-loop-holds (claims t) (here t) own.Post Inv-loop μ-loop
   loop-holds c =
-      let pre = c .before .before .before .before .before .before .before .before .before .pre .1 in (
-        omega (arith, pre .events-most, c .before .before .before .before .before .if1 .left),
-        trying-start _ _ _ _ _ _ _ _ _ (c .before .wide32 .ensures .0) (search needs),
+      let test = c .before .before .before .before .before .before in (
+        omega (arith, test .before .before .before .before .before .pre .1 .events-most, test .if1 .left),
+        trying-start _ _ _ _ _ _ _ _ _ (c .before .before .wide32 .ensures .0) (search needs),
       )
 
-  mul-can-take : lts.Need-mul-can-take (claims t) (here t) own.Post Inv-loop μ-loop
-  mul-can-take c = search needs
+  mul-leaves : lts.Need-mul-leaves (claims t) (here t) own.Post Inv-loop μ-loop
+  mul-leaves c = search needs
 
-  shared-slice-read-can-take : lts.Need-shared-slice-read-can-take (claims t) (here t) own.Post Inv-loop μ-loop
-  shared-slice-read-can-take c = search needs
+  shared-slice-read-leaves : lts.Need-shared-slice-read-leaves (claims t) (here t) own.Post Inv-loop μ-loop
+  shared-slice-read-leaves c = search needs
 
-  can-take-requires : lts.Need-can-take-requires (claims t) (here t) own.Post Inv-loop μ-loop
-  can-take-requires c κs = search needs
+  leaves-requires : lts.Need-leaves-requires (claims t) (here t) own.Post Inv-loop μ-loop
+  leaves-requires c κs = search needs
+
+  guard-holds-requires : lts.Need-guard-holds-requires (claims t) (here t) own.Post Inv-loop μ-loop
+  guard-holds-requires c κs = search needs
 
   after-edge-requires : lts.Need-after-edge-requires (claims t) (here t) own.Post Inv-loop μ-loop
   after-edge-requires c κs = search needs
@@ -122,21 +136,21 @@ module _ (t : ℕ) where
 
   least-from-requires : lts.Need-least-from-requires (claims t) (here t) own.Post Inv-loop μ-loop
   least-from-requires c κs =
-      let early = c .before .before .before .before .before .before .before .before .before .before in
-      let s = early .before .before .before .before .before in
-      let a = s .args in
-      let h = early .before .if1 .left in (
-        omega (arith, s .pre .0, h),
-        next-ready (a .head) (a .edges .now) (a .symbols .now) (a .stamps .now) (a .depth) (a .last .0) _
-            (c .before .before .before .before .before .loop .e)
+      let early = c .before .before .before .before .before .before .before .before .before in
+      let test = early .before .before .before .before .before in
+      let s = test .before .before .before .before .before in
+      let a = s .args in (
+        omega (arith, s .pre .0, test .if1 .left),
+        next-ready (a .given .head) (a .edges .now) (a .symbols .now) (a .stamps .now) (a .depth) (a .last .0) _
+            (c .before .before .before .before .before .before .before .loop .e)
             (a .from)
             _
             _
             (s .pre .1)
-            h
-            (omega (arith, early .shared-slice-known4 .given (a .depth)))
-            (c .before .before .before .before .before .before .before .before .before .since .ensures)
-            (c .before .before .before .before .before .before .before .before .after-delay .ensures)
+            (test .if1 .left)
+            (omega (arith, early .before .before .before .before .shared-slice-known4 .given (a .depth)))
+            (early .before .before .before .since .ensures)
+            (early .before .before .after-delay .ensures)
             (c .after-edge .ensures),
       )
 
@@ -145,39 +159,42 @@ module _ (t : ℕ) where
 
   returns-2 : lts.Need-returns-2 (claims t) (here t) own.Post Inv-loop μ-loop
   returns-2 c =
-      let early = c .before .before .before .before .before .before .before .before .before .before in
-      let s = early .before .before .before .before .before .before .before .before in
+      let looped = c .before .before .before .before .before .before .before .before .before .before in
+      let l = looped .loop in
+      let early = looped .before .before .before in
+      let test = early .before .before .before .before in
+      let s = test .before .before .before .before .before in
       let a = s .args in
-      let l = c .before .before .before .before .before .before .before .before .loop in
+      let g = a .given in
+      let now-is = early .before .after-delay .result in
+      let can =
+      guard-decides (g .grain) (early .wide32 .result) _ now-is (edgeAt (l .e) (a .edges .now)) _
+      (c .before .before .before .before .before .before .before .leaves .ensures)
+      _
+      (c .before .before .before .before .before .before .if2 .taken)
+      (c .before .before .before .before .before .guard-holds .ensures) in
       let found =
-      trying-found (a .head) (a .edges .now) (a .grain) (a .symbols .now) (a .stamps .now) (a .depth)
-      (early .before .after-delay .result)
-      (l .inv .1)
-      (c .before .before .before .before .before .before .before .loop-test .taken)
+      trying-found _ _ _ _ _ _ now-is (l .inv .1)
+      (c .before .before .before .before .before .before .before .before .before .loop-test .taken)
       (c .before .before .before .after-edge .result)
       (c .before .before .before .after-edge .ensures)
       _
       (c .before .before .least-from .result)
       (l .inv .0)
-      (c .before .before .before .before .before .can-take .ensures)
-      (c .before .before .before .before .if2 .taken)
+      can
+      (c .before .before .before .before .if3 .taken)
       (c .before .before .least-from .ensures)
-      (c .before .if3 .taken) in
-      c .with-edge .ensures
-      ∙ (found
-      ∙ ap (λ (p : Path). placed (a .depth) p)
-      (sym
-      (at-event (a .head) (a .edges .now) (a .grain) (a .symbols .now) (a .stamps .now) (a .depth) (a .last .0) _
-      (a .from) _
+      (c .before .if4 .taken) in
+      let from-here =
+      at-event (g .head) (a .edges .now) (g .grain) (a .symbols .now) (a .stamps .now) (a .depth) (a .last .0) _
+      (a .from)
+      _
       (s .pre .1)
-      (early .before .before .before .before .if1 .left)
-      (omega (
-        arith,
-        early .before .before .before .shared-slice-known4 .given
-            (a .depth),
-      ))
+      (test .if1 .left)
+      (omega (arith, early .before .before .before .shared-slice-known4 .given (a .depth)))
       (early .before .before .since .ensures)
-      (early .before .after-delay .ensures))))
+      (early .before .after-delay .ensures) in
+      c .with-edge .ensures ∙ (found ∙ ap (λ (p : Path). placed (a .depth) p) (sym from-here))
 
   add-e : lts.Need-add-e (claims t) (here t) own.Post Inv-loop μ-loop
   add-e c = search needs
@@ -187,47 +204,60 @@ module _ (t : ℕ) where
 
   loop-again : lts.Need-loop-again (claims t) (here t) own.Post Inv-loop μ-loop
   loop-again c =
-      let early = c .before .before .before .before .before .before .before .before .before .before in
-      let a = early .before .before .before .before .args in
       let l = c .before .before .before .before .loop in
-      let now-is = c .before .before .before .before .before .before .before .after-delay .result in
+      let early = c .before .before .before .before .before .before .before in
+      let a = early .before .before .before .before .before .before .before .before .before .args in
+      let d = a .given .grain in
+      let clocks = early .wide32 .result in
+      let now-is = early .before .after-delay .result in
+      let at = edgeAt (l .e) (a .edges .now) in
       let test = c .before .before .before .loop-test .taken in
-      let can = c .before .can-take .ensures in (
+      let left = c .before .leaves .ensures in (
         l .inv .0,
         ⊎-elim
             (λ w.
-            trying-stuck (a .head) (a .edges .now) (a .grain) (a .symbols .now) (a .stamps .now) (a .depth) now-is
-            (l .inv .1) test (w .1 .result) (w .1 .ensures) _ (w .2 .result) can (w .0 .taken) (w .2 .ensures)
-            (w .3 .left))
+            trying-stuck _ _ _ _ _ _ now-is (l .inv .1) test (w .3 .result) (w .3 .ensures) _ (w .4 .result)
+            (guard-decides d clocks _ now-is at _ left _ (w .0 .taken) (w .1 .ensures))
+            (w .2 .taken)
+            (w .4 .ensures)
+            (w .5 .left))
+            (λ v.
+            ⊎-elim
             (λ w.
-            trying-other (a .head) (a .edges .now) (a .grain) (a .symbols .now) (a .stamps .now) (a .depth) now-is
-            (l .inv .1) test _ can (w .left))
+            trying-other _ _ _ _ _ _ now-is (l .inv .1) test _
+            (guard-decides d clocks _ now-is at _ left _ (w .0 .taken) (w .1 .ensures))
+            (w .2 .left))
+            (λ w.
+            trying-other _ _ _ _ _ _ now-is (l .inv .1) test _
+            (not-leaving d clocks _ now-is at _ left (w .left))
+            (w .left))
+            (v .came))
             (c .if2 .came),
       )
 
-  no-branch-requires : lts.Need-no-branch-requires (claims t) (here t) own.Post Inv-loop μ-loop
-  no-branch-requires c κs = search needs
+  no-edges-requires-2 : lts.Need-no-edges-requires-2 (claims t) (here t) own.Post Inv-loop μ-loop
+  no-edges-requires-2 c κs = search needs
 
   returns-3 : lts.Need-returns-3 (claims t) (here t) own.Post Inv-loop μ-loop
   returns-3 c =
-      let s = c .before .before .before .before .before .before .before .before .before .before .before .before in
+      let early = c .before .before .before .before .before in
+      let test = early .before .before .before .before in
+      let s = test .before .before .before .before .before in
       let a = s .args in
-      let none =
-      trying-none (a .head) (a .edges .now) (a .grain) (a .symbols .now) (a .stamps .now) (a .depth) _
-      (c .before .before .loop .inv .1)
-      (c .before .loop-test .left) in
-      c .no-branch .ensures
-      ∙ (nowhere (a .depth) noPath (search needs) refl
-      ∙ ap (λ (p : Path). placed (a .depth) p)
-      (sym none
-      ∙ sym
-      (at-event (a .head) (a .edges .now) (a .grain) (a .symbols .now) (a .stamps .now) (a .depth) (a .last .0) _
-      (a .from) _
+      let g = a .given in
+      let none = trying-none _ _ _ _ _ _ _ (c .before .before .loop .inv .1) (c .before .loop-test .left) in
+      let from-here =
+      at-event (g .head) (a .edges .now) (g .grain) (a .symbols .now) (a .stamps .now) (a .depth) (a .last .0) _
+      (a .from)
+      _
       (s .pre .1)
-      (c .before .before .before .before .before .before .before .before .if1 .left)
-      (omega (arith, c .before .before .before .before .before .before .before .shared-slice-known4 .given (a .depth)))
-      (c .before .before .before .before .before .before .since .ensures)
-      (c .before .before .before .before .before .after-delay .ensures))))
+      (test .if1 .left)
+      (omega (arith, early .before .before .before .shared-slice-known4 .given (a .depth)))
+      (early .before .before .since .ensures)
+      (early .before .after-delay .ensures) in
+      c .no-edges2 .ensures
+      ∙ (nowhere (a .depth) noPath (search needs) refl
+      ∙ ap (λ (p : Path). placed (a .depth) p) (sym none ∙ sym from-here))
 
 pub +least-from-spec : {M : Type 1} → statement M
 +least-from-spec = close μ λ t. lts.spec (claims t)
@@ -235,18 +265,20 @@ pub +least-from-spec : {M : Type 1} → statement M
     own.Post
     Inv-loop
     μ-loop
-    (ended-requires t)
+    (has-location-requires t)
+    (no-edges-requires t)
     (returns t)
-    (mul-t16 t)
-    (shared-slice-read-t19 t)
+    (mul-t17 t)
+    (shared-slice-read-t21 t)
     (since-requires t)
     (after-delay-requires t)
     (wide32-requires t)
     (cast-count t)
     (loop-holds t)
-    (mul-can-take t)
-    (shared-slice-read-can-take t)
-    (can-take-requires t)
+    (mul-leaves t)
+    (shared-slice-read-leaves t)
+    (leaves-requires t)
+    (guard-holds-requires t)
     (after-edge-requires t)
     (add-least-from t)
     (least-from-requires t)
@@ -255,5 +287,5 @@ pub +least-from-spec : {M : Type 1} → statement M
     (add-e t)
     (loop-less t)
     (loop-again t)
-    (no-branch-requires t)
+    (no-edges-requires-2 t)
     (returns-3 t)

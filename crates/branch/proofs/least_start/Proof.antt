@@ -11,11 +11,11 @@ use Rattle.branch.proofs.least_start.Statement.{statement}
 use Rattle.branch.proofs.least_start.Tie as tie
 
 abbrev Inv-loop : tie.InvT-loop
-Inv-loop head edges grain symbols stamps starts l₀ l =
-    Begins head symbols stamps × Starting head edges grain symbols stamps starts l
+Inv-loop edges grain symbols stamps given starts l₀ l =
+    Begins (given .head) symbols stamps × Starting (given .head) edges (given .grain) symbols stamps starts l
 
 abbrev μ-loop : tie.MeasureT-loop
-μ-loop head edges grain symbols stamps starts l₀ l = 32 - l
+μ-loop edges grain symbols stamps given starts l₀ l = 32 - l
 
 wide32-requires : tie.Need-wide32-requires Inv-loop μ-loop
 wide32-requires c κs = search needs

@@ -8,8 +8,8 @@ use Rattle.branch.proofs.run_branches.Tie as tie
 check-rule-requires : tie.Need-check-rule-requires
 check-rule-requires c κs = search needs
 
-refused-requires : tie.Need-refused-requires
-refused-requires c κs = search needs
+no-branch-requires : tie.Need-no-branch-requires
+no-branch-requires c κs = search needs
 
 returns : tie.Need-returns
 returns c =
@@ -18,13 +18,13 @@ returns c =
     refusal-is (a .head) (a .edges .now) (a .grain) (a .symbols .now) (a .stamps .now) (rule .result) _
     (rule-refused (a .head) (a .edges .now) (a .grain) 12 (a .symbols .now) (a .stamps .now) (rule .result)
     (rule .ensures) (c .before .if1 .taken))
-    (c .refused .ensures)
+    (c .no-branch .ensures)
 
 check-word-requires : tie.Need-check-word-requires
 check-word-requires c κs = search needs
 
-refused-requires-2 : tie.Need-refused-requires-2
-refused-requires-2 c κs = search needs
+no-branch-requires-2 : tie.Need-no-branch-requires-2
+no-branch-requires-2 c κs = search needs
 
 returns-2 : tie.Need-returns-2
 returns-2 c =
@@ -38,7 +38,7 @@ returns-2 c =
     (word .ensures)
     (c .before .before .before .before .if1 .left)
     (c .before .if2 .taken))
-    (c .refused2 .ensures)
+    (c .no-branch2 .ensures)
 
 least-start-requires : tie.Need-least-start-requires
 least-start-requires c κs =
@@ -73,10 +73,10 @@ run-branches-spec =
     tie.close
     (tie.spec
     check-rule-requires
-    refused-requires
+    no-branch-requires
     returns
     check-word-requires
-    refused-requires-2
+    no-branch-requires-2
     returns-2
     least-start-requires
     returns-3)
