@@ -22,7 +22,8 @@ use Rattle.model.proofs.Ages.{bits-in, bits-high}
 use Rattle.ages.specs.declared.Ages.{Ages}
 use Rattle.ages.specs.declared.Configuration.{Configuration}
 use Rattle.ages.specs.Ages.{sameConfig, numbersOf, agesOf, mostAge, olderCapped, atomHolds, atomAt, edgeAt}
-use Rattle.ages.specs.Ages.{leaves, takes}
+use Rattle.edges.specs.Leaving.{leavesOn}
+use Rattle.ages.specs.Ages.{takes}
 
 -- owning an array of ages tells the length of the list of what they hold, and so of the list
 pub length-mapped : (X Y : Type 0) (f : X → Y) (xs : List X) (n : ℕ) → length (map f xs) ≡ n → length xs ≡ n
@@ -205,15 +206,15 @@ count-known d ages t e count h = rw h
 
 -- source, symbol and guard, tested in this order
 pub other-source :
-    (l symbol : ℕ) (e : Edge) (n m : ℕ) → n ≡ e .source → m ≡ l → (n ≡ m → ⊥) → false ≡ leaves l symbol e
+    (l symbol : ℕ) (e : Edge) (n m : ℕ) → n ≡ e .source → m ≡ l → (n ≡ m → ⊥) → false ≡ leavesOn l symbol e
 other-source l symbol e n m h k g = rw (ne-eqb (e .source) l (λ q. g (h ∙ (q ∙ sym k))))
 
 pub symbol-decides :
     (l symbol : ℕ) (e : Edge) (n n′ m m′ : ℕ) → n ≡ e .source → n′ ≡ l → n ≡ n′ → m ≡ e .symbol → m′ ≡ symbol
-    → eqb m m′ ≡ leaves l symbol e
+    → eqb m m′ ≡ leavesOn l symbol e
 symbol-decides l symbol e n n′ m m′ a b c f g = rw (eq-eqb (e .source) l (sym a ∙ (c ∙ b)), f, g)
 
-module _ (d k symbol : ℕ) (from : Configuration) (e : Edge) (r : Bool) (t : r ≡ leaves (from .location) symbol e) where
+module _ (d k symbol : ℕ) (from : Configuration) (e : Edge) (r : Bool) (t : r ≡ leavesOn (from .location) symbol e) where
   pub not-leaving : r ≡ false → r ≡ takes d k symbol from e
   not-leaving f = f ∙ rw (sym t ∙ f)
 

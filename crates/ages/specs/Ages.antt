@@ -51,9 +51,7 @@ edgeAt e t = edgeIn (drop (edgeWidth * e) t)
 abbrev pub atomHolds : ℕ → List ℕ → Atom → Bool
 atomHolds d ages a = related (a .relation) (getD ages (a .clock) 0) (a .constant * d)
 
--- it leaves the location, with the symbol; and its guard holds
-abbrev pub leaves : ℕ → ℕ → Edge → Bool
-leaves l symbol e = eqb (e .source) l && eqb (e .symbol) symbol
+-- an edge that can be taken on a symbol
 
 abbrev pub takes : ℕ → ℕ → ℕ → Configuration → Edge → Bool
 takes d k symbol from e = canTake d (from .location) (agesOf k (from .ages)) (withSymbol symbol) e

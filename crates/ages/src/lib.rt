@@ -6,8 +6,9 @@ ghost use lib.ListN.{getD};
 ghost use Rattle.model.specs.Basics.{pick, lesser, zeros, bit, isIn, same};
 ghost use Rattle.model.specs.Runs.{related, holds, zeroed};
 ghost use Rattle.model.specs.Layout.{locationsIn};
+ghost use Rattle.edges.specs.Leaving.{leavesOn};
 ghost use Rattle.ages.specs.Ages.{numbersOf, agesOf, mostAge, olderCapped, Waited, Moved};
-ghost use Rattle.ages.specs.Ages.{atomHolds, atomAt, edgeAt, leaves, takes, configOf, sameConfig};
+ghost use Rattle.ages.specs.Ages.{atomHolds, atomAt, edgeAt, takes, configOf, sameConfig};
 use edges::number_at;
 use edges::wide16;
 use edges::wide32;
@@ -163,7 +164,7 @@ pub fn guard_holds(edges: &[u16], e: u16, clocks: usize, grain: u32, ages: Ages)
 
 // Edge `e` leaves the location, with the symbol.
 pub fn leaves(edges: &[u16], e: u16, location: u32, symbol: u16) -> bool
-    ensures { λ r. ⌜ r ≡ leaves location symbol (edgeAt e (now (edges .entry))) ⌝ }
+    ensures { λ r. ⌜ r ≡ leavesOn location symbol (edgeAt e (now (edges .entry))) ⌝ }
 {
     let at = 29 * wide16(e);
     if number_at(edges, at) != wide32(location) {

@@ -11,6 +11,7 @@ use lib.Dec.{eqb, ltb, leb}
 use lib.ListN.{length, getD, drop, drop-of-length-le}
 use lib.Seq.{drop-cons, getD-drop}
 use Rattle.model.specs.declared.Head.{Head}
+use Rattle.edges.specs.Leaving.{leavesOn}
 use Rattle.model.specs.Rules.{Edge, Rule, validRule}
 use Rattle.model.specs.Runs.{noEdge}
 use Rattle.model.specs.Layout.{edgeWidth, edgeIn, edgesIn, ruleIn}
@@ -24,7 +25,7 @@ use Rattle.pairs.specs.declared.Pair.{Pair}
 use Rattle.pairs.specs.declared.Input.{Input}
 use Rattle.pairs.specs.Pairs.{Scaled, unpacked, pairAllows, pairResetsOn, pairTarget}
 use Rattle.pairs.proofs.Agreement.{location-is, allows-is, target-is}
-use Rattle.construct.specs.Leaving.{leaves, firstLeaving, leavingFrom, edgeOf, nextPlace, firstLink, Linked}
+use Rattle.construct.specs.Leaving.{firstLeaving, leavingFrom, edgeOf, nextPlace, firstLink, Linked}
 use Rattle.construct.proofs.LeavingLaws.{Standing, standing-from, next-is, next-later, from-first}
 
 -- the edges of the rule that head record and edge table spell
@@ -71,13 +72,13 @@ fields-of h t count n valid q l =
 
 -- The first link is the first edge that leaves; from a location or on a symbol that no rule has, none does.
 none-leaves :
-    (l s n : ℕ) (es : List Edge) → ((e : Edge) → In e es → leaves l s e ≡ false) → firstLeaving l s n es ≡ n + length es
+    (l s n : ℕ) (es : List Edge) → ((e : Edge) → In e es → leavesOn l s e ≡ false) → firstLeaving l s n es ≡ n + length es
 none-leaves l s n [] h = omega arith
 none-leaves l s n (e ∷ es) h =
     rw (h e (here refl)) (none-leaves l s (suc n) es (λ f i. h f (there i)) ∙ omega arith)
 
 none-first :
-    (l s : ℕ) (es : List Edge) → ((e : Edge) → In e es → leaves l s e ≡ false) → length es ≡ firstLeaving l s 0 es
+    (l s : ℕ) (es : List Edge) → ((e : Edge) → In e es → leavesOn l s e ≡ false) → length es ≡ firstLeaving l s 0 es
 none-first l s es h = omega (arith, none-leaves l s 0 es h)
 
 not-on : (a b : Bool) → b ≡ false → (a && b) ≡ false
@@ -119,12 +120,12 @@ first-at h t links s x p valid scaled linked u =
     ∙ first-link (ruleIn h t) (locationOf (ruleIn h t) x) s links (valid-of (ruleIn h t) valid) linked
 
 -- An edge that does not leave the pair's location on the symbol is not allowed.
-not-allowed : (r : Rule) (s i x : ℕ) (e : Edge) → leaves (locationOf r x) s e ≡ false → allows r s i x e ≡ false
+not-allowed : (r : Rule) (s i x : ℕ) (e : Edge) → leavesOn (locationOf r x) s e ≡ false → allows r s i x e ≡ false
 unfolding allows
 not-allowed r s i x e q = rw q
 
 resets-blind :
-    (r : Rule) (s i x : ℕ) (e : Edge) (es : List Edge) → leaves (locationOf r x) s e ≡ false
+    (r : Rule) (s i x : ℕ) (e : Edge) (es : List Edge) → leavesOn (locationOf r x) s e ≡ false
     → pairResets r s i x (e ∷ es) ≡ pairResets r s i x es
 resets-blind r s i x e es q =
     ap (λ (b : Bool). b || pairResets r s i x es)
@@ -132,7 +133,7 @@ resets-blind r s i x e es q =
 
 targets-blind :
     (r : Rule) (s i : ℕ) (timer : Bool) (x : ℕ) (row : List ℕ) (e : Edge) (es : List Edge)
-    → leaves (locationOf r x) s e ≡ false
+    → leavesOn (locationOf r x) s e ≡ false
     → pairTargets r s i timer x (e ∷ es) row ≡ pairTargets r s i timer x es row
 targets-blind r s i timer x row e es q = rw (not-allowed r s i x e q)
 

@@ -8,21 +8,22 @@ use borrow.Author.Tests.{eqb-true, eq-eqb, lt-ltb, le-ltb}
 use lib.Dec.{eqb, ltb}
 use lib.ListN.{length, getD, drop, set, length-drop, length-set, drop-of-length-le}
 use lib.Seq.{drop-cons, getD-set-same, getD-set-other}
+use Rattle.edges.specs.Leaving.{leavesOn}
 use Rattle.model.specs.Basics.{pick}
 use Rattle.model.specs.Rules.{Edge}
 use Rattle.model.specs.Runs.{noEdge}
 use Rattle.model.proofs.Logic.{no-way, by-test, and-left, and-right, and-both, Cmp, cmp, is-lt, is-eq, is-gt}
-use Rattle.construct.specs.Leaving.{leaves, firstLeaving, leavingFrom, edgeOf, firstPlace, nextPlace, firstLink, LinkedFrom}
+use Rattle.construct.specs.Leaving.{firstLeaving, leavingFrom, edgeOf, firstPlace, nextPlace, firstLink, LinkedFrom}
 
 first-least : (l s n : ℕ) (es : List Edge) → n ≤ firstLeaving l s n es
 first-least l s n [] = omega arith
 first-least l s n (e ∷ es) =
-    by-test (leaves l s e) (λ q. rw q (omega arith)) (λ q. rw q (omega (arith, first-least l s (suc n) es)))
+    by-test (leavesOn l s e) (λ q. rw q (omega arith)) (λ q. rw q (omega (arith, first-least l s (suc n) es)))
 
 first-most : (l s n : ℕ) (es : List Edge) → firstLeaving l s n es ≤ n + length es
 first-most l s n [] = omega arith
 first-most l s n (e ∷ es) =
-    by-test (leaves l s e) (λ q. rw q (omega arith)) (λ q. rw q (omega (arith, first-most l s (suc n) es)))
+    by-test (leavesOn l s e) (λ q. rw q (omega arith)) (λ q. rw q (omega (arith, first-most l s (suc n) es)))
 
 -- the edges from n on, taken apart
 module _ (all : List Edge) (n : ℕ) (e : Edge) (es : List Edge) (h : drop n all ≡ e ∷ es) where
@@ -40,16 +41,16 @@ module _ (all : List Edge) (n : ℕ) (e : Edge) (es : List Edge) (h : drop n all
 
 first-leaves :
     (l s n : ℕ) (es all : List Edge) → drop n all ≡ es → firstLeaving l s n es < length all
-    → leaves l s (edgeOf all (firstLeaving l s n es)) ≡ true
+    → leavesOn l s (edgeOf all (firstLeaving l s n es)) ≡ true
 first-leaves l s n [] all h g = absurd (omega (arith, length-drop n all, ap length h))
 first-leaves l s n (e ∷ es) all h g =
-    by-test (leaves l s e) (λ q. rw (q, head-is all n e es h) q)
+    by-test (leavesOn l s e) (λ q. rw (q, head-is all n e es h) q)
     (λ q. rw q (first-leaves l s (suc n) es all (tail-is all n e es h) (rw q at g)))
 
--- Edge n leaves l on s, or no edge from here on does.
+-- Edge n leavesOn l on s, or no edge from here on does.
 pub record Standing (es : List Edge) (l s n : ℕ) : Type 0 where
   pub most : n ≤ length es
-  pub here-leaves : n < length es → leaves l s (edgeOf es n) ≡ true
+  pub here-leaves : n < length es → leavesOn l s (edgeOf es n) ≡ true
 
 pub standing-from : (es : List Edge) (l s n : ℕ) → n ≤ length es → Standing es l s (leavingFrom es l s n)
 standing-from es l s n h = record {
@@ -57,13 +58,13 @@ standing-from es l s n h = record {
   here-leaves = first-leaves l s n (drop n es) es refl;
 }
 
-source-of : (l s : ℕ) (e : Edge) → leaves l s e ≡ true → e .source ≡ l
+source-of : (l s : ℕ) (e : Edge) → leavesOn l s e ≡ true → e .source ≡ l
 source-of l s e q = eqb-true (e .source) l (and-left (eqb (e .source) l) (eqb (e .symbol) s) q)
 
-symbol-of : (l s : ℕ) (e : Edge) → leaves l s e ≡ true → e .symbol ≡ s
+symbol-of : (l s : ℕ) (e : Edge) → leavesOn l s e ≡ true → e .symbol ≡ s
 symbol-of l s e q = eqb-true (e .symbol) s (and-right (eqb (e .source) l) (eqb (e .symbol) s) q)
 
--- the link of an edge that leaves l on s
+-- the link of an edge that leavesOn l on s
 pub next-is :
     {es : List Edge} {l s n : ℕ} {links : List ℕ}
     → LinkedFrom es 0 links
@@ -71,7 +72,7 @@ pub next-is :
     → n < length es
     → getD links (nextPlace n) 0 ≡ leavingFrom es l s (suc n)
 next-is {es} {l} {s} {n} linked standing h =
-    let q : leaves l s (edgeOf es n) ≡ true = standing .here-leaves h in
+    let q : leavesOn l s (edgeOf es n) ≡ true = standing .here-leaves h in
     linked .nexts n (omega arith) h
     ∙ ap₂ (λ (x y : ℕ). leavingFrom es x y (suc n)) (source-of l s (edgeOf es n) q) (symbol-of l s (edgeOf es n) q)
 
@@ -81,11 +82,11 @@ next-later es l s n = first-least l s (suc n) (drop (suc n) es)
 -- What is blind to edges that do not leave l on s is the same from the first that does.
 module _
     {A : Type 0} (l s : ℕ) (P : List Edge → A)
-    (blind : (e : Edge) (es : List Edge) → leaves l s e ≡ false → P (e ∷ es) ≡ P es) where
+    (blind : (e : Edge) (es : List Edge) → leavesOn l s e ≡ false → P (e ∷ es) ≡ P es) where
   skipped : (n : ℕ) (es all : List Edge) → drop n all ≡ es → P es ≡ P (drop (firstLeaving l s n es) all)
   skipped n [] all h = ap P (sym h)
   skipped n (e ∷ es) all h =
-      by-test (leaves l s e) (λ q. rw q (ap P (sym h)))
+      by-test (leavesOn l s e) (λ q. rw q (ap P (sym h)))
       (λ q. rw q (blind e es q ∙ skipped (suc n) es all (tail-is all n e es h)))
 
   pub from-first : (es : List Edge) (n : ℕ) → P (drop n es) ≡ P (drop (leavingFrom es l s n) es)
@@ -126,7 +127,7 @@ module _
   abbrev links′ : List ℕ
   links′ = set (set links (nextPlace n) (getD links first 0)) first n
 
-  leaving-step : (l s : ℕ) → leavingFrom es l s n ≡ pick (leaves l s e) n (leavingFrom es l s (suc n))
+  leaving-step : (l s : ℕ) → leavingFrom es l s n ≡ pick (leavesOn l s e) n (leavingFrom es l s (suc n))
   leaving-step l s = ap (firstLeaving l s n) (drop-cons es n noEdge inside)
 
   -- every other place is kept
@@ -142,7 +143,7 @@ module _
 
   first′ : (l s : ℕ) → l < 32 → s < 16 → getD links′ (firstPlace l s) 0 ≡ leavingFrom es l s n
   first′ l s hl hs =
-      by-test (leaves l s e)
+      by-test (leavesOn l s e)
       (λ q.
       let k : firstPlace l s ≡ first =
       sym (first-is ∙ ap₂ firstPlace (source-of l s e q) (symbol-of l s e q)) in

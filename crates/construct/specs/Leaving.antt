@@ -1,21 +1,19 @@
 -- The edges that leave a location on a symbol, linked one to the next, so that a pair looks at no others.
 use mathlib.Core.Path.{_≡_}
-use mathlib.Core.Bool.{Bool, _&&_}
+use mathlib.Core.Bool.{_&&_}
 use mathlib.Core.List.{List, [], _∷_}
 use Prim.Native.Nat.{ℕ, suc, _+_, _*_, _≤_, _<_}
-use lib.Dec.{eqb, ltb}
+use lib.Dec.{ltb}
 use lib.ListN.{length, getD, drop}
+use Rattle.edges.specs.Leaving.{leavesOn}
 use Rattle.model.specs.Basics.{pick}
 use Rattle.model.specs.Rules.{Edge, Rule}
 use Rattle.model.specs.Runs.{noEdge}
 
-abbrev pub leaves : ℕ → ℕ → Edge → Bool
-leaves l s e = eqb (e .source) l && eqb (e .symbol) s
-
 -- the first edge that leaves l on s, of edges numbered from n on; the number past them if there is none
 abbrev pub firstLeaving : ℕ → ℕ → ℕ → List Edge → ℕ
 firstLeaving l s n [] = n
-firstLeaving l s n (e ∷ es) = pick (leaves l s e) n (firstLeaving l s (suc n) es)
+firstLeaving l s n (e ∷ es) = pick (leavesOn l s e) n (firstLeaving l s (suc n) es)
 
 -- the first from edge n on
 abbrev pub leavingFrom : List Edge → ℕ → ℕ → ℕ → ℕ
