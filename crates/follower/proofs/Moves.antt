@@ -1,8 +1,9 @@
 -- The follower's step, and its answer: a refused event leaves it, any other brings it forward.
-use mathlib.Core.Path.{_≡_, _∙_}
+use mathlib.Core.Path.{_≡_, sym, _∙_, ap}
 use mathlib.Core.Bool.{Bool, true, false}
 use mathlib.Core.List.{List, []}
 use Prim.Native.Nat.{ℕ, _+_}
+use native.Mathlib.Omega.{arith}
 use native.Mathlib.Numerals.{add-one}
 use borrow.Author.Tests.{ne-eqb}
 use Rattle.model.specs.declared.Answer.{Answer}
@@ -12,14 +13,15 @@ use Rattle.model.specs.declared.Follower.{Follower}
 use Rattle.model.specs.Basics.{Refusal, fine, _⨾_}
 use Rattle.model.specs.Words.{Event, grainOk}
 use Rattle.model.specs.Tables.{Tables, tables}
-use Rattle.model.specs.Walks.{shapeRefusal, startAt, step, verdict, followRefusal}
+use Rattle.model.specs.Walks.{inShape, shapeRefusal, startAt, step, verdict, followRefusal}
 use Rattle.model.specs.Promises.{answerOf, event, startedBy, followedBy, followed}
 use Rattle.model.proofs.Refusals.{on-pass, on-refused, both-fine}
 use Rattle.model.proofs.Answers.{number-is}
+use Rattle.shape.proofs.Shape.{shape-passes, shape-refused}
 use Rattle.walk.specs.declared.Walk.{Walk}
 use Rattle.walk.specs.Steps.{Steps}
 use Rattle.walk.proofs.Runs.{step-any, verdict-any}
-use Rattle.follower.specs.Checks.{eventChecks}
+use Rattle.follower.specs.Checks.{eventChecks, answered}
 use Rattle.follower.proofs.Checks.{checks-settled}
 
 -- the follower's step from the walk's
@@ -60,9 +62,15 @@ module _ (b : Built) (cs ns ps : List ℕ) (f : Follower) (v : Event) where
   refusing r e n q =
       rw (e, q) (leaves r (tables b cs ns ps) f v (λ z. n (number-is r 0 e ∙ z)))
 
-  pub shape-leaves : {a : Answer} → a ≡ answerOf shape 0 → (a .number ≡ 0 → ⊥) → Answers (a .number) (a .place) false f
-  shape-leaves e n =
-      refusing shape e n (on-refused shape (eventChecks b f v) (λ z. n (number-is shape 0 e ∙ z)))
+  pub shape-leaves :
+      {a : Answer} → inShape (tables b cs ns ps) ≡ false → a ≡ answered 25 0 → Answers (a .number) (a .place) false f
+  shape-leaves {a} h e =
+      let n : a .number ≡ 0 → ⊥ = λ z. omega (arith, ap (λ (x : Answer). x .number) e) in
+      let r = e ∙ shape-refused (tables b cs ns ps) h in
+      refusing shape r n (on-refused shape (eventChecks b f v) (λ z. n (number-is shape 0 r ∙ z)))
+
+  pub shape-passed : inShape (tables b cs ns ps) ≡ true → shape .number ≡ 0
+  shape-passed h = sym (number-is shape 0 (shape-passes (tables b cs ns ps) h))
 
   module _ (shaped : shape .number ≡ 0) where
     pub checks-leave :

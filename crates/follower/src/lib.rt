@@ -15,7 +15,7 @@ use model::Follower;
 use model::Moved;
 use model::Stamp;
 use model::Started;
-use shape::check_table;
+use shape::in_shape;
 use walk::Walk;
 use walk::verdict;
 use word::grain_ok;
@@ -156,9 +156,8 @@ pub fn follow_event(
     ensures { λ r. ⌜ FollowsEvent follower built (now (cells .entry)) (now (rows .entry)) (now (pool .entry))
         symbol stamp r ⌝ }
 {
-    let shape = check_table(built, cells, rows, pool);
-    if shape.number != 0 {
-        return kept(shape, follower);
+    if !in_shape(built, cells, rows, pool) {
+        return kept(answered(25, 0), follower);
     }
     let checked = check_event(follower, built, symbol, stamp);
     if checked.number != 0 {

@@ -5,35 +5,42 @@ use Rattle.model.specs.Tables.{tables}
 use Rattle.model.specs.Walks.{shapeRefusal}
 use Rattle.model.specs.Promises.{event}
 use Rattle.model.proofs.Answers.{number-is}
+use Rattle.model.proofs.Flags.{is-false, is-true}
 use Rattle.follower.specs.Checks.{eventChecks}
 use Rattle.follower.proofs.Checks.{count-below}
-use Rattle.follower.proofs.Moves.{shape-leaves, checks-leave, goes-on}
+use Rattle.follower.proofs.Moves.{shape-leaves, shape-passed, checks-leave, goes-on}
 use Rattle.follower.proofs.follow_event.Statement.{statement}
 use Rattle.follower.proofs.follow_event.Tie as tie
 
 -- the table is in shape, and the event passes its checks
 shaped :
     (c : tie.Else1)
-    → let a = c .before .before .before .before .before .before .args in
+    → let a = c .before .before .before .before .before .args in
     shapeRefusal (tables (a .built) (a .cells .now) (a .rows .now) (a .pool .now)) .number ≡ 0
-shaped c = sym (number-is _ 0 (c .before .before .check-table .ensures .answer-is)) ∙ c .if1 .left
+shaped c =
+    let a = c .before .before .before .before .before .args in
+    shape-passed _ _ _ _ (a .follower) (event (a .symbol) (a .stamp)) (is-true (c .before .in-shape .ensures) (c .if1 .left))
 
 passed :
     (c : tie.Else2)
-    → let a = c .before .before .before .before .before .before .before .before .before .args in
+    → let a = c .before .before .before .before .before .before .before .before .args in
     eventChecks (a .built) (a .follower) (event (a .symbol) (a .stamp)) .number ≡ 0
 passed c = sym (number-is _ 0 (c .before .before .check-event .ensures)) ∙ c .if2 .left
 
-check-table-requires : tie.Need-check-table-requires
-check-table-requires c κs = search needs
+in-shape-requires : tie.Need-in-shape-requires
+in-shape-requires c κs = search needs
+
+answered-requires : tie.Need-answered-requires
+answered-requires c κs = search needs
 
 kept-requires : tie.Need-kept-requires
 kept-requires c κs = search needs
 
 returns : tie.Need-returns
 returns c =
-    let a = c .before .before .before .check-table .ensures .answer-is in
-    record { answer-is = c .kept .ensures ∙ shape-leaves _ _ _ _ _ _ a (c .before .if1 .taken) }
+    let k = c .before .before in
+    let out = is-false (k .before .in-shape .ensures) (k .if1 .taken) in
+    record { answer-is = c .kept .ensures ∙ shape-leaves _ _ _ _ _ _ out (c .before .answered .ensures) }
 
 check-event-requires : tie.Need-check-event-requires
 check-event-requires c κs = search needs
@@ -52,7 +59,7 @@ returns-2 c =
 
 moved-requires : tie.Need-moved-requires
 moved-requires c κs =
-    let a = c .before .before .before .before .before .before .before .before .before .args in
+    let a = c .before .before .before .before .before .before .before .before .args in
     count-below (a .built) (a .follower) (event (a .symbol) (a .stamp)) (passed c)
 
 verdict-requires : tie.Need-verdict-requires
@@ -71,7 +78,8 @@ pub follow-event-spec : {M : Type 1} → statement M
 follow-event-spec =
     tie.close
     (tie.spec
-    check-table-requires
+    in-shape-requires
+    answered-requires
     kept-requires
     returns
     check-event-requires
