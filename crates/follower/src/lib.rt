@@ -4,7 +4,7 @@ ghost use mathlib.Core.List.{[]};
 ghost use Prim.Native.Nat.{_≤_, _<_};
 ghost use Rattle.model.specs.Tables.{tables};
 ghost use Rattle.model.specs.Walks.{startAt, step, strayed};
-ghost use Rattle.model.specs.Promises.{answerOf, event, StartsFollower, FollowsEvent, FollowsInPlace};
+ghost use Rattle.model.specs.Promises.{answerOf, event, followedBy, StartsFollower, FollowsEvent, FollowsInPlace};
 ghost use Rattle.follower.specs.Checks.{eventChecks, answered, keptBy};
 use edges::wide16;
 use edges::wide32;
@@ -143,7 +143,34 @@ pub(crate) fn kept(refused: Answer, follower: Follower) -> Followed
     }
 }
 
-// 25, then the event's own checks, then the step; the verdict is that of the new row.
+// The event's own checks, then the step; the verdict is that of the new row.
+pub(crate) fn take_event(
+    follower: Follower,
+    built: Built,
+    cells: &[u32],
+    rows: &[u32],
+    pool: &[u32],
+    symbol: u16,
+    stamp: Stamp,
+) -> Followed
+    ensures { λ r. ⌜ r ≡ followedBy (eventChecks built follower (event symbol stamp))
+        (tables built (now (cells .entry)) (now (rows .entry)) (now (pool .entry))) follower (event symbol stamp) ⌝ }
+{
+    let checked = check_event(follower, built, symbol, stamp);
+    if checked.number != 0 {
+        return kept(checked, follower);
+    }
+    let next = moved(follower, built, cells, symbol, stamp);
+    let yes = verdict(built, rows, pool, next.row);
+    Followed {
+        number: 0,
+        place: 0,
+        yes,
+        follower: next,
+    }
+}
+
+// 25, then the event.
 pub fn follow_event(
     follower: Follower,
     built: Built,
@@ -159,18 +186,7 @@ pub fn follow_event(
     if !in_shape(built, cells, rows, pool) {
         return kept(answered(25, 0), follower);
     }
-    let checked = check_event(follower, built, symbol, stamp);
-    if checked.number != 0 {
-        return kept(checked, follower);
-    }
-    let next = moved(follower, built, cells, symbol, stamp);
-    let yes = verdict(built, rows, pool, next.row);
-    Followed {
-        number: 0,
-        place: 0,
-        yes,
-        follower: next,
-    }
+    take_event(follower, built, cells, rows, pool, symbol, stamp)
 }
 
 // The same on the head's own record, brought forward where it is kept.
