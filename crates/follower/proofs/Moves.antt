@@ -65,12 +65,13 @@ module _ (b : Built) (cs ns ps : List ℕ) (f : Follower) (v : Event) where
       brings checks table f v next said (checks-settled b f v passed) (n ∙ step-any b cs ns ps f v)
       (y ∙ verdict-any b cs ns ps (next .row))
 
-  pub shape-leaves : {a : Answer} → inShape table ≡ false → a ≡ answered 25 0 → keptBy a f ≡ followed f table v
+  pub shape-leaves : inShape table ≡ false → keptBy (answered 25 0) f ≡ followed f table v
   unfolding followed followRefusal
-  shape-leaves h e =
-      let r : shapeRefusal table .number ≡ 25 = sym (number-is (shapeRefusal table) 0 (shape-refused table h)) in
+  shape-leaves h =
+      let r = number-is (shapeRefusal table) 0 (shape-refused table h) in
       let n : shapeRefusal table .number ≡ 0 → ⊥ = λ z. omega arith in
-      rw (e ∙ shape-refused table h, on-refused (shapeRefusal table) checks n) (leaves (shapeRefusal table) table f v n)
+      ap (λ (a : Answer). keptBy a f) (shape-refused table h)
+      ∙ rw (on-refused (shapeRefusal table) checks n) (leaves (shapeRefusal table) table f v n)
 
   pub shape-passed : inShape table ≡ true → followedBy checks table f v ≡ followed f table v
   unfolding followed followRefusal

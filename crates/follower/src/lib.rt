@@ -143,8 +143,15 @@ pub(crate) fn kept(refused: Answer, follower: Follower) -> Followed
     }
 }
 
+// 25: the follower as it was.
+pub fn out_of_shape(follower: Follower) -> Followed
+    ensures { λ r. ⌜ r ≡ keptBy (answered 25 0) follower ⌝ }
+{
+    kept(answered(25, 0), follower)
+}
+
 // The event's own checks, then the step; the verdict is that of the new row.
-pub(crate) fn take_event(
+pub fn take_event(
     follower: Follower,
     built: Built,
     cells: &[u32],
@@ -184,7 +191,7 @@ pub fn follow_event(
         symbol stamp r ⌝ }
 {
     if !in_shape(built, cells, rows, pool) {
-        return kept(answered(25, 0), follower);
+        return out_of_shape(follower);
     }
     take_event(follower, built, cells, rows, pool, symbol, stamp)
 }

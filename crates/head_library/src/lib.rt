@@ -141,6 +141,7 @@ pub extern "C" fn alderskein_start_follower(grain: u32) -> Started
     follower::start_follower(grain)
 }
 
+// The two parts of `follow_event`: called from here, both read the lent records where they are, with no copy between.
 #[no_mangle]
 pub extern "C" fn alderskein_follow_event(
     follower: Follower,
@@ -153,7 +154,10 @@ pub extern "C" fn alderskein_follow_event(
 ) -> Followed
     ensures { λ r. ⌜ FollowsEvent follower built (now (cells .entry)) (now (rows .entry)) (now (pool .entry)) symbol stamp r ⌝ }
 {
-    follower::follow_event(follower, built, cells, rows, pool, symbol, stamp)
+    if !shape::in_shape(built, cells, rows, pool) {
+        return follower::out_of_shape(follower);
+    }
+    follower::take_event(follower, built, cells, rows, pool, symbol, stamp)
 }
 
 // The head's own record, brought forward where it is kept.

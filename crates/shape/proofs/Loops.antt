@@ -103,10 +103,10 @@ module _ {m : ℕ} {xs : List ℕ} {below : Bool} {i : ℕ} (inv : CodesBelow m 
 even-place : (xs : List ℕ) (k : ℕ) → k % 2 ≡ 0 → resetsOk k (drop k xs) ≡ resetsOk (k + 1) (drop (k + 1) xs)
 even-place xs k e =
     elim (two k (length xs)) [
-      less h ↦
-        ap (resetsOk k) (from-place xs k h)
-        ∙ rw (or-right (eqb (getD xs k 0 % 2) 0) (eqb (k % 2) 0) (eq-eqb (k % 2) 0 e), add-one k)
-    | least h ↦ rw (drop-of-length-le xs h, drop-of-length-le xs {i = k + 1} (omega (arith, h)))
+      | less h ↦
+          ap (resetsOk k) (from-place xs k h)
+          ∙ rw (or-right (eqb (getD xs k 0 % 2) 0) (eqb (k % 2) 0) (eq-eqb (k % 2) 0 e), add-one k)
+      | least h ↦ rw (drop-of-length-le xs h, drop-of-length-le xs {i = k + 1} (omega (arith, h)))
     ]
 
 pub record ResetsOk (xs : List ℕ) (none : Bool) (at : ℕ) : Type 0 where
@@ -162,8 +162,8 @@ parity c at =
 row-below : (rows x : ℕ) → ltb (x / 2) rows ≡ ltb x (2 * rows)
 row-below rows x =
     elim (two x (2 * rows)) [
-      less h ↦ lt-ltb (x / 2) rows (omega (arith, h)) ∙ sym (lt-ltb x (2 * rows) h)
-    | least h ↦ le-ltb (x / 2) rows (omega (arith, h)) ∙ sym (le-ltb x (2 * rows) h)
+      | less h ↦ lt-ltb (x / 2) rows (omega (arith, h)) ∙ sym (lt-ltb x (2 * rows) h)
+      | least h ↦ le-ltb (x / 2) rows (omega (arith, h)) ∙ sym (le-ltb x (2 * rows) h)
     ]
 
 and-four : (a b c d : Bool) → ((a && b) && (c && d)) ≡ ((a && c) && (b && d))

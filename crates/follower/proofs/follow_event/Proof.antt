@@ -9,17 +9,14 @@ use Rattle.follower.proofs.follow_event.Tie as tie
 in-shape-requires : tie.Need-in-shape-requires
 in-shape-requires c κs = search needs
 
-answered-requires : tie.Need-answered-requires
-answered-requires c κs = search needs
-
-kept-requires : tie.Need-kept-requires
-kept-requires c κs = search needs
+out-of-shape-requires : tie.Need-out-of-shape-requires
+out-of-shape-requires c κs = search needs
 
 returns : tie.Need-returns
 returns c =
-    let k = c .before .before in
+    let k = c .before in
     let out = is-false (k .before .in-shape .ensures) (k .if1 .taken) in
-    record { answer-is = c .kept .ensures ∙ shape-leaves _ _ _ _ _ _ out (c .before .answered .ensures) }
+    record { answer-is = c .out-of-shape .ensures ∙ shape-leaves _ _ _ _ _ _ out }
 
 take-event-requires : tie.Need-take-event-requires
 take-event-requires c κs = search needs
@@ -33,4 +30,4 @@ returns-2 c =
 pub follow-event-spec : {M : Type 1} → statement M
 follow-event-spec =
     tie.close
-    (tie.spec in-shape-requires answered-requires kept-requires returns take-event-requires returns-2)
+    (tie.spec in-shape-requires out-of-shape-requires returns take-event-requires returns-2)
