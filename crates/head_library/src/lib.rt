@@ -71,6 +71,7 @@ pub extern "C" fn alderskein_build_table(
     construct::build_table(head, edges, scratch, cells, rows, pool)
 }
 
+// Field by field, since an answer that is handed on whole is copied once more.
 #[no_mangle]
 pub extern "C" fn alderskein_check_table(
     built: Built,
@@ -80,7 +81,12 @@ pub extern "C" fn alderskein_check_table(
 ) -> Answer
     ensures { λ r. ⌜ ChecksTable built (now (cells .entry)) (now (rows .entry)) (now (pool .entry)) r ⌝ }
 {
-    shape::check_table(built, cells, rows, pool)
+    let answer = shape::check_table(built, cells, rows, pool);
+    Answer {
+        number: answer.number,
+        place: answer.place,
+        value: answer.value,
+    }
 }
 
 #[no_mangle]
