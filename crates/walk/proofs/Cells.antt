@@ -20,10 +20,6 @@ pub lines-most : (n s : ℕ) → n < 2 ^ 32 → s < 2 ^ 32 → n * s ≤ 4294967
 lines-most n s p q =
     mul-le-mul {n₁ = n} {m₁ = s} {n₂ = 4294967295} {m₂ = 4294967295} (omega arith) (omega arith)
 
--- where a line below 2 ^ 30 begins
-pub low-line : (n t : ℕ) → n ≤ 1073741823 → t < 2 ^ 32 → n * (2 * t + 2) ≤ 1073741823 * 8589934592
-low-line n t p q = mul-le-mul {n₁ = n} {m₁ = 2 * t + 2} {m₂ = 8589934592} p (omega arith)
-
 module _ {b : Built} {row symbol t n s v : ℕ} (r : Read b row symbol t n s v) where
   place-is : (i : ℕ) → (n * s + v) * (2 * t + 2) + i ≡ cellPlace b row symbol i
   place-is i = rw (r .top-is, r .row-is, r .symbols-are, r .symbol-is)

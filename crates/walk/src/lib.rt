@@ -42,8 +42,7 @@ pub(crate) fn cell_at(built: Built, cells: &[u32], row: u32, symbol: u16, interv
 {
     let width = 2 * wide32(built.top) + 2;
     let line = wide32(row) * wide32(built.symbols) + wide16(symbol);
-    // The place of a cell in a lower line fits, so that the division is left out for it.
-    if 1073741823 < line && cells.len() / width < line {
+    if cells.len() / width < line {
         return 0;
     }
     entry_at(cells, line * width + interval.0 as usize)

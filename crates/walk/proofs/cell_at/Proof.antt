@@ -1,10 +1,8 @@
 -- `walk::cell_at` meets its contract: a line past the table's end holds zeros.
 use mathlib.Core.Path.{_∙_}
-use mathlib.Core.Logic.{⊎-elim}
 use native.Mathlib.Omega.{arith}
 use borrow.Author.Needs.{needs}
-use borrow.Author.Tests.{ltb-true, ltb-false}
-use Rattle.walk.proofs.Cells.{Read, lines-most, low-line, past-end, in-table, entry-is}
+use Rattle.walk.proofs.Cells.{Read, lines-most, past-end, in-table, entry-is}
 use Rattle.walk.proofs.cell_at.Statement.{statement}
 use Rattle.walk.proofs.cell_at.Tie as tie
 
@@ -47,30 +45,19 @@ add-line : tie.Need-add-line
 add-line c =
     omega (arith, lines-most _ _ (c .before .before .wide322 .ensures .1) (c .before .wide323 .ensures .1))
 
-div-if2 : tie.Need-div-if2
-div-if2 c = search needs
+div-if1 : tie.Need-div-if1
+div-if1 c = search needs
 
 returns : tie.Need-returns
 returns c =
-    let k = c .before .before in
-    let a = k .before .before .before .before .before .args in
-    past-end (read-at k) (a .cells .now) (a .interval .0) (ltb-true _ _ (c .if2 .taken))
+    let a = c .before .before .before .before .before .before .args in
+    past-end (read-at (c .before)) (a .cells .now) (a .interval .0) (c .if1 .taken)
 
 mul-entry-at : tie.Need-mul-entry-at
-mul-entry-at c =
-    let k = c .before in
-    let top = k .before .before .before .wide32 .ensures .1 in
-    ⊎-elim (λ w. omega (arith, in-table (read-at k) _ (ltb-false _ _ (w .1 .left))))
-    (λ w. omega (arith, low-line _ _ (w .left) top))
-    (c .if1 .came)
+mul-entry-at c = omega (arith, in-table (read-at (c .before)) _ (c .if1 .left))
 
 add-entry-at : tie.Need-add-entry-at
-add-entry-at c =
-    let k = c .before in
-    let top = k .before .before .before .wide32 .ensures .1 in
-    ⊎-elim (λ w. omega (arith, in-table (read-at k) _ (ltb-false _ _ (w .1 .left))))
-    (λ w. omega (arith, low-line _ _ (w .left) top))
-    (c .if1 .came)
+add-entry-at c = omega (arith, in-table (read-at (c .before)) _ (c .if1 .left))
 
 entry-at-requires : tie.Need-entry-at-requires
 entry-at-requires c κs = search needs
@@ -92,7 +79,7 @@ cell-at-spec =
     mul-line
     wide16-requires
     add-line
-    div-if2
+    div-if1
     returns
     mul-entry-at
     add-entry-at
