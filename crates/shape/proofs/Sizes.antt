@@ -1,16 +1,17 @@
 -- Sizes in range, and that N and the number of cells then fit.
-use mathlib.Core.Path.{_≡_, sym, _∙_, ap}
+use mathlib.Core.Path.{_≡_, _∙_, ap₂}
 use mathlib.Core.Bool.{true}
 use Prim.Native.Nat.{ℕ, _+_, _*_, _^_, _≤_, _<_}
 use native.Mathlib.Omega.{arith}
-use native.Mathlib.Nat.{le-trans, pow-zero, pow-suc, one-mul, mul-assoc, mul-le-mul, pow-le-pow-left, pow-le-pow-right}
+use native.Mathlib.Nat.{le-trans, pow-le-pow-left, pow-le-pow-right, mul-le-mul}
 use lib.Dec.{leb}
-use borrow.Author.Tests.{leb-true}
+use borrow.Author.Tests.{le-leb, leb-true}
 use Rattle.model.specs.declared.Built.{Built}
 use Rattle.model.specs.Rules.{sizesOk}
-use Rattle.model.specs.Walks.{locationWeight, cellNeed}
+use Rattle.model.specs.Walks.{locationWeight, builtPairs, cellNeed}
 use Rattle.model.proofs.Logic.{and-left, and-right}
 use Rattle.model.proofs.Valid.{sizes-of}
+use Rattle.edges.specs.Powers.{smallPower}
 use Rattle.shape.specs.Ranges.{sizesInRange, InRange}
 
 pub in-range : (b : Built) → sizesInRange b ≡ true → InRange b
@@ -20,33 +21,9 @@ in-range b h =
     record {
       locations-most = s .locations-most;
       symbols-most = s .symbols-most;
-      clocks-least = s .clocks-least;
       clocks-most = s .clocks-most;
       top-most = leb-true (b .top) 30 (and-right sizes (leb (b .top) 30) h);
     }
-
--- the powers up to the fourth, as products
-pub power-1 : (b : ℕ) → b ≡ b ^ 1
-power-1 b = sym (pow-suc b 0 ∙ (ap (λ (n : ℕ). n * b) (pow-zero b) ∙ one-mul b))
-
-pub power-2 : (b : ℕ) → b * b ≡ b ^ 2
-power-2 b = ap (λ (n : ℕ). n * b) (power-1 b) ∙ sym (pow-suc b 1)
-
-pub power-3 : (b : ℕ) → b * b * b ≡ b ^ 3
-power-3 b = ap (λ (n : ℕ). n * b) (power-2 b) ∙ sym (pow-suc b 2)
-
-pub power-4 : (b : ℕ) → b * b * (b * b) ≡ b ^ 4
-power-4 b = sym (mul-assoc (b * b) b b) ∙ (ap (λ (n : ℕ). n * b) (power-3 b) ∙ sym (pow-suc b 3))
-
-module _ (b : ℕ) (h : b ≤ 32) where
-  pub square-most : b * b ≤ 1024
-  square-most = mul-le-mul h h
-
-  pub cube-most : b * b * b ≤ 32768
-  cube-most = mul-le-mul square-most h
-
-  pub fourth-most : b * b * (b * b) ≤ 1048576
-  fourth-most = mul-le-mul square-most square-most
 
 module _ (b : Built) (i : InRange b) where
   weight-most : locationWeight b ≤ 32 ^ 4
@@ -55,8 +32,20 @@ module _ (b : Built) (i : InRange b) where
       le-trans (pow-le-pow-left base (b .clocks))
       (pow-le-pow-right {n = 32} (omega arith) {i = b .clocks} {j = 4} (omega arith))
 
-  pub pairs-fit : b .locations * locationWeight b < 2 ^ 32
-  pairs-fit = omega (arith, mul-le-mul (i .locations-most) weight-most)
+  module _
+      (l t k p : ℕ) (el : l ≡ b .locations) (et : t ≡ b .top) (ek : k ≡ b .clocks) (ep : p ≡ smallPower (t + 2) k) where
+    weight-is : p ≡ locationWeight b
+    weight-is =
+        ep ∙ rw (et, ek, le-leb (b .top + 2) 65535 (omega arith), le-leb (b .clocks) 4 (omega arith))
+
+    pub pairs-are : l * p ≡ builtPairs b
+    pairs-are = ap₂ _*_ el weight-is
+
+    pub pairs-fit : l * p < 2 ^ 32
+    pairs-fit =
+        let m : p ≤ 32 ^ 4 = rw weight-is weight-most in
+        let n : l ≤ 32 = rw el (i .locations-most) in
+        omega (arith, mul-le-mul n m)
 
   module _ (n s t : ℕ) (en : n ≡ b .rows) (es : s ≡ b .symbols) (et : t ≡ b .top) where
     pub row-cells-most : s * (2 * t + 2) ≤ 992

@@ -14,7 +14,6 @@ sizesInRange b = sizesOk (b .locations) (b .symbols) (b .clocks) && leb (b .top)
 pub record InRange (b : Built) : Type 0 where
   pub locations-most : b .locations ≤ 32
   pub symbols-most : b .symbols ≤ 16
-  pub clocks-least : 1 ≤ b .clocks
   pub clocks-most : b .clocks ≤ 4
   pub top-most : b .top ≤ 30
 

@@ -8,6 +8,7 @@ ghost use Rattle.model.specs.Tables.{tables};
 ghost use Rattle.model.specs.Walks.{builtPairs, cellNeed, longEnough, rowsChain, cellsOk, inShape};
 ghost use Rattle.model.specs.Promises.{ChecksTable};
 ghost use Rattle.shape.specs.Ranges.{InRange, sizesInRange, countsOk, resetsOk};
+use edges::power;
 use edges::wide32;
 use model::Answer;
 use model::Built;
@@ -18,26 +19,13 @@ pub(crate) fn within(least: u32, most: u32, x: u32) -> bool
     least <= x && x <= most
 }
 
-// With no loop: it would have four turns at most.
-pub(crate) fn power(base: u32, exponent: u32) -> u32
-    requires { ⌜ (base ≤ 32) × (1 ≤ exponent) × (exponent ≤ 4) ⌝ }
-    ensures { λ r. ⌜ r ≡ base ^ exponent ⌝ }
-{
-    let square = base * base;
-    match exponent {
-        1 => base,
-        2 => square,
-        3 => square * base,
-        _ => square * square,
-    }
-}
-
 // N, the number of pairs of a location and bases.
 pub(crate) fn pair_count(built: Built) -> u32
     requires { ⌜ InRange built ⌝ }
     ensures { λ r. ⌜ r ≡ builtPairs built ⌝ }
 {
-    built.locations * power(built.top + 2, built.clocks)
+    let pairs = wide32(built.locations) * power(wide32(built.top) + 2, wide32(built.clocks));
+    pairs as u32
 }
 
 // L, S and K in their ranges, cm at most 30.
