@@ -224,21 +224,25 @@ mod c {
 // another one.
 
 /// Checks a head record and an edge table: 20, 21.
+#[inline]
 pub fn check_rule(head: Head, edges: &[u16]) -> Answer {
     unsafe { c::alderskein_check_rule(head, edges.as_ptr(), edges.len()) }
 }
 
 /// Reads a rule file: 20, then 1 to 8.
+#[inline]
 pub fn read_rule(file: &[u8], edges: &mut [u16]) -> Reading {
     unsafe { c::alderskein_read_rule(file.as_ptr(), file.len(), edges.as_mut_ptr(), edges.len()) }
 }
 
 /// Writes a rule as a file: 20, 21, 27.
+#[inline]
 pub fn write_rule(head: Head, edges: &[u16], out: &mut [u8]) -> Answer {
     unsafe { c::alderskein_write_rule(head, edges.as_ptr(), edges.len(), out.as_mut_ptr(), out.len()) }
 }
 
 /// Checks a word of at most `most` events over `symbol_count` symbols: 30 to 33.
+#[inline]
 pub fn check_word(symbol_count: u32, grain: u32, most: u32, symbols: &[u16], stamps: &[u32]) -> Answer {
     let (y, t) = (symbols, stamps);
     unsafe { c::alderskein_check_word(symbol_count, grain, most, y.as_ptr(), y.len(), t.as_ptr(), t.len()) }
@@ -246,6 +250,7 @@ pub fn check_word(symbol_count: u32, grain: u32, most: u32, symbols: &[u16], sta
 
 /// Builds the table of a rule: 20, 21, 22, then 23 and 24.
 #[rustfmt::skip]
+#[inline]
 pub fn build_table(
     head: Head,
     edges: &[u16],
@@ -264,6 +269,7 @@ pub fn build_table(
 
 /// Checks the shape of a built record and its tables: 25.
 #[rustfmt::skip]
+#[inline]
 pub fn check_table(built: Built, cells: &[u32], rows: &[u32], pool: &[u32]) -> Answer {
     unsafe {
         c::alderskein_check_table(
@@ -274,6 +280,7 @@ pub fn check_table(built: Built, cells: &[u32], rows: &[u32], pool: &[u32]) -> A
 
 /// Runs a word over a table: 25, 30 to 33.
 #[rustfmt::skip]
+#[inline]
 pub fn run_table(
     built: Built,
     cells: &[u32],
@@ -293,6 +300,7 @@ pub fn run_table(
 
 /// Runs a word over the rule itself, exactly: 20, 21, 30 to 33, then 26.
 #[rustfmt::skip]
+#[inline]
 pub fn run_exact(
     head: Head,
     edges: &[u16],
@@ -311,6 +319,7 @@ pub fn run_exact(
 
 /// Looks for the least accepting run of a short word: 20, 21, 30 to 33.
 #[rustfmt::skip]
+#[inline]
 pub fn run_branches(
     head: Head,
     edges: &[u16],
@@ -328,12 +337,14 @@ pub fn run_branches(
 }
 
 /// A follower before the first event: 30.
+#[inline]
 pub fn start_follower(grain: u32) -> Started {
     unsafe { c::alderskein_start_follower(grain) }
 }
 
 /// Takes one event: 25, 30, 34, 31, 32, 33.
 #[rustfmt::skip]
+#[inline]
 pub fn follow_event(
     follower: Follower,
     built: Built,
@@ -353,6 +364,7 @@ pub fn follow_event(
 
 /// Takes one event, the follower brought forward where it is kept: 25, 30, 34, 31, 32, 33.
 #[rustfmt::skip]
+#[inline]
 pub fn follow_in_place(
     follower: &mut Follower,
     built: Built,
@@ -372,6 +384,7 @@ pub fn follow_in_place(
 
 /// Reader, builder and table runner in a row: 20, 1 to 8, 22 to 24, 30 to 33.
 #[rustfmt::skip]
+#[inline]
 pub fn decide(
     file: &[u8],
     edges: &mut [u16],

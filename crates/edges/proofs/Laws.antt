@@ -1,18 +1,17 @@
 -- Powers as a loop makes them, that they fit, and the largest constant as a loop over the table finds it.
-use mathlib.Core.Path.{_≡_, refl, sym, _∙_, ap}
-use mathlib.Core.Bool.{Bool, true, false}
-use mathlib.Core.List.{List, [], _∷_}
-use Prim.Native.Nat.{ℕ, zero, suc, _+_, _-_, _*_, _^_, _≤_, _<_}
+use mathlib.Core.Path.{_≡_, sym, _∙_, ap}
+use mathlib.Core.List.{List}
+use Prim.Native.Nat.{ℕ, suc, _+_, _-_, _*_, _^_, _≤_, _<_}
 use native.Mathlib.Omega.{arith}
-use native.Mathlib.Nat.{pow-zero, pow-suc, pow-le-pow-left, pow-le-pow-right, le-trans}
+use native.Mathlib.Nat.{pow-suc, pow-le-pow-left, pow-le-pow-right, le-trans}
 use native.Mathlib.Numerals.{add-one}
 use lib.Dec.{leb}
-use lib.ListN.{length, getD, drop}
-use lib.Seq.{getD-drop, drop-drop}
+use lib.ListN.{getD, drop}
+use lib.Seq.{getD-drop}
 use borrow.Author.Tests.{le-leb, lt-leb, leb-true}
 use Rattle.model.specs.declared.Head.{Head}
-use Rattle.model.specs.Basics.{pick, larger}
-use Rattle.model.specs.Rules.{Atom, Edge, Rule, largestConstant, largestOf, cm}
+use Rattle.model.specs.Basics.{larger}
+use Rattle.model.specs.Rules.{largestConstant, largestOf, cm}
 use Rattle.model.specs.Layout.{edgeFields, edgeWidth, atomsIn, edgeIn, edgesIn, ruleIn}
 use Rattle.edges.specs.Powers.{smallPower}
 use Rattle.model.proofs.Logic.{by-test, larger-left, larger-right, larger-most, larger-three, larger-none}

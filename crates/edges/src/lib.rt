@@ -1,9 +1,9 @@
 // The edge table by place, and what the sizes of a rule give: their ranges, cm, powers and N.
 // Total: a place past the end of the table holds 0, as in the definitions.
 ghost use mathlib.Core.Path.{_≡_};
-ghost use Prim.Native.Nat.{ℕ, _+_, _*_, _^_, _≤_, _<_};
+ghost use Prim.Native.Nat.{_+_, _*_, _^_, _≤_, _<_};
 ghost use lib.Dec.{ltb};
-ghost use lib.ListN.{length, getD, drop};
+ghost use lib.ListN.{getD, drop};
 ghost use Rattle.model.specs.Basics.{larger, within};
 ghost use Rattle.model.specs.Rules.{cm, largestConstant, sizesOk};
 ghost use Rattle.model.specs.Layout.{edgeIn, edgeWidth, ruleIn};

@@ -1,6 +1,6 @@
 // The worked rule file and a file for each refusal from 1 to 8, read: number and place of each. Then the worked file
 // written again: its length, and 1 if its bytes are the same.
-ghost use Prim.Native.Nat.{ℕ, _+_, _*_, _≤_};
+ghost use Prim.Native.Nat.{_+_, _*_};
 ghost use lib.ListN.{length};
 use libc::STDOUT_FILENO;
 use reader::read_rule;

@@ -1,25 +1,27 @@
 -- The follower's step, and its answer: a refused event leaves it, any other brings it forward.
-use mathlib.Core.Path.{_≡_, _∙_}
+use mathlib.Core.Path.{_≡_, sym, _∙_, ap}
 use mathlib.Core.Bool.{Bool, true, false}
 use mathlib.Core.List.{List, []}
 use Prim.Native.Nat.{ℕ, _+_}
+use native.Mathlib.Omega.{arith}
 use native.Mathlib.Numerals.{add-one}
 use borrow.Author.Tests.{ne-eqb}
 use Rattle.model.specs.declared.Answer.{Answer}
 use Rattle.model.specs.declared.Stamp.{Stamp}
 use Rattle.model.specs.declared.Built.{Built}
 use Rattle.model.specs.declared.Follower.{Follower}
-use Rattle.model.specs.Basics.{Refusal, fine, _⨾_}
+use Rattle.model.specs.Basics.{Refusal, fine}
 use Rattle.model.specs.Words.{Event, grainOk}
 use Rattle.model.specs.Tables.{Tables, tables}
-use Rattle.model.specs.Walks.{shapeRefusal, startAt, step, verdict, followRefusal}
+use Rattle.model.specs.Walks.{inShape, shapeRefusal, startAt, step, verdict, followRefusal}
 use Rattle.model.specs.Promises.{answerOf, event, startedBy, followedBy, followed}
-use Rattle.model.proofs.Refusals.{on-pass, on-refused, both-fine}
+use Rattle.model.proofs.Refusals.{on-pass, on-refused}
 use Rattle.model.proofs.Answers.{number-is}
+use Rattle.shape.proofs.Shape.{shape-passes, shape-refused}
 use Rattle.walk.specs.declared.Walk.{Walk}
 use Rattle.walk.specs.Steps.{Steps}
 use Rattle.walk.proofs.Runs.{step-any, verdict-any}
-use Rattle.follower.specs.Checks.{eventChecks}
+use Rattle.follower.specs.Checks.{eventChecks, answered, keptBy}
 use Rattle.follower.proofs.Checks.{checks-settled}
 
 -- the follower's step from the walk's
@@ -45,40 +47,37 @@ module _ (r : Refusal) (t : Tables) (f : Follower) (v : Event) where
 
 -- 25, then the event's own checks, then the step and the verdict
 module _ (b : Built) (cs ns ps : List ℕ) (f : Follower) (v : Event) where
-  abbrev shape : Refusal
-  shape = shapeRefusal (tables b cs ns ps)
+  abbrev table : Tables
+  table = tables b cs ns ps
 
-  abbrev Answers : ℕ → ℕ → Bool → Follower → Type 0
-  Answers n p said g =
-      record { number = n; place = p; yes = said; follower = g } ≡ followed f (tables b cs ns ps) v
+  abbrev checks : Refusal
+  checks = eventChecks b f v
 
-  -- an answer's refusal is the event's
-  refusing :
-      {a : Answer} (r : Refusal) → a ≡ answerOf r 0 → (a .number ≡ 0 → ⊥) → (shape ⨾ eventChecks b f v) ≡ r
-      → Answers (a .number) (a .place) false f
+  pub checks-leave :
+      {a : Answer} → a ≡ answerOf checks 0 → (a .number ≡ 0 → ⊥) → keptBy a f ≡ followedBy checks table f v
+  checks-leave e n = rw e (leaves checks table f v (λ z. n (number-is checks 0 e ∙ z)))
+
+  pub goes-on :
+      {next : Follower} {said : Bool} → checks .number ≡ 0 → next ≡ step (tables b cs [] []) f v
+      → said ≡ verdict (tables b [] ns ps) (next .row)
+      → record { number = 0; place = 0; yes = said; follower = next } ≡ followedBy checks table f v
+  goes-on {next} {said} passed n y =
+      brings checks table f v next said (checks-settled b f v passed) (n ∙ step-any b cs ns ps f v)
+      (y ∙ verdict-any b cs ns ps (next .row))
+
+  pub shape-leaves : inShape table ≡ false → keptBy (answered 25 0) f ≡ followed f table v
   unfolding followed followRefusal
-  refusing r e n q =
-      rw (e, q) (leaves r (tables b cs ns ps) f v (λ z. n (number-is r 0 e ∙ z)))
+  shape-leaves h =
+      let r = number-is (shapeRefusal table) 0 (shape-refused table h) in
+      let n : shapeRefusal table .number ≡ 0 → ⊥ = λ z. omega arith in
+      ap (λ (a : Answer). keptBy a f) (shape-refused table h)
+      ∙ rw (on-refused (shapeRefusal table) checks n) (leaves (shapeRefusal table) table f v n)
 
-  pub shape-leaves : {a : Answer} → a ≡ answerOf shape 0 → (a .number ≡ 0 → ⊥) → Answers (a .number) (a .place) false f
-  shape-leaves e n =
-      refusing shape e n (on-refused shape (eventChecks b f v) (λ z. n (number-is shape 0 e ∙ z)))
-
-  module _ (shaped : shape .number ≡ 0) where
-    pub checks-leave :
-        {a : Answer} → a ≡ answerOf (eventChecks b f v) 0 → (a .number ≡ 0 → ⊥) → Answers (a .number) (a .place) false f
-    checks-leave e n = refusing (eventChecks b f v) e n (on-pass shape (eventChecks b f v) shaped)
-
-    pub goes-on :
-        {next : Follower} {said : Bool} → eventChecks b f v .number ≡ 0 → next ≡ step (tables b cs [] []) f v
-        → said ≡ verdict (tables b [] ns ps) (next .row)
-        → Answers 0 0 said next
-    unfolding followed followRefusal
-    goes-on {next} {said} passed n y =
-        brings (shape ⨾ eventChecks b f v) (tables b cs ns ps) f v next said
-        (both-fine shape (eventChecks b f v) shaped (checks-settled b f v passed))
-        (n ∙ step-any b cs ns ps f v)
-        (y ∙ verdict-any b cs ns ps (next .row))
+  pub shape-passed : inShape table ≡ true → followedBy checks table f v ≡ followed f table v
+  unfolding followed followRefusal
+  shape-passed h =
+      let n = sym (number-is (shapeRefusal table) 0 (shape-passes table h)) in
+      rw (on-pass (shapeRefusal table) checks n)
 
 -- start: D if it is in range, else 0
 pub begins :

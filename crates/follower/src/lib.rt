@@ -4,7 +4,7 @@ ghost use mathlib.Core.List.{[]};
 ghost use Prim.Native.Nat.{_≤_, _<_};
 ghost use Rattle.model.specs.Tables.{tables};
 ghost use Rattle.model.specs.Walks.{startAt, step, strayed};
-ghost use Rattle.model.specs.Promises.{answerOf, event, StartsFollower, FollowsEvent, FollowsInPlace};
+ghost use Rattle.model.specs.Promises.{answerOf, event, followedBy, StartsFollower, FollowsEvent, FollowsInPlace};
 ghost use Rattle.follower.specs.Checks.{eventChecks, answered, keptBy};
 use edges::wide16;
 use edges::wide32;
@@ -15,7 +15,7 @@ use model::Follower;
 use model::Moved;
 use model::Stamp;
 use model::Started;
-use shape::check_table;
+use shape::in_shape;
 use walk::Walk;
 use walk::verdict;
 use word::grain_ok;
@@ -143,8 +143,15 @@ pub(crate) fn kept(refused: Answer, follower: Follower) -> Followed
     }
 }
 
-// 25, then the event's own checks, then the step; the verdict is that of the new row.
-pub fn follow_event(
+// 25: the follower as it was.
+pub fn out_of_shape(follower: Follower) -> Followed
+    ensures { λ r. ⌜ r ≡ keptBy (answered 25 0) follower ⌝ }
+{
+    kept(answered(25, 0), follower)
+}
+
+// The event's own checks, then the step; the verdict is that of the new row.
+pub fn take_event(
     follower: Follower,
     built: Built,
     cells: &[u32],
@@ -153,13 +160,9 @@ pub fn follow_event(
     symbol: u16,
     stamp: Stamp,
 ) -> Followed
-    ensures { λ r. ⌜ FollowsEvent follower built (now (cells .entry)) (now (rows .entry)) (now (pool .entry))
-        symbol stamp r ⌝ }
+    ensures { λ r. ⌜ r ≡ followedBy (eventChecks built follower (event symbol stamp))
+        (tables built (now (cells .entry)) (now (rows .entry)) (now (pool .entry))) follower (event symbol stamp) ⌝ }
 {
-    let shape = check_table(built, cells, rows, pool);
-    if shape.number != 0 {
-        return kept(shape, follower);
-    }
     let checked = check_event(follower, built, symbol, stamp);
     if checked.number != 0 {
         return kept(checked, follower);
@@ -172,6 +175,25 @@ pub fn follow_event(
         yes,
         follower: next,
     }
+}
+
+// 25, then the event.
+pub fn follow_event(
+    follower: Follower,
+    built: Built,
+    cells: &[u32],
+    rows: &[u32],
+    pool: &[u32],
+    symbol: u16,
+    stamp: Stamp,
+) -> Followed
+    ensures { λ r. ⌜ FollowsEvent follower built (now (cells .entry)) (now (rows .entry)) (now (pool .entry))
+        symbol stamp r ⌝ }
+{
+    if !in_shape(built, cells, rows, pool) {
+        return out_of_shape(follower);
+    }
+    take_event(follower, built, cells, rows, pool, symbol, stamp)
 }
 
 // The same on the head's own record, brought forward where it is kept.

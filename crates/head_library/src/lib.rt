@@ -1,6 +1,5 @@
 // What C and Rust link: every public entry under a C name, with the promise of the function that it calls.
 // Records cross by value, a lent table as pointer and length, the follower kept in place as one pointer.
-ghost use mathlib.Core.Path.{_≡_};
 ghost use Rattle.model.specs.Promises.{ChecksRule, ChecksWord, ChecksTable, ReadsRule, WritesRule, BuildsTable, RunsExact, RunsTable, StartsFollower, FollowsEvent, FollowsInPlace, Decides};
 ghost use Rattle.head_library.specs.Lent.{RunsBranchesInto};
 use model::Answer;
@@ -71,6 +70,7 @@ pub extern "C" fn alderskein_build_table(
     construct::build_table(head, edges, scratch, cells, rows, pool)
 }
 
+// Field by field, since an answer that is handed on whole is copied once more.
 #[no_mangle]
 pub extern "C" fn alderskein_check_table(
     built: Built,
@@ -80,7 +80,12 @@ pub extern "C" fn alderskein_check_table(
 ) -> Answer
     ensures { λ r. ⌜ ChecksTable built (now (cells .entry)) (now (rows .entry)) (now (pool .entry)) r ⌝ }
 {
-    shape::check_table(built, cells, rows, pool)
+    let answer = shape::check_table(built, cells, rows, pool);
+    Answer {
+        number: answer.number,
+        place: answer.place,
+        value: answer.value,
+    }
 }
 
 #[no_mangle]
@@ -141,6 +146,7 @@ pub extern "C" fn alderskein_start_follower(grain: u32) -> Started
     follower::start_follower(grain)
 }
 
+// The two parts of `follow_event`: called from here, both read the lent records where they are, with no copy between.
 #[no_mangle]
 pub extern "C" fn alderskein_follow_event(
     follower: Follower,
@@ -153,7 +159,10 @@ pub extern "C" fn alderskein_follow_event(
 ) -> Followed
     ensures { λ r. ⌜ FollowsEvent follower built (now (cells .entry)) (now (rows .entry)) (now (pool .entry)) symbol stamp r ⌝ }
 {
-    follower::follow_event(follower, built, cells, rows, pool, symbol, stamp)
+    if !shape::in_shape(built, cells, rows, pool) {
+        return follower::out_of_shape(follower);
+    }
+    follower::take_event(follower, built, cells, rows, pool, symbol, stamp)
 }
 
 // The head's own record, brought forward where it is kept.

@@ -1,36 +1,34 @@
 -- What each of the three calls leaves for the next: the reader a rule that passes 20 and 21, the builder tables in
 -- shape, the table runner the answer of the runs.
-use mathlib.Core.Path.{_≡_, refl, sym, _∙_, ap, subst}
-use mathlib.Core.Bool.{Bool, true, false, not, _&&_}
+use mathlib.Core.Path.{_≡_, refl, sym, _∙_, ap}
+use mathlib.Core.Bool.{true, false}
 use mathlib.Core.List.{List}
-use Prim.Native.Nat.{ℕ, suc, _≤_}
+use Prim.Native.Nat.{ℕ, _≤_}
 use native.Mathlib.Omega.{arith}
-use lib.Dec.{eqb, ltb, leb}
+use lib.Dec.{leb}
 use lib.ListN.{length}
-use borrow.Author.Tests.{le-leb, ltb-false, eqb-false, eq-eqb}
+use borrow.Author.Tests.{le-leb, ltb-false}
 use Rattle.model.specs.declared.Head.{Head}
-use Rattle.model.specs.declared.Built.{Built}
-use Rattle.model.specs.declared.Answer.{Answer}
 use Rattle.model.specs.declared.Reading.{Reading}
 use Rattle.model.specs.declared.Building.{Building}
-use Rattle.model.specs.Basics.{pick, oneIf, within, zeros, Refusal, refusal, fine, refuse, passes, _⨾_}
+use Rattle.model.specs.Basics.{within, Refusal, refusal, fine, refuse}
 use Rattle.model.specs.Rules.{Rule, validRule}
 use Rattle.model.specs.Words.{eventsOf, mostEvents, wordRefusal}
 use Rattle.model.specs.Runs.{accepts}
-use Rattle.model.specs.Files.{readRule, ruleBytes}
-use Rattle.model.specs.Layout.{edgeNeed, headOf, noHead, edgeTable, ruleIn, ruleRefusal}
-use Rattle.model.specs.Tables.{Tables, tables, builtOf, tablesBy, tablesOf, noBuilt, tableRefusal}
+use Rattle.model.specs.Files.{readRule}
+use Rattle.model.specs.Layout.{edgeNeed, headOf, edgeTable, ruleIn, ruleRefusal}
+use Rattle.model.specs.Tables.{Tables, tables, builtOf, tablesBy, tablesOf, tableRefusal}
 use Rattle.model.specs.Walks.{inShape, shapeRefusal, tableAccepts}
-use Rattle.model.specs.Promises.{answerOf, tooShort, readRefusal, readingOf, edgesRead, ReadsRule, buildRefusal, buildingOf, tablesMade, leaves, BuildsTable, runRefusal, RunsTable}
+use Rattle.model.specs.Promises.{tooShort, readRefusal, ReadsRule, buildRefusal, tablesMade, BuildsTable, runRefusal}
 use Rattle.model.specs.Demands.{Left}
-use Rattle.model.proofs.Logic.{by-test, and-both}
-use Rattle.model.proofs.Refusals.{refused-false, first-passes, then-passes, on-pass}
+use Rattle.model.proofs.Logic.{and-both}
+use Rattle.model.proofs.Refusals.{refused-false, first-passes, on-pass}
 use Rattle.model.proofs.Agreement.{walk-agrees}
 use Rattle.model.proofs.TableWalk.{table-walks}
 use Rattle.model.proofs.Shape.{built-in-shape}
 use Rattle.model.proofs.FileSpelt.{spells-valid}
 use Rattle.model.proofs.Readable.{spelled}
-use Rattle.model.proofs.Numbers.{Among, among-none, among-zero, read-numbers, table-numbers, word-numbers}
+use Rattle.model.proofs.Numbers.{among-zero, read-numbers, table-numbers}
 
 -- a number within a range that it is said not to be in
 pub outside : (low high n : ℕ) → within low high n ≡ false → low ≤ n → n ≤ high → ⊥

@@ -1,6 +1,6 @@
 -- Every code of every row is below N: its location is below L and its bases are below cm + 2. So a row has at most N
 -- codes.
-use mathlib.Core.Path.{_≡_, refl}
+use mathlib.Core.Path.{refl}
 use mathlib.Core.Bool.{Bool}
 use mathlib.Core.List.{List, [], _∷_}
 use Prim.Native.Nat.{ℕ, suc, _+_, _*_, _≤_, _<_}

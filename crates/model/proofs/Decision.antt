@@ -1,23 +1,22 @@
 -- The three calls in a row meet the promise of `decide`, wherever the first refusal is met.
-use mathlib.Core.Path.{_≡_, refl, sym, _∙_, ap, subst}
-use mathlib.Core.Bool.{Bool, true, false}
+use mathlib.Core.Path.{_≡_, sym, _∙_, ap, subst}
+use mathlib.Core.Bool.{true, false}
 use mathlib.Core.List.{List}
 use Prim.Native.Nat.{ℕ}
 use native.Mathlib.Omega.{arith}
-use lib.Dec.{eqb}
 use lib.ListN.{length}
 use borrow.Author.Tests.{eq-eqb, ne-eqb, eqb-true}
 use Rattle.model.specs.declared.Answer.{Answer}
 use Rattle.model.specs.declared.Reading.{Reading}
 use Rattle.model.specs.declared.Building.{Building}
-use Rattle.model.specs.Basics.{pick, oneIf, Refusal, fine, passes, _⨾_}
+use Rattle.model.specs.Basics.{oneIf, Refusal, fine, passes, _⨾_}
 use Rattle.model.specs.Rules.{Rule}
 use Rattle.model.specs.Words.{eventsOf, mostEvents, wordRefusal}
 use Rattle.model.specs.Runs.{accepts}
 use Rattle.model.specs.Files.{readRule}
 use Rattle.model.specs.Tables.{Tables, tables, tableRefusal}
 use Rattle.model.specs.Walks.{tableAccepts}
-use Rattle.model.specs.Promises.{answerOf, readRefusal, ReadsRule, buildRefusal, BuildsTable, runRefusal, RunsTable, roomedRefusal, decideRefusal, decideLeaves, leaves, Decides}
+use Rattle.model.specs.Promises.{answerOf, readRefusal, ReadsRule, buildRefusal, BuildsTable, runRefusal, RunsTable, roomedRefusal, decideRefusal, Decides}
 use Rattle.model.proofs.Logic.{by-test}
 use Rattle.model.proofs.Refusals.{on-pass, on-refused}
 use Rattle.model.proofs.Numbers.{among-zero, word-numbers}

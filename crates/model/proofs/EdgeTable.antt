@@ -1,13 +1,12 @@
 -- The edge table by place: the edges and atoms from any number on, as a loop over the table meets them.
-use mathlib.Core.Path.{_≡_, refl, sym, _∙_, ap}
-use mathlib.Core.List.{List, [], _∷_}
-use Prim.Native.Nat.{ℕ, zero, suc, _+_, _-_, _*_, _≤_, _<_}
+use mathlib.Core.Path.{_≡_, refl, _∙_, ap}
+use mathlib.Core.List.{List, _∷_}
+use Prim.Native.Nat.{ℕ, zero, suc, _+_, _-_, _*_, _<_}
 use native.Mathlib.Omega.{arith}
 use lib.ListN.{length, getD, drop}
 use lib.Seq.{getD-drop, drop-drop}
-use Rattle.model.specs.Rules.{Atom, Edge}
 use Rattle.model.specs.Runs.{noEdge}
-use Rattle.model.specs.Layout.{edgeFields, edgeWidth, atomsIn, edgeIn, edgesIn}
+use Rattle.model.specs.Layout.{edgeWidth, atomsIn, edgeIn, edgesIn}
 
 pub edges-length : (n : ℕ) (t : List ℕ) → length (edgesIn n t) ≡ n
 edges-length zero t = refl

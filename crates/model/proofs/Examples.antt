@@ -9,7 +9,7 @@ use Rattle.model.specs.Rules.{Atom, Edge, Rule, rule, cm, pairCount}
 use Rattle.model.specs.Words.{eventsOf}
 use Rattle.model.specs.Runs.{acceptsFrom, acceptsFromSome, accepts}
 use Rattle.model.specs.Files.{recordRefusal, withRecord, atEnd, readFrom, readRule, edgeRecords, ruleBytes}
-use Rattle.model.specs.Construction.{codeOf, locationOf, basesOf, startRow, allows, rowResets, targetOf, nextRow, byIntervals, bySymbols, rowsFrom, rowsOf, cellOf, holdsFinal}
+use Rattle.model.specs.Construction.{codeOf, locationOf, basesOf, startRow, allows, rowResets, targetOf, nextRow, byIntervals, bySymbols, rowsFrom, rowsOf, cellOf}
 use Rattle.model.specs.Tables.{Tables, tables, tablesBy, tablesOf}
 use Rattle.model.specs.Walks.{verdict}
 

@@ -1,14 +1,14 @@
 -- A set of locations as a mask, read back: the mask of a rising list below 32 has exactly that list for its bits.
 use mathlib.Core.Path.{_≡_, refl, _∙_, ap}
-use mathlib.Core.Bool.{true, false, _&&_}
+use mathlib.Core.Bool.{true, false}
 use mathlib.Core.List.{List, [], _∷_}
-use Prim.Native.Nat.{ℕ, zero, suc, _+_, _≤_, _<_}
+use Prim.Native.Nat.{ℕ, zero, suc, _+_, _≤_}
 use native.Mathlib.Omega.{arith}
-use lib.Dec.{eqb, ltb, leb}
-use borrow.Author.Tests.{ltb-true, leb-true, eq-eqb, ne-eqb}
+use lib.Dec.{eqb}
+use borrow.Author.Tests.{eq-eqb, ne-eqb}
 use Rattle.model.specs.Basics.{isIn, bit, maskOf, bitsFrom}
 use Rattle.model.specs.Rules.{rising}
-use Rattle.model.proofs.Logic.{and-left, and-right, Cmp, cmp, is-lt, is-eq, is-gt}
+use Rattle.model.proofs.Logic.{Cmp, cmp, is-lt, is-eq, is-gt}
 use Rattle.model.proofs.Masks.{Asc, not-below, mask-bits}
 use Rattle.model.proofs.Rising.{Below, rising-asc, rising-all-below}
 

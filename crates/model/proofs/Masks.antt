@@ -1,13 +1,12 @@
 -- A mask's bits are the members of the ascending list that it was made of.
-use mathlib.Core.Path.{_≡_, refl, sym, _∙_, ap, ap₂}
-use mathlib.Core.Bool.{Bool, true, false, _&&_, _||_, not}
-use mathlib.Core.List.{List, [], _∷_, _++_}
-use Prim.Native.Nat.{ℕ, zero, suc, _+_, _-_, _*_, _/_, _%_, _^_, _≤_, _<_}
+use mathlib.Core.Path.{_≡_, refl, sym, _∙_, ap}
+use mathlib.Core.Bool.{true, false}
+use mathlib.Core.List.{List, [], _∷_}
+use Prim.Native.Nat.{ℕ, suc, _+_, _-_, _*_, _/_, _%_, _^_, _≤_, _<_}
 use native.Mathlib.Omega.{arith}
-use native.Mathlib.Nat.{mul-div-cancel, zero-div, mul-mod-left, pow-succ', add-comm}
+use native.Mathlib.Nat.{mul-div-cancel, zero-div, pow-succ', add-comm}
 use lib.Arith.{digits-div}
 use lib.Pow.{pow-add, pow-pos, shr-shr, pow-lt}
-use lib.Dec.{eqb, ltb, leb}
 use borrow.Author.Tests.{eq-eqb, ne-eqb}
 use Rattle.model.specs.Basics.{isIn, bit, maskOf}
 use Rattle.model.proofs.Logic.{Cmp, cmp, is-lt, is-eq, is-gt}

@@ -1,17 +1,15 @@
 -- Which numbers each check can give: the reader 1 to 8, the tables' room 22 to 24, a word 30 to 33.
-use mathlib.Core.Path.{_≡_, refl, sym, _∙_, ap}
+use mathlib.Core.Path.{_≡_, refl}
 use mathlib.Core.Bool.{Bool, true, false, not, _||_}
 use mathlib.Core.List.{List, [], _∷_}
-use mathlib.Core.Logic.{_⊎_, inl, inr}
-use Prim.Native.Nat.{ℕ, zero, suc, _+_, _≤_, _<_}
+use Prim.Native.Nat.{ℕ, zero, suc, _+_, _≤_}
 use native.Mathlib.Omega.{arith}
 use lib.Dec.{eqb, ltb, leb}
-use lib.ListN.{length, drop}
-use Rattle.model.specs.Basics.{Refusal, refusal, fine, refuse, passes, _⨾_}
+use lib.ListN.{length}
+use Rattle.model.specs.Basics.{Refusal, fine, refuse, passes, _⨾_}
 use Rattle.model.specs.Rules.{Rule, pairCount, mostPairs}
 use Rattle.model.specs.Words.{Event, eventsOf, grainOk, eventRefusal, eventsRefusal, wordRefusal}
-use Rattle.model.specs.Files.{noRule, seenSizes, bodyLength, kindOf, bodyOf, recordHead, recordRefusal, withRecord, cutShort, bodyOk, outOfOrder, oneTooMany, badSizes, outOfRange, notPinned, endRefusal, atEnd, readFrom, readRule}
-use Rattle.model.specs.Layout.{ruleRefusal, edgeNeed, isReadable}
+use Rattle.model.specs.Files.{noRule, seenSizes, bodyLength, kindOf, bodyOf, recordRefusal, cutShort, bodyOk, outOfOrder, oneTooMany, badSizes, outOfRange, notPinned, atEnd, readFrom, readRule}
 use Rattle.model.specs.Construction.{rowsOf}
 use Rattle.model.specs.Tables.{rowRoom, fitRefusal, tableRefusal}
 use Rattle.model.proofs.Logic.{by-test}

@@ -1,12 +1,12 @@
 -- Laws of refusals in order: what passes both, and which of two is met.
 use mathlib.Core.Path.{_≡_, refl, sym, _∙_, ap}
 use mathlib.Core.Bool.{Bool, true, false}
-use Prim.Native.Nat.{ℕ, zero, suc}
+use Prim.Native.Nat.{ℕ, suc}
 use native.Mathlib.Omega.{arith}
-use lib.Dec.{eqb, eqb·suc-zero}
+use lib.Dec.{eqb}
 use borrow.Author.Tests.{eqb-true, eq-eqb, ne-eqb}
-use Rattle.model.specs.Basics.{pick, Refusal, refusal, fine, refuse, passes, _⨾_}
-use Rattle.model.proofs.Logic.{by-test, no-way}
+use Rattle.model.specs.Basics.{Refusal, refusal, fine, refuse, _⨾_}
+use Rattle.model.proofs.Logic.{by-test}
 
 -- a test that refuses does not pass
 pub refused-false : (test : Bool) (n p : ℕ) → refuse test (suc n) p .number ≡ 0 → test ≡ false

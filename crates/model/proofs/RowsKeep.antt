@@ -1,17 +1,16 @@
 -- What holds of the empty row and is kept by every code that an edge makes holds of every successor row. So every row
 -- is ascending.
 use mathlib.Core.Path.{_≡_, refl}
-use mathlib.Core.Bool.{Bool, true, false, _&&_}
+use mathlib.Core.Bool.{Bool, true, false}
 use mathlib.Core.List.{List, [], _∷_}
 use Prim.Native.Nat.{ℕ, suc, _≤_}
 use native.Mathlib.Omega.{arith}
-use lib.Dec.{ltb, leb}
-use borrow.Author.Tests.{leb-true, lt-ltb, le-ltb, le-leb, eq-eqb, ne-eqb}
+use borrow.Author.Tests.{lt-ltb, le-ltb, le-leb, eq-eqb, ne-eqb}
 use Rattle.model.specs.Basics.{pick}
-use Rattle.model.specs.Rules.{Edge, Rule, rising}
+use Rattle.model.specs.Rules.{Edge, Rule}
 use Rattle.model.specs.Construction.{withCode, codeOf, startBases, startCodes, startRow, allows, rowResets, targetOf, pairTargets, rowTargets, nextRow}
 use Rattle.model.specs.Claims.{ascending}
-use Rattle.model.proofs.Logic.{and-left, and-right, Cmp, cmp, is-lt, is-eq, is-gt, In, here, there}
+use Rattle.model.proofs.Logic.{Cmp, cmp, is-lt, is-eq, is-gt, In, here, there}
 use Rattle.model.proofs.Masks.{Asc}
 
 -- a property of rows, kept as a code is put in

@@ -1,25 +1,24 @@
 -- Demand 3 over the promises: reader, builder and table runner in a row, from the bytes of a file to the answer.
-use mathlib.Core.Path.{_≡_, refl, sym, _∙_, ap, subst}
-use mathlib.Core.Bool.{Bool, true, false}
+use mathlib.Core.Path.{_≡_, sym, _∙_, ap, subst}
+use mathlib.Core.Bool.{true, false}
 use mathlib.Core.List.{List}
-use Prim.Native.Nat.{ℕ, _≤_}
-use native.Mathlib.Omega.{arith}
-use lib.Dec.{eqb, ltb, leb}
+use Prim.Native.Nat.{ℕ}
+use lib.Dec.{eqb}
 use lib.ListN.{length}
 use borrow.Author.Tests.{eqb-false}
 use Rattle.model.specs.declared.Head.{Head}
 use Rattle.model.specs.declared.Answer.{Answer}
 use Rattle.model.specs.declared.Reading.{Reading}
 use Rattle.model.specs.declared.Building.{Building}
-use Rattle.model.specs.Basics.{oneIf, within, Refusal, fine, refuse}
-use Rattle.model.specs.Rules.{Rule, validRule}
+use Rattle.model.specs.Basics.{oneIf, within, Refusal, fine}
+use Rattle.model.specs.Rules.{Rule}
 use Rattle.model.specs.Words.{eventsOf, mostEvents, wordRefusal}
 use Rattle.model.specs.Runs.{accepts}
 use Rattle.model.specs.Files.{readRule, ruleBytes}
 use Rattle.model.specs.Layout.{ruleIn, ruleRefusal}
 use Rattle.model.specs.Tables.{Tables, tables, tableRefusal}
 use Rattle.model.specs.Walks.{tableAccepts}
-use Rattle.model.specs.Promises.{answerOf, tooShort, readRefusal, ReadsRule, buildRefusal, tablesMade, BuildsTable, runRefusal, RunsTable}
+use Rattle.model.specs.Promises.{answerOf, tooShort, readRefusal, ReadsRule, BuildsTable, runRefusal}
 use Rattle.model.specs.Demands.{Read-back, Three-calls, Three-calls-written}
 use Rattle.model.proofs.Logic.{by-test}
 use Rattle.model.proofs.FileRead.{valid-is-spelt}

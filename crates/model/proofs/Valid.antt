@@ -1,14 +1,14 @@
 -- A valid rule, as plain facts: every number in its range, resets pinned, cm at most 30.
 use mathlib.Core.Path.{_≡_, refl}
-use mathlib.Core.Bool.{Bool, true, false, _&&_, _||_}
+use mathlib.Core.Bool.{Bool, true, _&&_}
 use mathlib.Core.List.{List, [], _∷_}
-use mathlib.Core.Logic.{_⊎_, inl, inr}
-use Prim.Native.Nat.{ℕ, suc, _+_, _-_, _*_, _^_, _≤_, _<_}
+use mathlib.Core.Logic.{inl, inr}
+use Prim.Native.Nat.{ℕ, _-_, _^_, _≤_, _<_}
 use native.Mathlib.Omega.{arith}
 use lib.Dec.{eqb, ltb, leb}
 use lib.ListN.{length}
-use borrow.Author.Tests.{ltb-true, leb-true, leb-false, eqb-true}
-use Rattle.model.specs.Basics.{larger, within}
+use borrow.Author.Tests.{ltb-true, leb-true, eqb-true}
+use Rattle.model.specs.Basics.{within}
 use Rattle.model.specs.Rules.{Atom, Edge, Rule, largestConstant, largestOf, cm, pairCount, mostPairs, mostEdges, mostAtoms, sizesOk, atomOk, atomsOk, edgeOk, hasEqual, integerReset, rising, edgesOk, validRule}
 use Rattle.model.proofs.Logic.{and-left, and-right, or-cases, within-least, within-most, larger-left, larger-right, larger-most, In, here, there}
 

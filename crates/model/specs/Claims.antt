@@ -3,7 +3,7 @@
 use mathlib.Core.Path.{_≡_}
 use mathlib.Core.Bool.{Bool, true, false, _&&_, _||_}
 use mathlib.Core.List.{List, [], _∷_}
-use Prim.Native.Nat.{ℕ, suc, _<_}
+use Prim.Native.Nat.{ℕ, suc}
 use lib.Dec.{eqb, ltb, leb}
 use lib.ListN.{length, getD, take}
 use Rattle.model.specs.declared.Head.{Head}
@@ -11,12 +11,12 @@ use Rattle.model.specs.declared.Answer.{Answer}
 use Rattle.model.specs.declared.Building.{Building}
 use Rattle.model.specs.declared.Branch.{Branch}
 use Rattle.model.specs.Basics.{oneIf, isIn, fine}
-use Rattle.model.specs.Rules.{Edge, Rule, rising, validRule}
+use Rattle.model.specs.Rules.{Rule, validRule}
 use Rattle.model.specs.Words.{Event, eventsOf, mostEvents, wordRefusal}
 use Rattle.model.specs.Runs.{noEdge, isAcceptingRun, accepts, leastRun}
 use Rattle.model.specs.Construction.{width, allows, targetOf, rowResets, nextRow, rowsOf, rowAt, numberOf, cellOf, holdsFinal}
 use Rattle.model.specs.Tables.{Tables, tablesOf, tableRefusal}
-use Rattle.model.specs.Walks.{rowCodes, verdict, cellAt, startAt, step, stepAll, tableAccepts, followRefusal}
+use Rattle.model.specs.Walks.{rowCodes, verdict, cellAt, startAt, stepAll, followRefusal}
 use Rattle.model.specs.Promises.{BuildsTable, RunsTable, RunsExact, RunsBranches}
 
 -- Runs. The word is accepted exactly if some run is accepting; the least run is one, and none comes before it.

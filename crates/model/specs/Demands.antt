@@ -1,24 +1,23 @@
 -- What is claimed of the definitions and promises, each proved in proofs/ (docs/STATEMENTS.md names the file).
 use mathlib.Core.Path.{_≡_}
-use mathlib.Core.Bool.{Bool, true, false, _&&_}
-use mathlib.Core.List.{List, [], _∷_}
-use Prim.Native.Nat.{ℕ, suc, _<_, _≤_}
-use lib.Dec.{eqb, ltb, leb}
+use mathlib.Core.Bool.{true, false}
+use mathlib.Core.List.{List}
+use Prim.Native.Nat.{ℕ}
+use lib.Dec.{eqb, leb}
 use lib.ListN.{length}
 use Rattle.model.specs.declared.Head.{Head}
-use Rattle.model.specs.declared.Built.{Built}
 use Rattle.model.specs.declared.Answer.{Answer}
 use Rattle.model.specs.declared.Reading.{Reading}
 use Rattle.model.specs.declared.Building.{Building}
-use Rattle.model.specs.Basics.{oneIf, within, isIn, allBelow, written, Refusal, fine}
-use Rattle.model.specs.Rules.{Edge, Rule, validRule}
-use Rattle.model.specs.Words.{Event, eventsOf, mostEvents, wordRefusal}
-use Rattle.model.specs.Runs.{isAcceptingRun, accepts, Path, leastRun}
+use Rattle.model.specs.Basics.{oneIf, within, allBelow, written, fine}
+use Rattle.model.specs.Rules.{Rule, validRule}
+use Rattle.model.specs.Words.{eventsOf, wordRefusal}
+use Rattle.model.specs.Runs.{accepts}
 use Rattle.model.specs.Files.{readRule, ruleBytes}
 use Rattle.model.specs.Layout.{edgeNeed, headOf, edgeTable, ruleIn, isReadable, ruleRefusal}
-use Rattle.model.specs.Construction.{width, allows, targetOf, rowResets, nextRow, rowsOf, rowAt, numberOf, cellOf, holdsFinal, walks}
+use Rattle.model.specs.Construction.{walks}
 use Rattle.model.specs.Tables.{tablesOf, tableRefusal}
-use Rattle.model.specs.Walks.{inShape, rowCodes, verdict, cellAt, tableAccepts}
+use Rattle.model.specs.Walks.{inShape, tableAccepts}
 use Rattle.model.specs.Promises.{ReadsRule, WritesRule, BuildsTable, RunsTable}
 
 -- 2, files: an accepted file, written again, has the same bytes

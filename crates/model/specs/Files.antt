@@ -4,7 +4,7 @@ use mathlib.Core.List.{List, [], _∷_, _++_}
 use Prim.Native.Nat.{ℕ, zero, suc, _+_, _-_, _*_, _/_, _%_}
 use lib.Dec.{eqb, ltb, leb}
 use lib.ListN.{length, getD, drop}
-use Rattle.model.specs.Basics.{pick, within, Refusal, refusal, fine, refuse, passes, _⨾_}
+use Rattle.model.specs.Basics.{pick, within, Refusal, refuse, passes, _⨾_}
 use Rattle.model.specs.Rules.{Atom, Edge, Rule, rule, pairCount, mostPairs, mostEdges, mostAtoms, sizesOk, edgeOk, integerReset}
 
 -- number i of a list of bytes

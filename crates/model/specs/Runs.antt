@@ -1,10 +1,10 @@
 -- Runs over a word, ages exact in D-ths of a second (document 000, section 2).
 use mathlib.Core.Bool.{Bool, true, false, _&&_, _||_}
 use mathlib.Core.List.{List, [], _∷_, _++_}
-use Prim.Native.Nat.{ℕ, zero, suc, _-_, _+_, _*_}
+use Prim.Native.Nat.{ℕ, suc, _-_, _+_, _*_}
 use lib.Dec.{eqb, ltb, leb}
 use lib.ListN.{length, getD}
-use Rattle.model.specs.Basics.{pick, isIn, same, zeros, bit, Refusal, fine, refusal, refuse}
+use Rattle.model.specs.Basics.{pick, isIn, same, zeros, bit, Refusal, refusal, refuse}
 use Rattle.model.specs.Rules.{Atom, Edge, Rule}
 use Rattle.model.specs.Words.{Event}
 

@@ -1,7 +1,6 @@
 // P1 to P8 through all four runners: exact, by branch, table, follower. Then a case for each of 26, also at place 0,
 // and 30 to 34: number and place.
-ghost use Prim.Native.Nat.{ℕ, _-_, _≤_};
-ghost use lib.ListN.{length};
+ghost use Prim.Native.Nat.{_-_};
 use branch::run_branches;
 use construct::build_table;
 use exact::run_exact;

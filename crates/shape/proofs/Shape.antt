@@ -15,8 +15,8 @@ use Rattle.model.specs.Tables.{Tables, tables, rowWidth}
 use Rattle.model.specs.Walks.{builtPairs, builtSizesOk, builtWidth, cellNeed, longEnough}
 use Rattle.model.specs.Walks.{rowsChain, cellsOk, inShape, shapeRefusal}
 use Rattle.model.specs.Promises.{answerOf}
-use Rattle.model.proofs.Logic.{and-left, and-right}
-use Rattle.shape.specs.Ranges.{sizesInRange, InRange}
+use Rattle.model.proofs.Logic.{and-left, and-right, within-most}
+use Rattle.shape.specs.Ranges.{sizesInRange, InRange, countsOk}
 use Rattle.shape.proofs.Sizes.{in-range}
 
 -- 25 or no refusal
@@ -49,7 +49,14 @@ pub record Coded (b : Built) (cs ns ps : List ℕ) (n p m k : ℕ) : Type 0 wher
   pub codes : allBelow m (take p ps) ≡ true
   pub need-is : k ≡ cellNeed b
 
--- sizes and lengths as plain bounds
+-- sizes and counts together, as plain bounds
+module _ (b : Built) (m : ℕ) (r : sizesInRange b ≡ true) (e : m ≡ builtPairs b) where
+  pub sizes-hold : countsOk m (b .rows) ≡ true → builtSizesOk b ≡ true
+  sizes-hold h = rw r (rw e at h)
+
+  sizes-fail : countsOk m (b .rows) ≡ false → builtSizesOk b ≡ false
+  sizes-fail h = rw r (rw e at h)
+
 pub ranges : (b : Built) → builtSizesOk b ≡ true → InRange b
 ranges b h =
     let pairs = leb (builtPairs b) mostPairs in
@@ -73,9 +80,16 @@ long-of b cs ns ps h =
       pool-long = leb-true _ _ (and-right (cells && rows) pool h);
     }
 
-pub sizes-out : (t : Tables) → builtSizesOk (t .built) ≡ false → false ≡ inShape t
+pub sizes-out : (t : Tables) → sizesInRange (t .built) ≡ false → false ≡ inShape t
 unfolding inShape
 sizes-out t h = rw h
+
+pub counts-out :
+    (t : Tables) (m : ℕ) → sizesInRange (t .built) ≡ true → m ≡ builtPairs (t .built)
+    → countsOk m (t .built .rows) ≡ false
+    → false ≡ inShape t
+unfolding inShape
+counts-out t m r e h = rw (sizes-fail (t .built) m r e h)
 
 pub too-short : (t : Tables) → builtSizesOk (t .built) ≡ true → longEnough t ≡ false → false ≡ inShape t
 unfolding inShape
@@ -102,14 +116,20 @@ module _ {b : Built} {cs ns ps : List ℕ} where
     code-out h = rw (l .sized .sizes, l .sized .long, chain-in, rw (l .pairs-are, l .sized .total-is) at h)
 
   module _ {n p m k : ℕ} (d : Coded b cs ns ps n p m k) where
+    pub rows-most : b .rows ≤ mostRows
+    rows-most =
+        let first = sizesInRange b && leb (builtPairs b) mostPairs in
+        let rows = within 1 mostRows (b .rows) in
+        within-most 1 mostRows (b .rows) (and-right first rows (d .linked .sized .sizes))
+
     pub cells-part : k ≡ length (take k cs)
     cells-part =
         sym (length-take-le k cs (rw (d .need-is) (long-of b cs ns ps (d .linked .sized .long) .cells-long)))
 
-    pub all-but-cells : cellsOk 0 (builtWidth b) n (take k cs) ≡ inShape (tables b cs ns ps)
+    pub all-but-cells : cellsOk 0 (builtWidth b) (b .rows) (take k cs) ≡ inShape (tables b cs ns ps)
     unfolding inShape
     all-but-cells =
         let l = d .linked in
         let codes : allBelow (builtPairs b) (take (b .total) ps) ≡ true =
         rw (l .pairs-are, l .sized .total-is) at (d .codes) in
-        rw (l .sized .sizes, l .sized .long, chain-in l, codes, l .sized .count-is, d .need-is)
+        rw (l .sized .sizes, l .sized .long, chain-in l, codes, d .need-is)

@@ -41,7 +41,7 @@ module _ (b : Built) (i : InRange b) where
     pub pairs-are : l * p ≡ builtPairs b
     pairs-are = ap₂ _*_ el weight-is
 
-    pub pairs-fit : l * p < 2 ^ 64
+    pub pairs-fit : l * p < 2 ^ 32
     pairs-fit =
         let m : p ≤ 32 ^ 4 = rw weight-is weight-most in
         let n : l ≤ 32 = rw el (i .locations-most) in

@@ -1,9 +1,12 @@
 -- Sizes of a built record that are in range, as a test and as plain bounds: what the further checks compute then fits.
-use mathlib.Core.Bool.{Bool, _&&_}
-use Prim.Native.Nat.{_≤_}
-use lib.Dec.{leb}
+use mathlib.Core.Bool.{Bool, true, _&&_, _||_}
+use mathlib.Core.List.{List, [], _∷_}
+use Prim.Native.Nat.{ℕ, suc, _%_, _≤_}
+use lib.Dec.{eqb, leb}
 use Rattle.model.specs.declared.Built.{Built}
-use Rattle.model.specs.Rules.{sizesOk}
+use Rattle.model.specs.Basics.{within}
+use Rattle.model.specs.Rules.{mostPairs, sizesOk}
+use Rattle.model.specs.Construction.{mostRows}
 
 abbrev pub sizesInRange : Built → Bool
 sizesInRange b = sizesOk (b .locations) (b .symbols) (b .clocks) && leb (b .top) 30
@@ -13,3 +16,12 @@ pub record InRange (b : Built) : Type 0 where
   pub symbols-most : b .symbols ≤ 16
   pub clocks-most : b .clocks ≤ 4
   pub top-most : b .top ≤ 30
+
+-- N and R
+abbrev pub countsOk : ℕ → ℕ → Bool
+countsOk pairs rows = leb pairs mostPairs && within 1 mostRows rows
+
+-- no timer reset at an odd place, the first place being `at`
+abbrev pub resetsOk : ℕ → List ℕ → Bool
+resetsOk at [] = true
+resetsOk at (c ∷ cs) = (eqb (c % 2) 0 || eqb (at % 2) 0) && resetsOk (suc at) cs

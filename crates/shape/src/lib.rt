@@ -5,9 +5,9 @@ ghost use lib.ListN.{length};
 ghost use Rattle.model.specs.Basics.{within, allBelow};
 ghost use Rattle.model.specs.Construction.{intervalCount};
 ghost use Rattle.model.specs.Tables.{tables};
-ghost use Rattle.model.specs.Walks.{builtPairs, builtSizesOk, cellNeed, longEnough, rowsChain, cellsOk, inShape};
+ghost use Rattle.model.specs.Walks.{builtPairs, cellNeed, longEnough, rowsChain, cellsOk, inShape};
 ghost use Rattle.model.specs.Promises.{ChecksTable};
-ghost use Rattle.shape.specs.Ranges.{InRange, sizesInRange};
+ghost use Rattle.shape.specs.Ranges.{InRange, sizesInRange, countsOk, resetsOk};
 use edges::power;
 use edges::wide32;
 use model::Answer;
@@ -20,11 +20,12 @@ pub(crate) fn within(least: u32, most: u32, x: u32) -> bool
 }
 
 // N, the number of pairs of a location and bases.
-pub(crate) fn pair_count(built: Built) -> usize
+pub(crate) fn pair_count(built: Built) -> u32
     requires { ⌜ InRange built ⌝ }
     ensures { λ r. ⌜ r ≡ builtPairs built ⌝ }
 {
-    wide32(built.locations) * power(wide32(built.top) + 2, wide32(built.clocks))
+    let pairs = wide32(built.locations) * power(wide32(built.top) + 2, wide32(built.clocks));
+    pairs as u32
 }
 
 // L, S and K in their ranges, cm at most 30.
@@ -37,11 +38,11 @@ pub(crate) fn in_range(built: Built) -> bool
         && built.top <= 30
 }
 
-// Sizes in range, N at most 65,536, R from 1 to 4,096.
-pub(crate) fn sizes_ok(built: Built) -> bool
-    ensures { λ r. ⌜ r ≡ builtSizesOk built ⌝ }
+// N at most 65,536, R from 1 to 4,096.
+pub(crate) fn counts_ok(pairs: u32, rows: u32) -> bool
+    ensures { λ r. ⌜ r ≡ countsOk pairs rows ⌝ }
 {
-    in_range(built) && pair_count(built) <= 65536 && within(1, 4096, built.rows)
+    pairs <= 65536 && within(1, 4096, rows)
 }
 
 // R · S · W, the cells that the rows need.
@@ -80,57 +81,67 @@ pub(crate) fn rows_chain(count: usize, total: usize, rows: &[u32]) -> bool
     end == total
 }
 
-pub(crate) fn codes_below(limit: usize, codes: &[u32]) -> bool
+// All are looked at, whatever is found: with no way out of its loop the compiler takes several at a time.
+pub(crate) fn codes_below(limit: u32, codes: &[u32]) -> bool
     ensures { λ r. ⌜ r ≡ allBelow limit (now (codes .entry)) ⌝ }
 {
+    let mut below = true;
     let mut i: usize = 0;
     while i < codes.len() {
-        if limit <= wide32(codes[i]) {
-            return false;
+        if limit <= codes[i] {
+            below = false;
         }
         i += 1;
     }
-    true
+    below
+}
+
+// No timer reset at an odd interval number. W is even, so an interval number is odd where the cell's place is.
+pub(crate) fn resets_ok(cells: &[u32]) -> bool
+    ensures { λ r. ⌜ r ≡ resetsOk 0 (now (cells .entry)) ⌝ }
+{
+    let mut none = true;
+    let mut at: usize = 1;
+    while at < cells.len() {
+        if cells[at] % 2 == 1 {
+            none = false;
+        }
+        at += 2;
+    }
+    none
 }
 
 // Every cell's row below R, no timer reset at an odd interval number.
-// W is even, so an interval number is odd where the cell's place is.
-pub(crate) fn cells_ok(rows: usize, cells: &[u32]) -> bool
+pub(crate) fn cells_ok(rows: u32, cells: &[u32]) -> bool
+    requires { ⌜ rows ≤ 4096 ⌝ }
     ensures { λ r. ⌜ ((cm : ℕ) → r ≡ cellsOk 0 (intervalCount cm) rows (now (cells .entry))) ⌝ }
 {
-    let mut at: usize = 0;
-    while at < cells.len() {
-        let cell = wide32(cells[at]);
-        if rows <= cell / 2 {
-            return false;
-        }
-        if cell % 2 == 1 && at % 2 == 1 {
-            return false;
-        }
-        at += 1;
-    }
-    true
+    codes_below(2 * rows, cells) && resets_ok(cells)
 }
 
-pub(crate) fn in_shape(built: Built, cells: &[u32], rows: &[u32], pool: &[u32]) -> bool
+// Every condition.
+pub fn in_shape(built: Built, cells: &[u32], rows: &[u32], pool: &[u32]) -> bool
     ensures { λ r. ⌜ r ≡ inShape (tables built (now (cells .entry)) (now (rows .entry)) (now (pool .entry))) ⌝ }
 {
-    if !sizes_ok(built) {
+    if !in_range(built) {
+        return false;
+    }
+    let pairs = pair_count(built);
+    if !counts_ok(pairs, built.rows) {
         return false;
     }
     if !long_enough(built, cells, rows, pool) {
         return false;
     }
-    let count = wide32(built.rows);
     let total = wide32(built.total);
-    if !rows_chain(count, total, rows) {
+    if !rows_chain(wide32(built.rows), total, rows) {
         return false;
     }
-    if !codes_below(pair_count(built), &pool[..total]) {
+    if !codes_below(pairs, &pool[..total]) {
         return false;
     }
     let need = cell_need(built);
-    cells_ok(count, &cells[..need])
+    cells_ok(built.rows, &cells[..need])
 }
 
 // 25, the built record or its tables out of shape.

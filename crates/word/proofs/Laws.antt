@@ -12,7 +12,7 @@ use Rattle.model.specs.declared.Answer.{Answer}
 use Rattle.model.specs.Basics.{refusal}
 use Rattle.model.specs.Words.{Event, eventsOf, grainOk, eventsRefusal, wordRefusal}
 use Rattle.model.specs.Promises.{answerOf}
-use Rattle.word.specs.Answers.{eventsAnswer}
+use Rattle.word.specs.Answers.{eventsAnswer, Passed, StopsAt}
 use Rattle.model.proofs.Logic.{or-right}
 use Rattle.model.proofs.Events.{eventAt, events-rest, events-end}
 
@@ -41,15 +41,20 @@ module _ (s i last : ℕ) (v : Event) (vs : List Event) where
       let b : ltb (v .stamp) last ≡ true = lt-ltb (v .stamp) last g in
       rw (a, b, eventsRefusal, a, b)
 
--- the loop over the events: what is still to be found is what is found in all
-pub record Passed (s : ℕ) (xs ts : List ℕ) (i last : ℕ) : Type 0 where
-  pub turns : i ≤ length xs
-  pub rest-is : eventsRefusal s (i + 1) last (eventsOf (drop i xs) (drop i ts)) ≡ eventsRefusal s 1 0 (eventsOf xs ts)
-
+-- the loop over the events
 pub passed-none : (s : ℕ) (xs ts : List ℕ) → Passed s xs ts 0 0
 passed-none s xs ts = record { turns = omega arith; rest-is = refl }
 
 module _ {s : ℕ} {xs ts : List ℕ} {i last : ℕ} (inv : Passed s xs ts i last) where
+  pub stops-end : length xs ≤ i → StopsAt s xs ts i
+  stops-end h = record { last = last; passed = inv; stamp-falls = λ p q. absurd (omega arith) }
+
+  pub stops-symbol : s ≤ getD xs i 0 → StopsAt s xs ts i
+  stops-symbol h = record { last = last; passed = inv; stamp-falls = λ p q. absurd (omega arith) }
+
+  pub stops-stamp : getD ts i 0 < last → StopsAt s xs ts i
+  stops-stamp h = record { last = last; passed = inv; stamp-falls = λ p q. h }
+
   pub passed-all : length xs ≤ i → refused 0 0 ≡ eventsAnswer s xs ts
   passed-all h = rw (← inv .rest-is, events-end xs ts i h)
 

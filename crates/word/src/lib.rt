@@ -3,7 +3,7 @@ ghost use mathlib.Core.Path.{_≡_};
 ghost use lib.ListN.{length};
 ghost use Rattle.model.specs.Words.{grainOk};
 ghost use Rattle.model.specs.Promises.{ChecksWord};
-ghost use Rattle.word.specs.Answers.{eventsAnswer};
+ghost use Rattle.word.specs.Answers.{eventsAnswer, StopsAt};
 use edges::wide16;
 use edges::wide32;
 use model::Answer;
@@ -16,37 +16,52 @@ pub fn grain_ok(grain: u32) -> bool
     1 <= grain && grain <= 1000
 }
 
-// 32 and 33: the earliest bad event, from 1; its symbol before its stamp.
-pub(crate) fn check_events(symbol_count: u32, symbols: &[u16], stamps: &[u32]) -> Answer
+// The number of events before the first bad one: its symbol is unknown, or its stamp falls.
+pub(crate) fn good_events(symbol_count: u32, symbols: &[u16], stamps: &[u32]) -> usize
     requires { ⌜ length (now symbols) ≡ length (now stamps) ⌝ }
-    ensures { λ r. ⌜ r ≡ eventsAnswer «symbol_count» (now (symbols .entry)) (now (stamps .entry)) ⌝ }
+    ensures { λ r. ⌜ StopsAt «symbol_count» (now (symbols .entry)) (now (stamps .entry)) r ⌝ }
 {
     let known = wide32(symbol_count);
     let mut last = Stamp(0);
     let mut i: usize = 0;
     while i < symbols.len() {
-        let event = i + 1;
         if known <= wide16(symbols[i]) {
-            return Answer {
-                number: 32,
-                place: event,
-                value: 0,
-            };
+            return i;
         }
         let stamp = Stamp(stamps[i]);
         if stamp.0 < last.0 {
-            return Answer {
-                number: 33,
-                place: event,
-                value: 0,
-            };
+            return i;
         }
         last = stamp;
-        i = event;
+        i += 1;
+    }
+    i
+}
+
+// 32 and 33: the earliest bad event, from 1; its symbol before its stamp.
+pub(crate) fn check_events(symbol_count: u32, symbols: &[u16], stamps: &[u32]) -> Answer
+    requires { ⌜ length (now symbols) ≡ length (now stamps) ⌝ }
+    ensures { λ r. ⌜ r ≡ eventsAnswer «symbol_count» (now (symbols .entry)) (now (stamps .entry)) ⌝ }
+{
+    let good = good_events(symbol_count, symbols, stamps);
+    if symbols.len() <= good {
+        return Answer {
+            number: 0,
+            place: 0,
+            value: 0,
+        };
+    }
+    let event = good + 1;
+    if wide32(symbol_count) <= wide16(symbols[good]) {
+        return Answer {
+            number: 32,
+            place: event,
+            value: 0,
+        };
     }
     Answer {
-        number: 0,
-        place: 0,
+        number: 33,
+        place: event,
         value: 0,
     }
 }

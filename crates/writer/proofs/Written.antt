@@ -10,7 +10,7 @@ use lib.Seq.{getD-drop, sets-eq}
 use borrow.Author.Tests.{ltb-false, lt-ltb, le-ltb, ne-eqb}
 use Rattle.model.specs.declared.Head.{Head}
 use Rattle.model.specs.declared.Answer.{Answer}
-use Rattle.model.specs.Basics.{written, Refusal, refusal, fine, refuse, passes, _⨾_}
+use Rattle.model.specs.Basics.{Refusal, refusal, fine, refuse, _⨾_}
 use Rattle.model.specs.Rules.{Edge, mostAtoms}
 use Rattle.model.specs.Runs.{noEdge}
 use Rattle.model.specs.Files.{ruleBytes}

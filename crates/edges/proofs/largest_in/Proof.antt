@@ -1,17 +1,13 @@
 -- `edges::largest_in` meets its contract: what was found so far, with the atoms to come, is what there is in all.
-use mathlib.Core.Path.{_≡_, sym, _∙_, ap, subst}
+use mathlib.Core.Path.{_≡_, _∙_}
 use mathlib.Core.Logic.{⊎-elim}
-use Prim.Native.Nat.{ℕ, _≤_, _<_, _+_, _-_, _^_, _*_}
-use native.Mathlib.Omega.{arith}
+use Prim.Native.Nat.{ℕ, _<_, _+_, _-_, _*_}
 use lib.ListN.{getD, drop}
 use borrow.Author.Needs.{needs}
 use Rattle.model.specs.Layout.{edgeFields, edgeWidth}
 use Rattle.edges.proofs.Laws.{Largest, largest-start, largest-next, largest-end, atom-constant, larger-less, larger-least, count-known}
 use Rattle.edges.proofs.largest_in.Statement.{statement}
 use Rattle.edges.proofs.largest_in.Tie as tie
-use Rattle.edges.proofs.largest_in.Reads as reads
-use Rattle.edges.proofs.largest_in.Lts as lts
-use Rattle.edges.proofs.number_at.Reads as number-at-reads
 
 abbrev Inv-loop : tie.InvT-loop
 Inv-loop edges e least at count most₀ j₀ most j =

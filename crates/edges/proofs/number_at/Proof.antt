@@ -1,5 +1,5 @@
 -- `edges::number_at` meets its contract: past the end the definitions read 0.
-use mathlib.Core.Path.{_≡_, sym}
+use mathlib.Core.Path.{sym}
 use borrow.Author.Needs.{needs}
 use lib.ListN.{List·getD-eq-default}
 use Rattle.edges.proofs.number_at.Statement.{statement}

@@ -1,14 +1,12 @@
 -- `edges::small_power` meets its contract: after k turns the product is the k-th power, which fits.
-use mathlib.Core.Path.{_≡_, sym, _∙_, ap}
-use Prim.Native.Nat.{_≤_, _-_, _^_, _*_}
+use mathlib.Core.Path.{_≡_, sym}
+use Prim.Native.Nat.{_≤_, _-_, _^_}
 use native.Mathlib.Omega.{arith}
 use native.Mathlib.Nat.{pow-zero}
 use borrow.Author.Needs.{needs}
 use Rattle.edges.proofs.Laws.{power-fits, power-next}
 use Rattle.edges.proofs.small_power.Statement.{statement}
 use Rattle.edges.proofs.small_power.Tie as tie
-use Rattle.edges.proofs.small_power.Reads as reads
-use Rattle.edges.proofs.small_power.Lts as lts
 
 abbrev Inv-loop : tie.InvT-loop
 Inv-loop base exponent power₀ k₀ power k = (k ≤ exponent) × (power ≡ base ^ k)

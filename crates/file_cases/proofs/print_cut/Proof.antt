@@ -4,9 +4,6 @@ use lib.Seq.{length-take-le}
 use borrow.Author.Needs.{needs}
 use Rattle.file_cases.proofs.print_cut.Statement.{statement}
 use Rattle.file_cases.proofs.print_cut.Tie as tie
-use Rattle.file_cases.proofs.print_cut.Reads as reads
-use Rattle.file_cases.proofs.print_cut.Lts as lts
-use Rattle.file_cases.proofs.print_reading.Reads as print-reading-reads
 
 slice-aggregate-cut : tie.Need-slice-aggregate-cut
 slice-aggregate-cut c = sym (length-take-le _ _ (search needs))

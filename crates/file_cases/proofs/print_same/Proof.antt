@@ -4,10 +4,6 @@ use lib.Seq.{length-take-le}
 use borrow.Author.Needs.{needs}
 use Rattle.file_cases.proofs.print_same.Statement.{statement}
 use Rattle.file_cases.proofs.print_same.Tie as tie
-use Rattle.file_cases.proofs.print_same.Reads as reads
-use Rattle.file_cases.proofs.print_same.Lts as lts
-use Rattle.check.proofs.same.Reads as same-reads
-use Rattle.file_cases.proofs.print_pair.Reads as print-pair-reads
 
 returns : tie.Need-returns
 returns c = search needs

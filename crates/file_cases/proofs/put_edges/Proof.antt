@@ -3,8 +3,6 @@ use Prim.Native.Nat.{_≤_, _-_}
 use borrow.Author.Needs.{needs}
 use Rattle.file_cases.proofs.put_edges.Statement.{statement}
 use Rattle.file_cases.proofs.put_edges.Tie as tie
-use Rattle.file_cases.proofs.put_edges.Reads as reads
-use Rattle.file_cases.proofs.put_edges.Lts as lts
 
 abbrev Inv-loop : tie.InvT-loop
 Inv-loop file₀ e₀ file e = e ≤ 257

@@ -4,11 +4,6 @@ use lib.ListN.{length}
 use borrow.Author.Needs.{needs}
 use Rattle.list_table.proofs.print_after_blanks.Statement.{statement}
 use Rattle.list_table.proofs.print_after_blanks.Tie as tie
-use Rattle.list_table.proofs.print_after_blanks.Reads as reads
-use Rattle.list_table.proofs.print_after_blanks.Lts as lts
-use Rattle.edges.proofs.wide32.Reads as wide32-reads
-use Rattle.list_table.proofs.print_blank.Reads as print-blank-reads
-use Rattle.list_table.proofs.print_number.Reads as print-number-reads
 
 abbrev Inv-loop : tie.InvT-loop
 Inv-loop part i₀ i = i ≤ length part

@@ -3,11 +3,6 @@ use Prim.Native.Nat.{_≤_, _-_}
 use borrow.Author.Needs.{needs}
 use Rattle.list_table.proofs.print_cells.Statement.{statement}
 use Rattle.list_table.proofs.print_cells.Tie as tie
-use Rattle.list_table.proofs.print_cells.Reads as reads
-use Rattle.list_table.proofs.print_cells.Lts as lts
-use Rattle.edges.proofs.wide32.Reads as wide32-reads
-use Rattle.list_table.proofs.part_of.Reads as part-of-reads
-use Rattle.list_table.proofs.print_line.Reads as print-line-reads
 
 abbrev Inv-loop : tie.InvT-loop
 Inv-loop built cells at width next₀ symbol₀ next symbol = (symbol ≤ built .symbols) × (2 ≤ width)

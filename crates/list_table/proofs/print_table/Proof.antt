@@ -3,14 +3,6 @@ use Prim.Native.Nat.{_≤_, _-_}
 use borrow.Author.Needs.{needs}
 use Rattle.list_table.proofs.print_table.Statement.{statement}
 use Rattle.list_table.proofs.print_table.Tie as tie
-use Rattle.list_table.proofs.print_table.Reads as reads
-use Rattle.list_table.proofs.print_table.Lts as lts
-use Rattle.edges.proofs.wide32.Reads as wide32-reads
-use Rattle.list_table.proofs.end_line.Reads as end-line-reads
-use Rattle.list_table.proofs.print_blank.Reads as print-blank-reads
-use Rattle.list_table.proofs.print_cells.Reads as print-cells-reads
-use Rattle.list_table.proofs.print_head.Reads as print-head-reads
-use Rattle.list_table.proofs.print_number.Reads as print-number-reads
 
 abbrev Inv-loop : tie.InvT-loop
 Inv-loop built cells rows pool at₀ row₀ at row = row ≤ built .rows

@@ -4,11 +4,6 @@ use lib.ListN.{length}
 use borrow.Author.Needs.{needs}
 use Rattle.run_cases.proofs.follow_all.Statement.{statement}
 use Rattle.run_cases.proofs.follow_all.Tie as tie
-use Rattle.run_cases.proofs.follow_all.Reads as reads
-use Rattle.run_cases.proofs.follow_all.Lts as lts
-use Rattle.follower.proofs.follow_event.Reads as follow-event-reads
-use Rattle.follower.proofs.start_follower.Reads as start-follower-reads
-use Rattle.walk.proofs.verdict.Reads as verdict-reads
 
 abbrev Inv-loop : tie.InvT-loop
 Inv-loop built cells rows pool grain symbols stamps follower₀ i₀ follower i = i ≤ length symbols

@@ -1,4 +1,5 @@
--- `shape::codes_below` meets its contract: what holds of the codes to come is what holds of all.
+-- `shape::codes_below` meets its contract: what the flag says and what holds of the codes to come is what holds of all.
+use mathlib.Core.Logic.{⊎-elim}
 use Prim.Native.Nat.{_-_}
 use lib.ListN.{length}
 use borrow.Author.Needs.{needs}
@@ -7,25 +8,19 @@ use Rattle.shape.proofs.codes_below.Statement.{statement}
 use Rattle.shape.proofs.codes_below.Tie as tie
 
 abbrev Inv-loop : tie.InvT-loop
-Inv-loop limit codes i₀ i = CodesBelow limit codes i
+Inv-loop limit codes below₀ i₀ below i = CodesBelow limit codes below i
 
 abbrev μ-loop : tie.MeasureT-loop
-μ-loop limit codes i₀ i = length codes - i
+μ-loop limit codes below₀ i₀ below i = length codes - i
 
 loop-holds : tie.Need-loop-holds Inv-loop μ-loop
 loop-holds c = codes-start _ _
 
-mul-wide32 : tie.Need-mul-wide32 Inv-loop μ-loop
-mul-wide32 c = search needs
+mul-if1 : tie.Need-mul-if1 Inv-loop μ-loop
+mul-if1 c = search needs
 
-shared-slice-read-wide32 : tie.Need-shared-slice-read-wide32 Inv-loop μ-loop
-shared-slice-read-wide32 c = search needs
-
-wide32-requires : tie.Need-wide32-requires Inv-loop μ-loop
-wide32-requires c κs = search needs
-
-returns : tie.Need-returns Inv-loop μ-loop
-returns c = code-high (c .before .before .before .before .loop .inv) (search needs) (search needs)
+shared-slice-read-if1 : tie.Need-shared-slice-read-if1 Inv-loop μ-loop
+shared-slice-read-if1 c = search needs
 
 add-i : tie.Need-add-i Inv-loop μ-loop
 add-i c = search needs
@@ -34,10 +29,14 @@ loop-less : tie.Need-loop-less Inv-loop μ-loop
 loop-less c = search needs
 
 loop-again : tie.Need-loop-again Inv-loop μ-loop
-loop-again c = codes-next (c .before .before .before .before .loop .inv) (search needs) (search needs)
+loop-again c =
+    let l = c .before .before .before .loop in
+    ⊎-elim (λ w. rw (w .1) (code-high (l .inv) (search needs) (w .0 .taken)))
+    (λ w. rw (w .1) (codes-next (l .inv) (search needs) (w .0 .left)))
+    (c .if1 .came)
 
-returns-2 : tie.Need-returns-2 Inv-loop μ-loop
-returns-2 c = codes-end (c .before .loop .inv) (search needs)
+returns : tie.Need-returns Inv-loop μ-loop
+returns c = codes-end (c .before .loop .inv) (search needs)
 
 pub codes-below-spec : {M : Type 1} → statement M
 codes-below-spec =
@@ -46,11 +45,9 @@ codes-below-spec =
     Inv-loop
     μ-loop
     loop-holds
-    mul-wide32
-    shared-slice-read-wide32
-    wide32-requires
-    returns
+    mul-if1
+    shared-slice-read-if1
     add-i
     loop-less
     loop-again
-    returns-2)
+    returns)

@@ -4,63 +4,88 @@ use mathlib.Core.Bool.{true}
 use borrow.Author.Needs.{needs}
 use Rattle.model.specs.Walks.{builtSizesOk}
 use Rattle.model.proofs.Flags.{is-false, is-true}
-use Rattle.shape.proofs.Shape.{Sized, Linked, Coded, ranges, sizes-out, too-short, rows-reach, pool-part}
-use Rattle.shape.proofs.Shape.{chain-out, code-out, cells-part, all-but-cells}
+use Rattle.shape.specs.Ranges.{sizesInRange}
+use Rattle.shape.proofs.Sizes.{in-range}
+use Rattle.shape.proofs.Shape.{Sized, Linked, Coded, sizes-hold, ranges, rows-most, sizes-out, counts-out}
+use Rattle.shape.proofs.Shape.{too-short, rows-reach, pool-part, chain-out, code-out, cells-part}
+use Rattle.shape.proofs.Shape.{all-but-cells}
 use Rattle.shape.proofs.in_shape.Statement.{statement}
 use Rattle.shape.proofs.in_shape.Tie as tie
 
--- what is settled where the sizes are in order, where the rows and P are read, and after the rows and the codes
-sized-at : (c : tie.Else1) → builtSizesOk (c .before .before .before .before .before .args .built) ≡ true
-sized-at c = is-true (c .before .sizes-ok .ensures) (c .if1 .left)
+-- what is settled where the ranges and the counts are in order, where the rows and P are read, and after the rows
+-- and the codes
+ranged-at : (c : tie.Else1) → sizesInRange (c .before .before .before .before .before .args .built) ≡ true
+ranged-at c = is-true (c .before .in-range .ensures) (c .if1 .left)
+
+sized-at : (c : tie.Else2) → builtSizesOk (c .before .before .before .before .before .before .before .before .args .built) ≡ true
+sized-at c =
+    let k = c .before .before in
+    let counts = is-true (c .before .counts-ok .ensures) (c .if2 .left) in
+    sizes-hold (k .before .before .before .before .before .before .args .built) _ (ranged-at (k .before))
+    (k .pair-count .ensures)
+    counts
 
 counted-at :
     (c : tie.After-wide322)
-    → let a = c .before .before .before .before .before .before .before .before .before .args in
-    Sized (a .built) (a .cells .now) (a .rows .now) (a .pool .now) (c .before .wide32 .result) (c .wide322 .result)
-counted-at c = record {
-  sizes = sized-at (c .before .before .before .before);
-  long = is-true (c .before .before .before .long-enough .ensures) (c .before .before .if2 .left);
-  count-is = c .before .wide32 .ensures .0;
-  total-is = c .wide322 .ensures .0;
-}
+    → let a = c .before .before .before .before .before .before .before .before .before .before .before .before .args in
+    Sized (a .built) (a .cells .now) (a .rows .now) (a .pool .now) (c .wide322 .result) (c .before .wide32 .result)
+counted-at c =
+    let k = c .before .before in
+    record {
+      sizes = sized-at (k .before .before);
+      long = is-true (k .before .long-enough .ensures) (k .if3 .left);
+      count-is = c .wide322 .ensures .0;
+      total-is = c .before .wide32 .ensures .0;
+    }
 
 linked-at :
-    (c : tie.After-pair-count)
-    → let k = c .before .before .before in
-    let a = k .before .before .before .before .before .before .before .before .before .args in
-    Linked (a .built) (a .cells .now) (a .rows .now) (a .pool .now) (k .before .wide32 .result) (k .wide322 .result)
-    (c .pair-count .result)
+    (c : tie.Else4)
+    → let k = c .before .before in
+    let a = k .before .before .before .before .before .before .before .before .before .before .before .before .args in
+    Linked (a .built) (a .cells .now) (a .rows .now) (a .pool .now) (k .wide322 .result) (k .before .wide32 .result)
+    (k .before .before .before .before .before .before .pair-count .result)
 linked-at c = record {
-  sized = counted-at (c .before .before .before);
-  chain = is-true (c .before .before .rows-chain .ensures) (c .before .if3 .left);
-  pairs-are = c .pair-count .ensures;
+  sized = counted-at (c .before .before);
+  chain = is-true (c .before .rows-chain .ensures) (c .if4 .left);
+  pairs-are = c .before .before .before .before .before .before .before .before .pair-count .ensures;
 }
 
 coded-at :
     (c : tie.After-cell-need)
-    → let d = c .before .before .before .before in
-    let k = d .before .before .before in
-    let a = k .before .before .before .before .before .before .before .before .before .args in
-    Coded (a .built) (a .cells .now) (a .rows .now) (a .pool .now) (k .before .wide32 .result) (k .wide322 .result)
-    (d .pair-count .result)
+    → let k = c .before .before .before .before .before .before in
+    let a = k .before .before .before .before .before .before .before .before .before .before .before .before .args in
+    Coded (a .built) (a .cells .now) (a .rows .now) (a .pool .now) (k .wide322 .result) (k .before .wide32 .result)
+    (k .before .before .before .before .before .before .pair-count .result)
     (c .cell-need .result)
 coded-at c = record {
   linked = linked-at (c .before .before .before .before);
-  codes = is-true (c .before .before .codes-below .ensures) (c .before .if4 .left);
+  codes = is-true (c .before .before .codes-below .ensures) (c .before .if5 .left);
   need-is = c .cell-need .ensures;
 }
 
-sizes-ok-requires : tie.Need-sizes-ok-requires
-sizes-ok-requires c κs = search needs
+in-range-requires : tie.Need-in-range-requires
+in-range-requires c κs = search needs
 
 returns : tie.Need-returns
-returns c = sizes-out _ (is-false (c .before .sizes-ok .ensures) (c .if1 .taken))
+returns c = sizes-out _ (is-false (c .before .in-range .ensures) (c .if1 .taken))
+
+pair-count-requires : tie.Need-pair-count-requires
+pair-count-requires c κs = in-range _ (ranged-at c)
+
+counts-ok-requires : tie.Need-counts-ok-requires
+counts-ok-requires c κs = search needs
+
+returns-2 : tie.Need-returns-2
+returns-2 c =
+    let k = c .before .before in
+    counts-out _ _ (ranged-at (k .before)) (k .pair-count .ensures)
+    (is-false (c .before .counts-ok .ensures) (c .if2 .taken))
 
 long-enough-requires : tie.Need-long-enough-requires
 long-enough-requires c κs = ranges _ (sized-at c)
 
-returns-2 : tie.Need-returns-2
-returns-2 c = too-short _ (sized-at (c .before .before)) (is-false (c .before .long-enough .ensures) (c .if2 .taken))
+returns-3 : tie.Need-returns-3
+returns-3 c = too-short _ (sized-at (c .before .before)) (is-false (c .before .long-enough .ensures) (c .if3 .taken))
 
 wide32-requires : tie.Need-wide32-requires
 wide32-requires c κs = search needs
@@ -71,11 +96,8 @@ wide32-requires-2 c κs = search needs
 rows-chain-requires : tie.Need-rows-chain-requires
 rows-chain-requires c κs = (search needs, rows-reach (counted-at c))
 
-returns-3 : tie.Need-returns-3
-returns-3 c = chain-out (counted-at (c .before .before)) (is-false (c .before .rows-chain .ensures) (c .if3 .taken))
-
-pair-count-requires : tie.Need-pair-count-requires
-pair-count-requires c κs = ranges _ (counted-at (c .before .before) .sizes)
+returns-4 : tie.Need-returns-4
+returns-4 c = chain-out (counted-at (c .before .before)) (is-false (c .before .rows-chain .ensures) (c .if4 .taken))
 
 slice-aggregate-codes-below : tie.Need-slice-aggregate-codes-below
 slice-aggregate-codes-below c = pool-part (linked-at (c .before) .sized)
@@ -83,9 +105,9 @@ slice-aggregate-codes-below c = pool-part (linked-at (c .before) .sized)
 codes-below-requires : tie.Need-codes-below-requires
 codes-below-requires c κs = search needs
 
-returns-4 : tie.Need-returns-4
-returns-4 c =
-    code-out (linked-at (c .before .before .before)) (is-false (c .before .codes-below .ensures) (c .if4 .taken))
+returns-5 : tie.Need-returns-5
+returns-5 c =
+    code-out (linked-at (c .before .before .before)) (is-false (c .before .codes-below .ensures) (c .if5 .taken))
 
 cell-need-requires : tie.Need-cell-need-requires
 cell-need-requires c κs = ranges _ (linked-at (c .before .before .before) .sized .sizes)
@@ -94,28 +116,30 @@ slice-aggregate-cells-ok : tie.Need-slice-aggregate-cells-ok
 slice-aggregate-cells-ok c = cells-part (coded-at (c .before))
 
 cells-ok-requires : tie.Need-cells-ok-requires
-cells-ok-requires c κs = search needs
+cells-ok-requires c κs = rows-most (coded-at (c .before))
 
-returns-5 : tie.Need-returns-5
-returns-5 c = c .cells-ok .ensures _ ∙ all-but-cells (coded-at (c .before .before))
+returns-6 : tie.Need-returns-6
+returns-6 c = c .cells-ok .ensures _ ∙ all-but-cells (coded-at (c .before .before))
 
 pub in-shape-spec : {M : Type 1} → statement M
 in-shape-spec =
     tie.close
     (tie.spec
-    sizes-ok-requires
+    in-range-requires
     returns
-    long-enough-requires
+    pair-count-requires
+    counts-ok-requires
     returns-2
+    long-enough-requires
+    returns-3
     wide32-requires
     wide32-requires-2
     rows-chain-requires
-    returns-3
-    pair-count-requires
+    returns-4
     slice-aggregate-codes-below
     codes-below-requires
-    returns-4
+    returns-5
     cell-need-requires
     slice-aggregate-cells-ok
     cells-ok-requires
-    returns-5)
+    returns-6)

@@ -1,4 +1,6 @@
 -- `shape::pair_count` meets its contract: with sizes in range N fits.
+use Prim.Native.Nat.{_*_, _^_, _<_}
+use native.Mathlib.Omega.{arith}
 use borrow.Author.Needs.{needs}
 use Rattle.shape.proofs.Sizes.{pairs-are, pairs-fit}
 use Rattle.shape.proofs.pair_count.Statement.{statement}
@@ -19,22 +21,25 @@ wide32-requires-3 c κs = search needs
 power-requires : tie.Need-power-requires
 power-requires c κs = search needs
 
-mul-result : tie.Need-mul-result
-mul-result c =
+fits-at : (c : tie.After-power) → c .before .before .before .wide32 .result * c .power .result < 2 ^ 32
+fits-at c =
     let k = c .before .before .before in
-    let b = k .before .args .built in
-    record {
-      fits =
-          pairs-fit b (k .before .pre) _ _ _ _ (k .wide32 .ensures .0) (c .before .before .wide322 .ensures .0)
-          (c .before .wide323 .ensures .0)
-          (c .power .ensures);
-    }
+    pairs-fit (k .before .args .built) (k .before .pre) _ _ _ _ (k .wide32 .ensures .0)
+    (c .before .before .wide322 .ensures .0)
+    (c .before .wide323 .ensures .0)
+    (c .power .ensures)
+
+mul-pairs : tie.Need-mul-pairs
+mul-pairs c = omega (arith, fits-at c)
+
+cast-result : tie.Need-cast-result
+cast-result c = omega (arith, fits-at c)
 
 returns : tie.Need-returns
 returns c =
     let k = c .before .before .before in
-    let b = k .before .args .built in
-    pairs-are b (k .before .pre) _ _ _ _ (k .wide32 .ensures .0) (c .before .before .wide322 .ensures .0)
+    pairs-are (k .before .args .built) (k .before .pre) _ _ _ _ (k .wide32 .ensures .0)
+    (c .before .before .wide322 .ensures .0)
     (c .before .wide323 .ensures .0)
     (c .power .ensures)
 
@@ -47,5 +52,6 @@ pair-count-spec =
     add-power
     wide32-requires-3
     power-requires
-    mul-result
+    mul-pairs
+    cast-result
     returns)

@@ -1,5 +1,4 @@
 -- `verdict::decide` meets its promise: whichever call refuses first, and where none does, the three promises give it.
-use mathlib.Core.Path.{_≡_}
 use Rattle.model.proofs.Decision.{unread, unbuilt, decided}
 use borrow.Author.Needs.{needs}
 use Rattle.verdict.proofs.decide.Statement.{statement}

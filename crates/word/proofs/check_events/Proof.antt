@@ -1,78 +1,57 @@
--- `word::check_events` meets its contract: what is to be found from event i on is what is to be found in all.
-use mathlib.Core.Path.{_≡_}
-use Prim.Native.Nat.{_-_}
-use lib.ListN.{length}
+-- `word::check_events` meets its contract: the event after the good ones is refused by its symbol, or by its stamp.
 use borrow.Author.Needs.{needs}
-use Rattle.word.proofs.Laws.{Passed, passed-none, passed-all, passed-next, at-symbol, at-stamp}
+use Rattle.word.specs.Answers.{StopsAt}
+use Rattle.word.proofs.Laws.{passed-all, at-symbol, at-stamp}
 use Rattle.word.proofs.check_events.Statement.{statement}
 use Rattle.word.proofs.check_events.Tie as tie
 
-abbrev Inv-loop : tie.InvT-loop
-Inv-loop symbol-count symbols stamps known last₀ i₀ last i =
-    (known ≡ symbol-count) × Passed symbol-count symbols stamps i (last .0)
+-- where the good events end, as seen where the next one's symbol is read
+stopped :
+    (c : tie.After-wide16)
+    → let k = c .before .before .before .before in
+    let a = k .before .before .before .args in
+    StopsAt (a .symbol-count) (a .symbols .now) (a .stamps .now) (k .good-events .result)
+stopped c = c .before .before .before .before .good-events .ensures
 
-abbrev μ-loop : tie.MeasureT-loop
-μ-loop symbol-count symbols stamps known last₀ i₀ last i = length symbols - i
+good-events-requires : tie.Need-good-events-requires
+good-events-requires c κs = search needs
 
-wide32-requires : tie.Need-wide32-requires Inv-loop μ-loop
-wide32-requires c κs = search needs
+returns : tie.Need-returns
+returns c = passed-all (c .before .good-events .ensures .passed) (c .if1 .taken)
 
-loop-holds : tie.Need-loop-holds Inv-loop μ-loop
-loop-holds c = (search needs, passed-none _ _ _)
-
-add-event : tie.Need-add-event Inv-loop μ-loop
+add-event : tie.Need-add-event
 add-event c = search needs
 
-mul-wide16 : tie.Need-mul-wide16 Inv-loop μ-loop
+wide32-requires : tie.Need-wide32-requires
+wide32-requires c κs = search needs
+
+mul-wide16 : tie.Need-mul-wide16
 mul-wide16 c = search needs
 
-shared-slice-read-wide16 : tie.Need-shared-slice-read-wide16 Inv-loop μ-loop
+shared-slice-read-wide16 : tie.Need-shared-slice-read-wide16
 shared-slice-read-wide16 c = search needs
 
-wide16-requires : tie.Need-wide16-requires Inv-loop μ-loop
+wide16-requires : tie.Need-wide16-requires
 wide16-requires c κs = search needs
 
-returns : tie.Need-returns Inv-loop μ-loop
-returns c = at-symbol (c .before .before .before .before .loop .inv .1) (search needs) (search needs) (search needs)
+returns-2 : tie.Need-returns-2
+returns-2 c = at-symbol (stopped (c .before) .passed) (search needs) (search needs) (search needs)
 
-mul-t9 : tie.Need-mul-t9 Inv-loop μ-loop
-mul-t9 c = search needs
-
-shared-slice-read-t15 : tie.Need-shared-slice-read-t15 Inv-loop μ-loop
-shared-slice-read-t15 c = search needs
-
-returns-2 : tie.Need-returns-2 Inv-loop μ-loop
-returns-2 c =
-    let l = c .before .before .before .before .before .before .before .before .loop in
-    at-stamp (l .inv .1) (search needs) (search needs) (search needs) (search needs)
-
-loop-less : tie.Need-loop-less Inv-loop μ-loop
-loop-less c = search needs
-
-loop-again : tie.Need-loop-again Inv-loop μ-loop
-loop-again c =
-    let l = c .before .before .before .before .before .before .before .before .loop in
-    (search needs, passed-next (l .inv .1) (search needs) (search needs) (search needs) (search needs))
-
-returns-3 : tie.Need-returns-3 Inv-loop μ-loop
-returns-3 c = passed-all (c .before .loop .inv .1) (search needs)
+returns-3 : tie.Need-returns-3
+returns-3 c =
+    let s = stopped (c .before) in
+    at-stamp (s .passed) (search needs) (search needs) (search needs) (s .stamp-falls (search needs) (search needs))
 
 pub check-events-spec : {M : Type 1} → statement M
 check-events-spec =
     tie.close
     (tie.spec
-    Inv-loop
-    μ-loop
-    wide32-requires
-    loop-holds
+    good-events-requires
+    returns
     add-event
+    wide32-requires
     mul-wide16
     shared-slice-read-wide16
     wide16-requires
-    returns
-    mul-t9
-    shared-slice-read-t15
     returns-2
-    loop-less
-    loop-again
     returns-3)
