@@ -1,4 +1,4 @@
--- Before all rows are filled: the tables cleared, the room for rows, and the start row refused at once or given number 0.
+-- Before all rows are filled: the tables cleared, the room for rows, the start row refused at once or given number 0.
 use mathlib.Core.Path.{_≡_, sym, _∙_, ap, ap₂, subst}
 use mathlib.Core.List.{List, [], _∷_}
 use Prim.Native.Nat.{ℕ, zero, suc, _+_, _-_, _*_, _/_, _≤_}

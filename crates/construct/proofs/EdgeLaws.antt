@@ -72,7 +72,8 @@ fields-of h t count n valid q l =
 
 -- The first link is the first edge that leaves; from a location or on a symbol that no rule has, none does.
 none-leaves :
-    (l s n : ℕ) (es : List Edge) → ((e : Edge) → In e es → leavesOn l s e ≡ false) → firstLeaving l s n es ≡ n + length es
+    (l s n : ℕ) (es : List Edge) → ((e : Edge) → In e es → leavesOn l s e ≡ false) → firstLeaving l s n es
+    ≡ n + length es
 none-leaves l s n [] h = omega arith
 none-leaves l s n (e ∷ es) h =
     rw (h e (here refl)) (none-leaves l s (suc n) es (λ f i. h f (there i)) ∙ omega arith)
@@ -149,7 +150,8 @@ pub targets-from :
     → pairTargets r s i timer x (drop n (r .edges)) row
     ≡ pairTargets r s i timer x (drop (leavingFrom (r .edges) (locationOf r x) s n) (r .edges)) row
 targets-from r s i timer x row n =
-    from-first (locationOf r x) s (λ es. pairTargets r s i timer x es row) (targets-blind r s i timer x row) (r .edges) n
+    from-first (locationOf r x) s (λ es. pairTargets r s i timer x es row) (targets-blind r s i timer x row)
+    (r .edges) n
 
 -- What the code tests at edge n, and where it leads, is the construction's.
 module _

@@ -7,7 +7,8 @@ use native.Mathlib.Omega.{arith}
 use native.Mathlib.Numerals.{add-one}
 use native.Mathlib.Nat.{add-zero}
 use lib.Dec.{eqb}
-use lib.ListN.{length, getD, set, take, drop, length-append, length-replicate, length-set, take-append-drop, replicate-append-replicate}
+use lib.ListN.{length, getD, set, take, drop, length-append, length-replicate, length-set, take-append-drop}
+use lib.ListN.{replicate-append-replicate}
 use lib.Seq.{take-suc, drop-cons, set-at, getD-at, length-take-le}
 use borrow.Author.Tests.{eq-eqb, ne-eqb}
 use Rattle.model.specs.Basics.{pick, zeros}

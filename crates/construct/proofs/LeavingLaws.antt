@@ -13,7 +13,8 @@ use Rattle.model.specs.Basics.{pick}
 use Rattle.model.specs.Rules.{Edge}
 use Rattle.model.specs.Runs.{noEdge}
 use Rattle.model.proofs.Logic.{no-way, by-test, and-left, and-right, and-both, Cmp, cmp, is-lt, is-eq, is-gt}
-use Rattle.construct.specs.Leaving.{firstLeaving, leavingFrom, edgeOf, firstPlace, nextPlace, firstLink, LinkedFrom}
+use Rattle.construct.specs.Leaving.{firstLeaving, leavingFrom, edgeOf, firstPlace, nextPlace, firstLink}
+use Rattle.construct.specs.Leaving.{LinkedFrom}
 
 first-least : (l s n : ℕ) (es : List Edge) → n ≤ firstLeaving l s n es
 first-least l s n [] = omega arith

@@ -20,7 +20,8 @@ use Rattle.construct.specs.declared.Progress.{Progress}
 use Rattle.construct.specs.declared.Placed.{Placed}
 use Rattle.construct.specs.Rows.{rowsIn, foundIn, Held, Unfit, Numbered}
 use Rattle.construct.proofs.RowSearch.{rows-length}
-use Rattle.construct.proofs.RowTables.{filled-length, filled-set, filled-lay, rows-append, pool-append, rows-again}
+use Rattle.construct.proofs.RowTables.{filled-length, filled-set, filled-lay, rows-append, pool-append}
+use Rattle.construct.proofs.RowTables.{rows-again}
 
 -- rows that fit are passed
 fit-through :

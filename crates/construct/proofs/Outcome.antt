@@ -15,7 +15,8 @@ use Rattle.model.specs.Basics.{zeros, filled, Refusal, refusal, fine, refuse}
 use Rattle.model.specs.Rules.{pairCount}
 use Rattle.model.specs.Construction.{rowsOf}
 use Rattle.model.specs.Layout.{edgeNeed, ruleIn, isReadable, ruleRefusal}
-use Rattle.model.specs.Tables.{cellNumbers, rowNumbers, poolNumbers, builtOf, tablesBy, tablesOf, rowRoom, fitRefusal, tableRefusal}
+use Rattle.model.specs.Tables.{cellNumbers, rowNumbers, poolNumbers, builtOf, tablesBy, tablesOf, rowRoom, fitRefusal}
+use Rattle.model.specs.Tables.{tableRefusal}
 use Rattle.model.specs.Promises.{buildRefusal, BuildsTable, ChecksRule}
 use Rattle.model.proofs.Refusals.{on-pass, on-refused, refuse-fine, refuse-met}
 use Rattle.model.proofs.Numbers.{Among, none, some, among-refuse, among-then}

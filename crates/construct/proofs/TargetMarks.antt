@@ -12,7 +12,8 @@ use Rattle.model.specs.Basics.{pick, zeros}
 use Rattle.model.specs.Rules.{Edge, Rule, pairCount}
 use Rattle.model.specs.Runs.{noEdge}
 use Rattle.model.specs.Layout.{edgeWidth, edgeIn, ruleIn}
-use Rattle.model.specs.Construction.{withCode, locationOf, allows, rowResets, targetOf, pairTargets, rowTargets, nextRow}
+use Rattle.model.specs.Construction.{withCode, locationOf, allows, rowResets, targetOf, pairTargets, rowTargets}
+use Rattle.model.specs.Construction.{nextRow}
 use Rattle.model.proofs.Valid.{valid-of}
 use Rattle.model.proofs.CodeBounds.{target-below}
 use Rattle.pairs.specs.declared.Scale.{Scale}

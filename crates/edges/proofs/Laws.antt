@@ -21,7 +21,8 @@ pub power-fits : (base k : ℕ) → base ≤ 65535 → k < 4 → base ^ k * base
 power-fits base k h g =
     let a : base ^ k * base ≡ base ^ suc k = sym (pow-suc base k) in
     rw a
-    (le-trans (pow-le-pow-left h (suc k)) (pow-le-pow-right {n = 65535} (omega arith) {i = suc k} {j = 4} (omega arith)))
+    (le-trans (pow-le-pow-left h (suc k)) (pow-le-pow-right {n = 65535} (omega arith) {i = suc k} {j = 4}
+    (omega arith)))
 
 pub power-next : (base k : ℕ) → base ^ k * base ≡ base ^ (k + 1)
 power-next base k = rw (add-one k) (sym (pow-suc base k))
@@ -55,7 +56,8 @@ module _ {least count j most : ℕ} {t : List ℕ} (inv : Largest least count j 
 pub record LargestEdge (least count e most : ℕ) (t : List ℕ) : Type 0 where
   pub turns : e ≤ count
   pub rest-is :
-      larger most (largestOf (edgesIn (count - e) (drop (edgeWidth * e) t))) ≡ larger least (largestOf (edgesIn count t))
+      larger most (largestOf (edgesIn (count - e) (drop (edgeWidth * e) t)))
+      ≡ larger least (largestOf (edgesIn count t))
 
 pub edges-start : (least count : ℕ) (t : List ℕ) → LargestEdge least count 0 least t
 edges-start least count t = let z : count - 0 ≡ count = omega arith in record { turns = omega arith; rest-is = rw z }
@@ -79,8 +81,11 @@ module _ {least count e most : ℕ} {t : List ℕ} (inv : LargestEdge least coun
 -- cm from the ceiling and the edges, in the loop's order
 larger-swap : (a b : ℕ) → larger a b ≡ larger b a
 larger-swap a b =
-    omega
-    (arith, larger-most a b (larger b a) (larger-right b a) (larger-left b a), larger-most b a (larger a b) (larger-right a b) (larger-left a b))
+    omega (
+      arith,
+      larger-most a b (larger b a) (larger-right b a) (larger-left b a),
+      larger-most b a (larger a b) (larger-right a b) (larger-left a b),
+    )
 
 pub cm-found :
     (h : Head) (t : List ℕ) (most count ceiling first : ℕ) → count ≡ h .count → ceiling ≡ h .ceiling
@@ -95,10 +100,13 @@ cm-found h t most count ceiling first n c f e =
 pub edge-count : (t : List ℕ) (e : ℕ) → getD t (29 * e + 4) 0 ≡ getD (drop (edgeWidth * e) t) 4 0
 edge-count t e = sym (getD-drop (edgeWidth * e) t 4 0)
 
-pub atom-constant : (t : List ℕ) (e j : ℕ) → getD t (29 * e + 3 * j + 7) 0 ≡ getD (drop edgeFields (drop (edgeWidth * e) t)) (3 * j + 2) 0
+pub atom-constant :
+    (t : List ℕ) (e j : ℕ)
+    → getD t (29 * e + 3 * j + 7) 0 ≡ getD (drop edgeFields (drop (edgeWidth * e) t)) (3 * j + 2) 0
 atom-constant t e j =
     let a : 29 * e + 3 * j + 7 ≡ 29 * e + (5 + (3 * j + 2)) = omega arith in
-    rw a (sym (getD-drop edgeFields (drop (edgeWidth * e) t) (3 * j + 2) 0 ∙ getD-drop (edgeWidth * e) t (5 + (3 * j + 2)) 0))
+    rw a (sym (getD-drop edgeFields (drop (edgeWidth * e) t) (3 * j + 2) 0
+    ∙ getD-drop (edgeWidth * e) t (5 + (3 * j + 2)) 0))
 
 -- the larger of the two, as a branch finds it
 pub larger-less : (a b : ℕ) → a < b → b ≡ larger a b

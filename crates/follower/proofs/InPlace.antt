@@ -1,7 +1,7 @@
 -- A thin body that brings a follower forward where it is kept, whatever function has it: the borrow is opened and the
 -- record copied out whole; `follow_event` is called on the copy; the record of its answer is stored over the old one,
--- whole; and the borrow is closed at it. No field of the record is named, and all that is known of `follow_event` is its
--- contract. By hand, for a caller of a function that changes a lent record is not covered by the checker.
+-- whole; and the borrow is closed at it. No field of the record is named, and all that is known of `follow_event` is
+-- its contract. By hand: a function that changes a record lent by `&mut` is not covered by the checker.
 use mathlib.Core.Path.{_≡_, refl, ap}
 use Prim.Native.Nat.{ℕ, _<_, _^_}
 use mathlib.Core.List.{[], _∷_, List}

@@ -1,6 +1,7 @@
 // What C and Rust link: every public entry under a C name, with the promise of the function that it calls.
 // Records cross by value, a lent table as pointer and length, the follower kept in place as one pointer.
-ghost use Rattle.model.specs.Promises.{ChecksRule, ChecksWord, ChecksTable, ReadsRule, WritesRule, BuildsTable, RunsExact, RunsTable, StartsFollower, FollowsEvent, FollowsInPlace, Decides};
+ghost use Rattle.model.specs.Promises.{ChecksRule, ChecksWord, ChecksTable, ReadsRule, WritesRule, BuildsTable};
+ghost use Rattle.model.specs.Promises.{RunsExact, RunsTable, StartsFollower, FollowsEvent, FollowsInPlace, Decides};
 ghost use Rattle.head_library.specs.Lent.{RunsBranchesInto};
 use model::Answer;
 use model::Building;
@@ -65,7 +66,9 @@ pub extern "C" fn alderskein_build_table(
     rows: &mut [u32],
     pool: &mut [u32],
 ) -> Building
-    ensures { λ r. ⌜ BuildsTable head (now (edges .entry)) (now (scratch .entry)) (now (scratch .exit)) (now (cells .entry)) (now (cells .exit)) (now (rows .entry)) (now (rows .exit)) (now (pool .entry)) (now (pool .exit)) r ⌝ }
+    ensures { λ r.
+        ⌜ BuildsTable head (now (edges .entry)) (now (scratch .entry)) (now (scratch .exit)) (now (cells .entry))
+        (now (cells .exit)) (now (rows .entry)) (now (rows .exit)) (now (pool .entry)) (now (pool .exit)) r ⌝ }
 {
     construct::build_table(head, edges, scratch, cells, rows, pool)
 }
@@ -98,7 +101,9 @@ pub extern "C" fn alderskein_run_table(
     symbols: &[u16],
     stamps: &[u32],
 ) -> Answer
-    ensures { λ r. ⌜ RunsTable built (now (cells .entry)) (now (rows .entry)) (now (pool .entry)) grain (now (symbols .entry)) (now (stamps .entry)) r ⌝ }
+    ensures { λ r.
+        ⌜ RunsTable built (now (cells .entry)) (now (rows .entry)) (now (pool .entry)) grain (now (symbols .entry))
+        (now (stamps .entry)) r ⌝ }
 {
     walk::run_table(built, cells, rows, pool, grain, symbols, stamps)
 }
@@ -112,7 +117,9 @@ pub extern "C" fn alderskein_run_exact(
     stamps: &[u32],
     scratch: &mut [u32],
 ) -> Answer
-    ensures { λ r. ⌜ RunsExact head (now (edges .entry)) grain (now (symbols .entry)) (now (stamps .entry)) (now (scratch .entry)) (now (scratch .exit)) r ⌝ }
+    ensures { λ r.
+        ⌜ RunsExact head (now (edges .entry)) grain (now (symbols .entry)) (now (stamps .entry))
+        (now (scratch .entry)) (now (scratch .exit)) r ⌝ }
 {
     exact::run_exact(head, edges, grain, symbols, stamps, scratch)
 }
@@ -126,7 +133,9 @@ pub extern "C" fn alderskein_run_branches(
     stamps: &[u32],
     taken: &mut [u16; 12],
 ) -> BranchAnswer
-    ensures { λ r. ⌜ RunsBranchesInto head (now (edges .entry)) grain (now (symbols .entry)) (now (stamps .entry)) (now (taken .exit)) r ⌝ }
+    ensures { λ r.
+        ⌜ RunsBranchesInto head (now (edges .entry)) grain (now (symbols .entry)) (now (stamps .entry))
+        (now (taken .exit)) r ⌝ }
 {
     let run = branch::run_branches(head, edges, grain, symbols, stamps);
     let run_edges = run.edges;
@@ -157,7 +166,8 @@ pub extern "C" fn alderskein_follow_event(
     symbol: u16,
     stamp: Stamp,
 ) -> Followed
-    ensures { λ r. ⌜ FollowsEvent follower built (now (cells .entry)) (now (rows .entry)) (now (pool .entry)) symbol stamp r ⌝ }
+    ensures { λ r.
+        ⌜ FollowsEvent follower built (now (cells .entry)) (now (rows .entry)) (now (pool .entry)) symbol stamp r ⌝ }
 {
     if !shape::in_shape(built, cells, rows, pool) {
         return follower::out_of_shape(follower);
@@ -176,7 +186,9 @@ pub extern "C" fn alderskein_follow_in_place(
     symbol: u16,
     stamp: Stamp,
 ) -> Moved
-    ensures { λ r. ⌜ FollowsInPlace (now (follower .entry)) (now (follower .exit)) built (now (cells .entry)) (now (rows .entry)) (now (pool .entry)) symbol stamp r ⌝ }
+    ensures { λ r.
+        ⌜ FollowsInPlace (now (follower .entry)) (now (follower .exit)) built (now (cells .entry)) (now (rows .entry))
+        (now (pool .entry)) symbol stamp r ⌝ }
 {
     let was = *follower;
     let step = follower::follow_event(was, built, cells, rows, pool, symbol, stamp);
@@ -200,7 +212,10 @@ pub extern "C" fn alderskein_decide(
     symbols: &[u16],
     stamps: &[u32],
 ) -> Answer
-    ensures { λ r. ⌜ Decides (now (file .entry)) (now (edges .entry)) (now (edges .exit)) (now (scratch .entry)) (now (scratch .exit)) (now (cells .entry)) (now (cells .exit)) (now (rows .entry)) (now (rows .exit)) (now (pool .entry)) (now (pool .exit)) grain (now (symbols .entry)) (now (stamps .entry)) r ⌝ }
+    ensures { λ r.
+        ⌜ Decides (now (file .entry)) (now (edges .entry)) (now (edges .exit)) (now (scratch .entry))
+        (now (scratch .exit)) (now (cells .entry)) (now (cells .exit)) (now (rows .entry)) (now (rows .exit))
+        (now (pool .entry)) (now (pool .exit)) grain (now (symbols .entry)) (now (stamps .entry)) r ⌝ }
 {
     verdict::decide(
         file,

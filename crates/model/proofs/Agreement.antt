@@ -11,14 +11,18 @@ use Rattle.model.specs.Basics.{pick}
 use Rattle.model.specs.Rules.{Edge, Rule, cm}
 use Rattle.model.specs.Words.{Event, eventsOf}
 use Rattle.model.specs.Runs.{older, zeroed, canTake, startAges, acceptsFrom, accepts}
-use Rattle.model.specs.Construction.{intervalOf, codeOf, locationOf, basesOf, startBases, startRow, allows, rowResets, targetOf, nextRow, walksFrom, walks}
+use Rattle.model.specs.Construction.{intervalOf, codeOf, locationOf, basesOf, startBases, startRow, allows}
+use Rattle.model.specs.Construction.{rowResets, targetOf, nextRow, walksFrom, walks}
 use Rattle.model.specs.Demands.{Walk-agrees}
 use Rattle.model.proofs.Logic.{same-truth, In, Some}
 use Rattle.model.proofs.Valid.{Valid, valid-of, constant-below}
 use Rattle.model.proofs.Regions.{Whole, whole-at-even}
-use Rattle.model.proofs.Clocks.{TracksAll, guards-agree, advance-all, zero-all, zeroed-none, older-all, zeros-track}
-use Rattle.model.proofs.Codes.{digits-length, code-bases, start-bases, location-back, bases-back, target-location, target-bases}
-use Rattle.model.proofs.RowSets.{Reaches, next-has, next-of, no-reset, even-reset, final-has, final-of, start-has, start-of}
+use Rattle.model.proofs.Clocks.{TracksAll, guards-agree, advance-all, zero-all, zeroed-none, older-all}
+use Rattle.model.proofs.Clocks.{zeros-track}
+use Rattle.model.proofs.Codes.{digits-length, code-bases, start-bases, location-back, bases-back}
+use Rattle.model.proofs.Codes.{target-location, target-bases}
+use Rattle.model.proofs.RowSets.{Reaches, next-has, next-of, no-reset, even-reset, final-has, final-of}
+use Rattle.model.proofs.RowSets.{start-has, start-of}
 use Rattle.model.proofs.Runs.{final-accepts, moves-accept, accepts-moves, start-accepts, accepts-start}
 use Rattle.model.proofs.Words.{Ordered, fine-keeps}
 

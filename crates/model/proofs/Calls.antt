@@ -19,7 +19,8 @@ use Rattle.model.specs.Files.{readRule}
 use Rattle.model.specs.Layout.{edgeNeed, headOf, edgeTable, ruleIn, ruleRefusal}
 use Rattle.model.specs.Tables.{Tables, tables, builtOf, tablesBy, tablesOf, tableRefusal}
 use Rattle.model.specs.Walks.{inShape, shapeRefusal, tableAccepts}
-use Rattle.model.specs.Promises.{tooShort, readRefusal, ReadsRule, buildRefusal, tablesMade, BuildsTable, runRefusal}
+use Rattle.model.specs.Promises.{tooShort, readRefusal, ReadsRule, buildRefusal, tablesMade, BuildsTable}
+use Rattle.model.specs.Promises.{runRefusal}
 use Rattle.model.specs.Demands.{Left}
 use Rattle.model.proofs.Logic.{and-both}
 use Rattle.model.proofs.Refusals.{refused-false, first-passes, on-pass}
@@ -32,14 +33,16 @@ use Rattle.model.proofs.Numbers.{among-zero, read-numbers, table-number
 
 -- a number within a range that it is said not to be in
 pub outside : (low high n : ℕ) → within low high n ≡ false → low ≤ n → n ≤ high → ⊥
-outside low high n h a b = let z : true ≡ false = sym (and-both (leb low n) (leb n high) (le-leb low n a) (le-leb n high b)) ∙ h in no-truth z
+outside low high n h a b =
+    let z : true ≡ false = sym (and-both (leb low n) (leb n high) (le-leb low n a) (le-leb n high b)) ∙ h in no-truth z
   where
     no-truth : true ≡ false → ⊥
     no-truth z = let y : _≡_ {A = ℕ} 0 1 = cc in omega arith
 
 -- the built record and tables that the builder leaves are those of the construction
 pub same-tables :
-    (r : Rule) (c n p : ℕ) → tables (builtOf r) (tablesOf r c n p .cells) (tablesOf r c n p .rows) (tablesOf r c n p .pool) ≡ tablesOf r c n p
+    (r : Rule) (c n p : ℕ)
+    → tables (builtOf r) (tablesOf r c n p .cells) (tablesOf r c n p .rows) (tablesOf r c n p .pool) ≡ tablesOf r c n p
 unfolding builtOf tablesBy tablesOf
 same-tables r c n p = refl
 
@@ -53,7 +56,8 @@ read-short file edges h = rw h
 
 pub read-long : (file edges : List ℕ) → readRefusal file edges .number ≡ 0 → tooShort edges ≡ false
 unfolding readRefusal
-read-long file edges h = refused-false (tooShort edges) 19 0 (first-passes (refuse (tooShort edges) 20 0) (readRule file .refused) h)
+read-long file edges h =
+    refused-false (tooShort edges) 19 0 (first-passes (refuse (tooShort edges) 20 0) (readRule file .refused) h)
 
 -- what the reader leaves of an accepted file
 pub record Read (file edges edges′ : List ℕ) (reading : Reading) : Type 0 where
@@ -70,7 +74,8 @@ pub record Made (r : Rule) (scratch cells cells′ rows rows′ pool pool′ : L
 
 pub built-numbered :
     (h : Head) (t scratch cells rows pool : List ℕ) (r : Rule) → ruleRefusal h t ≡ fine → ruleIn h t ≡ r
-    → buildRefusal h t scratch cells rows pool ≡ tableRefusal r (length scratch) (length cells) (length rows) (length pool)
+    → buildRefusal h t scratch cells rows pool
+    ≡ tableRefusal r (length scratch) (length cells) (length rows) (length pool)
 unfolding buildRefusal
 built-numbered h t scratch cells rows pool r f e =
     on-pass (ruleRefusal h t) (tableRefusal (ruleIn h t) (length scratch) (length cells) (length rows) (length pool))
@@ -85,7 +90,9 @@ pub made :
     → building .number ≡ 0
     → Made r scratch cells cells′ rows rows′ pool pool′ building
 made h t scratch scratch′ cells cells′ rows rows′ pool pool′ building r f e p z =
-    let numbered : buildRefusal h t scratch cells rows pool ≡ tableRefusal r (length scratch) (length cells) (length rows) (length pool) =
+    let numbered :
+    buildRefusal h t scratch cells rows pool
+    ≡ tableRefusal r (length scratch) (length cells) (length rows) (length pool) =
     built-numbered h t scratch cells rows pool r f e in
     let none : tableRefusal r (length scratch) (length cells) (length rows) (length pool) ≡ fine =
     among-zero (tableRefusal r (length scratch) (length cells) (length rows) (length pool)) (omega arith)
@@ -112,10 +119,13 @@ read file edges edges′ reading p z =
     (sym (ap (λ (f : Refusal). f .number) (read-numbered file edges long)) ∙ none) in
     let ok : validRule (readRule file .rule-is) ≡ true = spells-valid file fine-read in
     let refused : readRefusal file edges ≡ fine = read-numbered file edges long ∙ fine-read in
-    let head : reading .head ≡ headOf (readRule file .rule-is) = ap (λ (x : Reading). x .head) (p .answer-is) ∙ rw refused in
+    let head : reading .head ≡ headOf (readRule file .rule-is) = ap (λ (x : Reading). x .head) (p .answer-is)
+    ∙ rw refused in
     let table : edges′ ≡ edgeTable (length edges) (readRule file .rule-is) = p .edges-are ∙ rw (long, refused) in
-    let left : Left (readRule file .rule-is) (headOf (readRule file .rule-is)) (edgeTable (length edges) (readRule file .rule-is)) =
-    spelled (readRule file .rule-is) (length edges) ok (le-leb edgeNeed (length edges) (ltb-false (length edges) edgeNeed long)) in
+    let left : Left (readRule file .rule-is) (headOf (readRule file .rule-is))
+    (edgeTable (length edges) (readRule file .rule-is)) =
+    spelled (readRule file .rule-is) (length edges) ok (le-leb edgeNeed (length edges)
+    (ltb-false (length edges) edgeNeed long)) in
     record {
       accepted = fine-read;
       valid = ok;
@@ -143,5 +153,6 @@ pub answered :
     → Answered r (tablesOf r cells rows pool) d symbols stamps
 answered r scratch cells rows pool d symbols stamps v f = record {
   refused-by-word = run-numbered r cells rows pool d symbols stamps (built-in-shape r scratch cells rows pool v f);
-  says = λ w. table-walks r scratch cells rows pool d mostEvents symbols stamps v f w ∙ walk-agrees r d mostEvents symbols stamps v w;
+  says = λ w. table-walks r scratch cells rows pool d mostEvents symbols stamps v f w
+      ∙ walk-agrees r d mostEvents symbols stamps v w;
 }

@@ -15,7 +15,8 @@ use Rattle.model.specs.Rules.{Atom, hasEqual}
 use Rattle.model.specs.Runs.{holds, older, zeroedFrom}
 use Rattle.model.specs.Construction.{intervalOf, regionOf, regionRelated, regionsHold, advanced}
 use Rattle.model.proofs.Logic.{no-way, and-left, and-right, or-cases, In, here, there}
-use Rattle.model.proofs.Regions.{Tracks, near, side, related-agrees, even-region, Whole, advance-one, zero-one, older-one}
+use Rattle.model.proofs.Regions.{Tracks, near, side, related-agrees, even-region, Whole, advance-one, zero-one}
+use Rattle.model.proofs.Regions.{older-one}
 
 pub data TracksAll (c d t : ℕ) : List ℕ → List ℕ → Type 0 where
   none : TracksAll c d t [] []

@@ -4,7 +4,8 @@ use mathlib.Core.Bool.{Bool, true, false}
 use mathlib.Core.List.{List, [], _∷_}
 use Prim.Native.Nat.{ℕ, zero, suc, _+_, _*_, _/_, _^_, _<_}
 use native.Mathlib.Omega.{arith}
-use native.Mathlib.Nat.{mul-le-mul-right, mul-le-mul-left, pow-zero, pow-succ', one-le-pow, add-mul-div-left, add-mul-mod-self-left, div-eq-of-lt, mod-eq-of-lt, mod-lt}
+use native.Mathlib.Nat.{mul-le-mul-right, mul-le-mul-left, pow-zero, pow-succ', one-le-pow, add-mul-div-left}
+use native.Mathlib.Nat.{add-mul-mod-self-left, div-eq-of-lt, mod-eq-of-lt, mod-lt}
 use lib.Arith.{digits-div, digits-mod}
 use lib.Dec.{ltb}
 use lib.ListN.{length}
@@ -12,7 +13,8 @@ use borrow.Author.Tests.{ltb-false}
 use Rattle.model.specs.Basics.{pick, zeros, bit, quotient, remainder}
 use Rattle.model.specs.Rules.{Edge, Rule, cm, baseCount, pairCount}
 use Rattle.model.specs.Runs.{zeroedFrom, zeroed}
-use Rattle.model.specs.Construction.{digitsCode, digitsOf, codeOf, locationOf, basesOf, startBases, advanced, targetOf}
+use Rattle.model.specs.Construction.{digitsCode, digitsOf, codeOf, locationOf, basesOf, startBases, advanced}
+use Rattle.model.specs.Construction.{targetOf}
 use Rattle.model.proofs.Logic.{by-test, quotient-is, remainder-is}
 
 -- k digits, each below m

@@ -16,7 +16,8 @@ use Rattle.model.specs.Runs.{accepts}
 use Rattle.model.specs.Files.{readRule}
 use Rattle.model.specs.Tables.{Tables, tables, tableRefusal}
 use Rattle.model.specs.Walks.{tableAccepts}
-use Rattle.model.specs.Promises.{answerOf, readRefusal, ReadsRule, buildRefusal, BuildsTable, runRefusal, RunsTable, roomedRefusal, decideRefusal, Decides}
+use Rattle.model.specs.Promises.{answerOf, readRefusal, ReadsRule, buildRefusal, BuildsTable, runRefusal}
+use Rattle.model.specs.Promises.{RunsTable, roomedRefusal, decideRefusal, Decides}
 use Rattle.model.proofs.Logic.{by-test}
 use Rattle.model.proofs.Refusals.{on-pass, on-refused}
 use Rattle.model.proofs.Numbers.{among-zero, word-numbers}
@@ -80,7 +81,8 @@ same-answer r t d symbols stamps z =
 
 module _
     (file edges edges′ scratch scratch′ cells cells′ rows rows′ pool pool′ : List ℕ) (d : ℕ) (symbols stamps : List ℕ)
-    (reading : Reading) (building : Building) (p : ReadsRule file edges edges′ reading) (zero-read : reading .number ≡ 0)
+    (reading : Reading) (building : Building) (p : ReadsRule file edges edges′ reading)
+    (zero-read : reading .number ≡ 0)
     (q : BuildsTable (reading .head) edges′ scratch scratch′ cells cells′ rows rows′ pool pool′ building) where
   abbrev r : Rule
   r = readRule file .rule-is
@@ -94,16 +96,25 @@ module _
   goes-on : passes (readRefusal file edges) ≡ true
   goes-on = eq-eqb (readRefusal file edges .number) 0 reads
 
-  same-refusal : buildRefusal (reading .head) edges′ scratch cells rows pool ≡ roomedRefusal file scratch cells rows pool
+  same-refusal :
+      buildRefusal (reading .head) edges′ scratch cells rows pool
+      ≡ roomedRefusal file scratch cells rows pool
   unfolding roomedRefusal
   same-refusal = built-numbered (reading .head) edges′ scratch cells rows pool r (left .passes-both) (left .spells-it)
 
-  decided-so-far : decideRefusal file edges scratch cells rows pool d symbols stamps ≡ (roomedRefusal file scratch cells rows pool ⨾ wordRefusal (r .symbols) d mostEvents symbols stamps)
+  decided-so-far :
+      decideRefusal file edges scratch cells rows pool d symbols stamps
+      ≡ (roomedRefusal file scratch cells rows pool ⨾ wordRefusal (r .symbols) d mostEvents symbols stamps)
   unfolding decideRefusal
   decided-so-far = on-pass (readRefusal file edges) _ reads
 
   -- the tables at exit, whatever the builder answers
-  made-so-far : (answer : Answer) → answer ≡ answerOf (decideRefusal file edges scratch cells rows pool d symbols stamps) (oneIf (accepts r d (eventsOf symbols stamps))) → Decides file edges edges′ scratch scratch′ cells cells′ rows rows′ pool pool′ d symbols stamps answer
+  made-so-far :
+      (answer : Answer)
+      → answer
+      ≡ answerOf (decideRefusal file edges scratch cells rows pool d symbols stamps)
+      (oneIf (accepts r d (eventsOf symbols stamps)))
+      → Decides file edges edges′ scratch scratch′ cells cells′ rows rows′ pool pool′ d symbols stamps answer
   made-so-far answer a = record {
     answer-is = a;
     edges-are = p .edges-are;
@@ -148,4 +159,5 @@ module _
       (u .answer-is
       ∙ (same-answer r (tables (building .built) cells′ rows′ pool′) d symbols stamps z
       ∙ ap (λ (f : Refusal). answerOf f (oneIf (accepts r d (eventsOf symbols stamps))))
-      (sym (decided-so-far ∙ word-alone file scratch cells rows pool (y .fits) (wordRefusal (r .symbols) d mostEvents symbols stamps)))))
+      (sym (decided-so-far ∙ word-alone file scratch cells rows pool (y .fits)
+      (wordRefusal (r .symbols) d mostEvents symbols stamps)))))

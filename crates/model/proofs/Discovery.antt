@@ -10,12 +10,15 @@ use native.Mathlib.Numerals.{add-one}
 use lib.ListN.{length, List·getD-eq-default}
 use borrow.Author.Tests.{ltb-true, lt-ltb, le-leb, lt-leb}
 use Rattle.model.specs.Rules.{Rule}
-use Rattle.model.specs.Construction.{width, startRow, nextRow, rowAt, numberOf, withRow, byIntervals, bySymbols, rowsFrom, mostRows, rowsOf}
+use Rattle.model.specs.Construction.{width, startRow, nextRow, rowAt, numberOf, withRow, byIntervals, bySymbols}
+use Rattle.model.specs.Construction.{rowsFrom, mostRows, rowsOf}
 use Rattle.model.specs.Claims.{ascending, Rows-are}
 use Rattle.model.proofs.Logic.{Two, two, less, least, In, here, there, not-in-nil, in-at, in-append}
 use Rattle.model.proofs.Masks.{Asc}
 use Rattle.model.proofs.RowsKeep.{ascending-of, start-ascends, next-ascends}
-use Rattle.model.proofs.RowNumbers.{number-given, in-below, Extends, extends-self, extends-twice, extends-length, extends-at, extends-in, Present, present, absent, looked, with-extends, with-has, Placed, with-placed}
+use Rattle.model.proofs.RowNumbers.{number-given, in-below, Extends, extends-self, extends-twice}
+use Rattle.model.proofs.RowNumbers.{extends-length, extends-at, extends-in, Present, present, absent, looked}
+use Rattle.model.proofs.RowNumbers.{with-extends, with-has, Placed, with-placed}
 
 -- Rows, and rows after more successors were put in, one after another.
 pub data Grows (r : Rule) (after : List (List ℕ)) : List (List ℕ) → Type 0 where

@@ -9,7 +9,8 @@ use Rattle.model.specs.Rules.{Atom, Edge, Rule, rule, cm, pairCount}
 use Rattle.model.specs.Words.{eventsOf}
 use Rattle.model.specs.Runs.{acceptsFrom, acceptsFromSome, accepts}
 use Rattle.model.specs.Files.{recordRefusal, withRecord, atEnd, readFrom, readRule, edgeRecords, ruleBytes}
-use Rattle.model.specs.Construction.{codeOf, locationOf, basesOf, startRow, allows, rowResets, targetOf, nextRow, byIntervals, bySymbols, rowsFrom, rowsOf, cellOf}
+use Rattle.model.specs.Construction.{codeOf, locationOf, basesOf, startRow, allows, rowResets, targetOf}
+use Rattle.model.specs.Construction.{nextRow, byIntervals, bySymbols, rowsFrom, rowsOf, cellOf}
 use Rattle.model.specs.Tables.{Tables, tables, tablesBy, tablesOf}
 use Rattle.model.specs.Walks.{verdict}
 
@@ -64,7 +65,8 @@ nine =
 
 pub nine-hold : All-hold nine
 unfolding maskOf cm pairCount acceptsFrom acceptsFromSome accepts recordRefusal withRecord atEnd readFrom readRule
-    codeOf locationOf basesOf allows rowResets targetOf nextRow worked-file worked at-age-one edge-to ninth Holds All-hold nine
+    codeOf locationOf basesOf allows rowResets targetOf nextRow worked-file worked at-age-one edge-to ninth Holds
+    All-hold nine
 nine-hold = (refl, (refl, (refl, (refl, (refl, (refl, (refl, (refl, ((refl, refl), tt)))))))))
 
 -- The whole table of the worked case, in room that it fills: 3 rows, 2 codes.

@@ -10,7 +10,8 @@ use lib.ListN.{length}
 use borrow.Author.Tests.{lt-ltb}
 use Rattle.model.specs.Basics.{allBelow}
 use Rattle.model.specs.Rules.{Atom, Edge, Rule, rising}
-use Rattle.model.specs.Files.{numbers, sizesRecord, locationRecords, ceilingRecord, atomNumbers, edgeRecord, edgeRecords, ruleBytes}
+use Rattle.model.specs.Files.{numbers, sizesRecord, locationRecords, ceilingRecord, atomNumbers, edgeRecord}
+use Rattle.model.specs.Files.{edgeRecords, ruleBytes}
 use Rattle.model.proofs.Logic.{and-both, In, here, there}
 use Rattle.model.proofs.Valid.{AtomIn, EdgeIn, Valid}
 use Rattle.model.proofs.Rising.{rising-below, rising-rest}

@@ -9,7 +9,8 @@ use lib.ListN.{length, drop}
 use borrow.Author.Tests.{ltb-false, le-ltb, not-false}
 use Rattle.model.specs.Basics.{Refusal, fine, refuse, _⨾_}
 use Rattle.model.specs.Rules.{Rule}
-use Rattle.model.specs.Files.{recordHead, bodyLength, kindOf, bodyOf, bodyOk, cutShort, outOfOrder, oneTooMany, badSizes, outOfRange, notPinned, recordRefusal, withRecord}
+use Rattle.model.specs.Files.{recordHead, bodyLength, kindOf, bodyOf, bodyOk, cutShort, outOfOrder, oneTooMany}
+use Rattle.model.specs.Files.{badSizes, outOfRange, notPinned, recordRefusal, withRecord}
 use Rattle.model.proofs.Logic.{neither-right}
 use Rattle.model.proofs.Refusals.{refused-false, first-passes, then-passes}
 use Rattle.model.proofs.FileSteps.{recordLength, ruleAfter, bytesAfter, readOn, read-goes-on}

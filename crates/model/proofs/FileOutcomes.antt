@@ -9,7 +9,8 @@ use lib.ListN.{length}
 use borrow.Author.Tests.{lt-ltb, le-ltb, le-leb, lt-leb}
 use Rattle.model.specs.Basics.{Refusal, refusal, fine}
 use Rattle.model.specs.Rules.{Rule, pairCount, mostPairs}
-use Rattle.model.specs.Files.{bodyLength, kindOf, bodyOf, bodyOk, cutShort, outOfOrder, oneTooMany, badSizes, outOfRange, notPinned, recordRefusal, Spelt, unspelt, atEnd}
+use Rattle.model.specs.Files.{bodyLength, kindOf, bodyOf, bodyOk, cutShort, outOfOrder, oneTooMany, badSizes}
+use Rattle.model.specs.Files.{outOfRange, notPinned, recordRefusal, Spelt, unspelt, atEnd}
 use Rattle.model.proofs.FileSteps.{readOn, read-refuses}
 
 -- at the end

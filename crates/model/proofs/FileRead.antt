@@ -6,8 +6,11 @@ use Prim.Native.Nat.{ℕ, zero, suc, _+_, _-_, _*_, _/_, _≤_, _<_}
 use native.Mathlib.Omega.{arith}
 use lib.ListN.{length, length-append}
 use lib.Seq.{append-snoc, drop-at}
-use Rattle.model.specs.Rules.{Atom, Edge, Rule, rule, pairCount, mostPairs, mostEdges, sizesOk, edgeOk, integerReset, rising, edgesOk}
-use Rattle.model.specs.Files.{numberAt, recordHead, atomsFrom, edgeFrom, pastLast, noRule, withInitial, withFinal, withCeiling, withEdge, withRecord, Spelt, readRule, numbers, locationRecords, ceilingRecord, atomNumbers, edgeRecord, edgeRecords, ruleBytes}
+use Rattle.model.specs.Rules.{Atom, Edge, Rule, rule, pairCount, mostPairs, mostEdges, sizesOk, edgeOk}
+use Rattle.model.specs.Rules.{integerReset, rising, edgesOk}
+use Rattle.model.specs.Files.{numberAt, recordHead, atomsFrom, edgeFrom, pastLast, noRule, withInitial}
+use Rattle.model.specs.Files.{withFinal, withCeiling, withEdge, withRecord, Spelt, readRule, numbers}
+use Rattle.model.specs.Files.{locationRecords, ceilingRecord, atomNumbers, edgeRecord, edgeRecords, ruleBytes}
 use Rattle.model.specs.Demands.{Valid-is-spelt}
 use Rattle.model.proofs.Rising.{rising-least, rising-below, rising-rest}
 use Rattle.model.proofs.Valid.{sizes-of, Parts, valid-parts, valid-pairs}

@@ -6,11 +6,14 @@ use Prim.Native.Nat.{ℕ, _-_, _%_, _≤_, _<_}
 use native.Mathlib.Omega.{arith}
 use lib.Dec.{eqb, ltb, leb}
 use lib.ListN.{length}
-use borrow.Author.Tests.{ltb-false, leb-true, leb-false, eqb-true, le-ltb, le-leb, lt-leb, eqb-false, eq-eqb, ne-eqb, not-false}
+use borrow.Author.Tests.{ltb-false, leb-true, leb-false, eqb-true, le-ltb, le-leb, lt-leb, eqb-false, eq-eqb, ne-eqb}
+use borrow.Author.Tests.{not-false}
 use Rattle.model.specs.Basics.{within}
 use Rattle.model.specs.Rules.{Edge, Rule, mostEdges, sizesOk, edgeOk, integerReset}
-use Rattle.model.specs.Files.{numberAt, edgeBody, bodyOk, edgeFrom, pastLast, seenSizes, outOfOrder, oneTooMany, badSizes, outOfRange, notPinned}
-use Rattle.model.proofs.Logic.{by-test, and-left, and-right, and-both, neither-left, neither-right, within-least, within-most, in-within}
+use Rattle.model.specs.Files.{numberAt, edgeBody, bodyOk, edgeFrom, pastLast, seenSizes, outOfOrder, oneTooMany}
+use Rattle.model.specs.Files.{badSizes, outOfRange, notPinned}
+use Rattle.model.proofs.Logic.{by-test, and-left, and-right, and-both, neither-left, neither-right}
+use Rattle.model.proofs.Logic.{within-least, within-most, in-within}
 
 -- kind 1: the sizes, first
 pub record Sizes-allowed (r : Rule) (n : ℕ) (body : List ℕ) : Type 0 where

@@ -9,7 +9,9 @@ use lib.ListN.{length, drop}
 use borrow.Author.Tests.{ltb-false, leb-true, not-false}
 use Rattle.model.specs.Basics.{allBelow, fine, refuse, Refusal}
 use Rattle.model.specs.Rules.{Edge, Rule, pairCount, mostPairs, validRule}
-use Rattle.model.specs.Files.{numberAt, bodyLength, kindOf, bodyOf, edgeFrom, noRule, seenSizes, withSizes, withInitial, withFinal, withCeiling, withEdge, withRecord, atEnd, readRule, numbers, atomNumbers, edgeRecord, edgeRecords, ruleBytes}
+use Rattle.model.specs.Files.{numberAt, bodyLength, kindOf, bodyOf, edgeFrom, noRule, seenSizes, withSizes}
+use Rattle.model.specs.Files.{withInitial, withFinal, withCeiling, withEdge, withRecord, atEnd, readRule}
+use Rattle.model.specs.Files.{numbers, atomNumbers, edgeRecord, edgeRecords, ruleBytes}
 use Rattle.model.specs.Demands.{Spells-valid, Same-bytes}
 use Rattle.model.proofs.Refusals.{refused-false, first-passes, then-passes}
 use Rattle.model.proofs.ValidParts.{parts-valid}
@@ -17,7 +19,8 @@ use Rattle.model.proofs.Bytes.{numbersOf, all-below-drop}
 use Rattle.model.proofs.FileSteps.{recordLength, ruleAfter, bytesAfter, readOn, of-every-reading, read-all}
 use Rattle.model.proofs.FileRecords.{Sizes-allowed, Edge-allowed, Allowed, sizes, initial, final, ceiling, edge}
 use Rattle.model.proofs.FileChecks.{Record-allowed, record-allowed}
-use Rattle.model.proofs.FileWrites.{writes-initial, writes-final, writes-ceiling, writes-edge, three-numbers, four-numbers, atoms-numbers, record-again}
+use Rattle.model.proofs.FileWrites.{writes-initial, writes-final, writes-ceiling, writes-edge, three-numbers}
+use Rattle.model.proofs.FileWrites.{four-numbers, atoms-numbers, record-again}
 use Rattle.model.proofs.FileSoFar.{So-far, sizes-so-far, atoms-from-length, sizes-once, record-so-far}
 
 -- The file so far and the bytes left are, before and after a record, the same bytes.

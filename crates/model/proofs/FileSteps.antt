@@ -10,7 +10,8 @@ use lib.ListN.{length, drop, length-drop}
 use borrow.Author.Tests.{eqb-true, eqb-false, eq-eqb, ne-eqb}
 use Rattle.model.specs.Basics.{refuse, passes}
 use Rattle.model.specs.Rules.{Rule, pairCount, mostPairs}
-use Rattle.model.specs.Files.{recordHead, bodyLength, kindOf, bodyOf, recordRefusal, withRecord, noRule, seenSizes, Spelt, unspelt, atEnd, readFrom, readRule}
+use Rattle.model.specs.Files.{recordHead, bodyLength, kindOf, bodyOf, recordRefusal, withRecord, noRule}
+use Rattle.model.specs.Files.{seenSizes, Spelt, unspelt, atEnd, readFrom, readRule}
 use Rattle.model.proofs.Logic.{by-test}
 use Rattle.model.proofs.Refusals.{Settled, refuse-settled, then-settled}
 

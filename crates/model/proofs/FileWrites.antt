@@ -9,7 +9,9 @@ use lib.ListN.{length, drop}
 use lib.Seq.{drop-drop}
 use Rattle.model.specs.Basics.{allBelow}
 use Rattle.model.specs.Rules.{Edge, Rule}
-use Rattle.model.specs.Files.{numberAt, recordHead, bodyLength, kindOf, bodyOf, atomsFrom, withInitial, withFinal, withCeiling, withEdge, numbers, sizesRecord, locationRecords, ceilingRecord, atomNumbers, edgeRecord, edgeRecords, ruleBytes}
+use Rattle.model.specs.Files.{numberAt, recordHead, bodyLength, kindOf, bodyOf, atomsFrom, withInitial}
+use Rattle.model.specs.Files.{withFinal, withCeiling, withEdge, numbers, sizesRecord, locationRecords}
+use Rattle.model.specs.Files.{ceilingRecord, atomNumbers, edgeRecord, edgeRecords, ruleBytes}
 use Rattle.model.proofs.Bytes.{number-later, numbersOf, numbers-back}
 
 -- records one after another

@@ -16,7 +16,8 @@ use Rattle.model.specs.Words.{Event, eventsOf, mostEvents, grainOk, word
 use Rattle.model.specs.Runs.{accepts}
 use Rattle.model.specs.Construction.{intervalOf, rowResets, rowAt, rowsOf}
 use Rattle.model.specs.Tables.{Tables, tablesBy, tablesOf}
-use Rattle.model.specs.Walks.{inShape, shapeRefusal, verdict, startAt, step, stepAll, tableAccepts, strayed, followRefusal}
+use Rattle.model.specs.Walks.{inShape, shapeRefusal, verdict, startAt, step, stepAll, tableAccepts, strayed}
+use Rattle.model.specs.Walks.{followRefusal}
 use Rattle.model.specs.Claims.{noEvent, Follower-agrees}
 use Rattle.model.proofs.Logic.{remainder-is, in-within}
 use Rattle.model.proofs.Valid.{Valid, valid-of}

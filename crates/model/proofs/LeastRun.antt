@@ -10,9 +10,12 @@ use borrow.Author.Tests.{eq-eqb, lt-ltb}
 use Rattle.model.specs.Basics.{isIn}
 use Rattle.model.specs.Rules.{Edge, Rule, rising, validRule}
 use Rattle.model.specs.Words.{Event}
-use Rattle.model.specs.Runs.{older, zeroed, canTake, startAges, noEdge, runEndsFinal, isAcceptingRun, someEdge, acceptsFrom, acceptsFromSome, accepts, Path, path, leastEdge, leastFrom, leastStart, leastRun}
+use Rattle.model.specs.Runs.{older, zeroed, canTake, startAges, noEdge, runEndsFinal, isAcceptingRun, someEdge}
+use Rattle.model.specs.Runs.{acceptsFrom, acceptsFromSome, accepts, Path, path, leastEdge, leastFrom}
+use Rattle.model.specs.Runs.{leastStart, leastRun}
 use Rattle.model.specs.Claims.{notAfter, Runs-are}
-use Rattle.model.proofs.Logic.{no-way, by-test, and-left, and-right, and-both, or-right, Cmp, cmp, is-lt, is-eq, is-gt, In, here, there, is-in, in-is}
+use Rattle.model.proofs.Logic.{no-way, by-test, and-left, and-right, and-both, or-right, Cmp, cmp, is-lt}
+use Rattle.model.proofs.Logic.{is-eq, is-gt, In, here, there, is-in, in-is}
 use Rattle.model.proofs.Valid.{valid-of}
 use Rattle.model.proofs.Rising.{rising-rest, rises-least}
 use Rattle.model.proofs.Runs.{RunStep, run-step, run-from, run-accepts}

@@ -48,9 +48,12 @@ over-bit : (x l m : ℕ) → x < l → bit l (2 ^ x + m * 2 ^ suc x) ≡ bit l (
 over-bit x l m h =
     let k : ℕ = l - suc x in
     let e : l ≡ suc x + k = omega arith in
-    let a : (2 ^ x + m * 2 ^ suc x) / 2 ^ suc x ≡ m = rw (add-comm (2 ^ x) (m * 2 ^ suc x)) (digits-div m (pow-lt (omega arith))) in
+    let a : (2 ^ x + m * 2 ^ suc x) / 2 ^ suc x ≡ m = rw (add-comm (2 ^ x) (m * 2 ^ suc x))
+    (digits-div m (pow-lt (omega arith))) in
     let b : m * 2 ^ suc x / 2 ^ suc x ≡ m = mul-div-cancel m (pow-pos (suc x)) in
-    let q : (2 ^ x + m * 2 ^ suc x) / 2 ^ (suc x + k) ≡ m * 2 ^ suc x / 2 ^ (suc x + k) = sym (shr-shr (2 ^ x + m * 2 ^ suc x) (suc x) k) ∙ (ap (λ (n : ℕ). n / 2 ^ k) (a ∙ sym b) ∙ shr-shr (m * 2 ^ suc x) (suc x) k) in
+    let q : (2 ^ x + m * 2 ^ suc x) / 2 ^ (suc x + k) ≡ m * 2 ^ suc x / 2 ^ (suc x + k) =
+    sym (shr-shr (2 ^ x + m * 2 ^ suc x) (suc x) k)
+    ∙ (ap (λ (n : ℕ). n / 2 ^ k) (a ∙ sym b) ∙ shr-shr (m * 2 ^ suc x) (suc x) k) in
     rw (e, q)
 
 pub mask-bits : (n : ℕ) (xs : List ℕ) (l : ℕ) → Asc n xs → bit l (maskOf xs) ≡ isIn l xs
@@ -58,7 +61,11 @@ unfolding maskOf
 mask-bits n [] l a = rw (zero-div (2 ^ l))
 mask-bits n (x ∷ xs) l a = go (cmp l x) (multiple (suc x) xs (a .1)) (mask-bits (suc x) xs l (a .1))
   where
-    go : Cmp l x → (m : ℕ) × (maskOf xs ≡ m * 2 ^ suc x) → bit l (maskOf xs) ≡ isIn l xs → bit l (maskOf (x ∷ xs)) ≡ isIn l (x ∷ xs)
-    go (is-lt h) m k = let z = multiple (suc l) (x ∷ xs) (h, a .1) in rw (z .1, even-bit l (z .0), not-below x (x ∷ xs) l (omega arith, a .1) h)
+    go :
+        Cmp l x → (m : ℕ) × (maskOf xs ≡ m * 2 ^ suc x) → bit l (maskOf xs) ≡ isIn l xs
+        → bit l (maskOf (x ∷ xs)) ≡ isIn l (x ∷ xs)
+    go (is-lt h) m k =
+        let z = multiple (suc l) (x ∷ xs) (h, a .1) in
+        rw (z .1, even-bit l (z .0), not-below x (x ∷ xs) l (omega arith, a .1) h)
     go (is-eq h) m k = rw (m .1, h, odd-bit x (m .0), eq-eqb x x refl)
     go (is-gt h) m k = rw (m .1, over-bit x l (m .0) h, ne-eqb l x (omega arith)) (rw (m .1) at k)

@@ -9,7 +9,9 @@ use lib.ListN.{length}
 use Rattle.model.specs.Basics.{Refusal, fine, refuse, passes, _⨾_}
 use Rattle.model.specs.Rules.{Rule, pairCount, mostPairs}
 use Rattle.model.specs.Words.{Event, eventsOf, grainOk, eventRefusal, eventsRefusal, wordRefusal}
-use Rattle.model.specs.Files.{noRule, seenSizes, bodyLength, kindOf, bodyOf, recordRefusal, cutShort, bodyOk, outOfOrder, oneTooMany, badSizes, outOfRange, notPinned, atEnd, readFrom, readRule}
+use Rattle.model.specs.Files.{noRule, seenSizes, bodyLength, kindOf, bodyOf, recordRefusal, cutShort, bodyOk}
+use Rattle.model.specs.Files.{outOfOrder, oneTooMany, badSizes, outOfRange, notPinned, atEnd, readFrom}
+use Rattle.model.specs.Files.{readRule}
 use Rattle.model.specs.Construction.{rowsOf}
 use Rattle.model.specs.Tables.{rowRoom, fitRefusal, tableRefusal}
 use Rattle.model.proofs.Logic.{by-test}
@@ -85,7 +87,9 @@ fit-numbers n room used pool (x ∷ xs) =
     by-test (ltb pool (used + length x)) (λ q. rw (e, fitRefusal, q) (some (omega arith) (omega arith)))
     (λ q. rw (e, fitRefusal, q) (fit-numbers (suc n) room (used + length x) pool xs)))
 
-room-numbers : (r : Rule) (scratch cells rows pool : ℕ) (found : List (List ℕ)) → Among 22 24 (refuse (ltb scratch (pairCount r)) 22 0 ⨾ fitRefusal 0 (rowRoom r cells rows) 0 pool found)
+room-numbers :
+    (r : Rule) (scratch cells rows pool : ℕ) (found : List (List ℕ))
+    → Among 22 24 (refuse (ltb scratch (pairCount r)) 22 0 ⨾ fitRefusal 0 (rowRoom r cells rows) 0 pool found)
 room-numbers r scratch cells rows pool found =
     among-then (refuse (ltb scratch (pairCount r)) 22 0) _
     (among-refuse (ltb scratch (pairCount r)) 22 0 (omega arith) (omega arith))

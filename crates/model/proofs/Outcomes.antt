@@ -13,7 +13,9 @@ use Rattle.model.specs.declared.Follower.{Follower}
 use Rattle.model.specs.declared.Started.{Started}
 use Rattle.model.specs.declared.Followed.{Followed}
 use Rattle.model.specs.declared.Moved.{Moved}
-use Rattle.model.specs.Promises.{ChecksRule, ChecksWord, ChecksTable, ReadsRule, WritesRule, BuildsTable, RunsExact, RunsBranches, RunsTable, StartsFollower, FollowsEvent, FollowsInPlace, Decides}
+use Rattle.model.specs.Promises.{ChecksRule, ChecksWord, ChecksTable, ReadsRule, WritesRule, BuildsTable}
+use Rattle.model.specs.Promises.{RunsExact, RunsBranches, RunsTable, StartsFollower, FollowsEvent}
+use Rattle.model.specs.Promises.{FollowsInPlace, Decides}
 
 -- two things that equal a third
 both : {A : Type 0} {x y z : A} → x ≡ z → y ≡ z → x ≡ y

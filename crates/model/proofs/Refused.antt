@@ -11,7 +11,8 @@ use Rattle.model.specs.Rules.{cm, pairCount}
 use Rattle.model.specs.Words.{eventsOf, wordRefusal}
 use Rattle.model.specs.Runs.{byEdges, byConfigs, roomRefusalFrom, roomRefusal}
 use Rattle.model.specs.Files.{numbers, recordRefusal, withRecord, atEnd, readFrom, readRule}
-use Rattle.model.specs.Construction.{codeOf, locationOf, basesOf, startRow, allows, rowResets, targetOf, nextRow, byIntervals, bySymbols, rowsFrom, rowsOf}
+use Rattle.model.specs.Construction.{codeOf, locationOf, basesOf, startRow, allows, rowResets, targetOf}
+use Rattle.model.specs.Construction.{nextRow, byIntervals, bySymbols, rowsFrom, rowsOf}
 use Rattle.model.specs.Tables.{Tables, tables, rowRoom, fitRefusal, tableRefusal}
 use Rattle.model.specs.Walks.{stamp, inShape, shapeRefusal, followRefusal}
 use Rattle.model.proofs.Examples.{worked-file, worked, worked-tables}
@@ -98,7 +99,8 @@ words-met : allMet words ≡ true
 unfolding wordRefusal allMet words
 words-met = refl
 
--- 22 to 24 of the worked case: 6 pairs, 3 rows of 8 cells, 2 codes; 23 before 24 for one row, the first row that does not fit
+-- 22 to 24 of the worked case: 6 pairs, 3 rows of 8 cells, 2 codes; 23 before 24 for one row, the first row that
+-- does not fit
 rooms : List Case
 rooms =
     case (tableRefusal worked 5 0 0 0) (refusal 22 0)
@@ -138,7 +140,8 @@ with-built top rows total =
     (worked-tables .pool)
 
 with-cell : ℕ → Tables
-with-cell cell = tables (worked-tables .built) (2 ∷ cell ∷ drop 2 (worked-tables .cells)) (worked-tables .rows) (worked-tables .pool)
+with-cell cell =
+    tables (worked-tables .built) (2 ∷ cell ∷ drop 2 (worked-tables .cells)) (worked-tables .rows) (worked-tables .pool)
 
 with-rows : List ℕ → Tables
 with-rows rows = tables (worked-tables .built) (worked-tables .cells) rows (worked-tables .pool)

@@ -10,7 +10,8 @@ use lib.Seq.{getD-append-add}
 use borrow.Author.Tests.{lt-ltb, le-ltb}
 use Rattle.model.specs.Basics.{same}
 use Rattle.model.specs.Construction.{rowAt, numberFrom, numberOf, withRow}
-use Rattle.model.proofs.Logic.{by-test, no-way, Two, two, less, least, In, here, there, in-at, same-equal, same-self, first-part}
+use Rattle.model.proofs.Logic.{by-test, no-way, Two, two, less, least, In, here, there, in-at, same-equal}
+use Rattle.model.proofs.Logic.{same-self, first-part}
 
 -- the number of a row: its first place, or the count of rows
 number-here : (n : ℕ) (x y : List ℕ) (ys : List (List ℕ)) → same x y ≡ true → numberFrom n x (y ∷ ys) ≡ n

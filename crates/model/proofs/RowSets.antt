@@ -10,8 +10,11 @@ use lib.Dec.{eqb, ltb, leb}
 use borrow.Author.Tests.{leb-true, eqb-true, le-leb}
 use Rattle.model.specs.Basics.{pick, isIn}
 use Rattle.model.specs.Rules.{Edge, Rule, cm}
-use Rattle.model.specs.Construction.{regionsHold, codeOf, locationOf, basesOf, withCode, startBases, startCodes, startRow, allows, pairResets, rowResets, targetOf, pairTargets, rowTargets, nextRow, holdsFinal}
-use Rattle.model.proofs.Logic.{no-way, by-test, and-left, and-right, or-left, or-right, In, here, there, not-in-nil, Some, first-some, later-some, some-either, two, less, least}
+use Rattle.model.specs.Construction.{regionsHold, codeOf, locationOf, basesOf, withCode, startBases, startCodes}
+use Rattle.model.specs.Construction.{startRow, allows, pairResets, rowResets, targetOf, pairTargets, rowTargets}
+use Rattle.model.specs.Construction.{nextRow, holdsFinal}
+use Rattle.model.proofs.Logic.{no-way, by-test, and-left, and-right, or-left, or-right, In, here, there}
+use Rattle.model.proofs.Logic.{not-in-nil, Some, first-some, later-some, some-either, two, less, least}
 use Rattle.model.proofs.Valid.{Valid, has-equal}
 use Rattle.model.proofs.Clocks.{even-guard}
 

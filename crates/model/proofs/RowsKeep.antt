@@ -8,7 +8,8 @@ use native.Mathlib.Omega.{arith}
 use borrow.Author.Tests.{lt-ltb, le-ltb, le-leb, eq-eqb, ne-eqb}
 use Rattle.model.specs.Basics.{pick}
 use Rattle.model.specs.Rules.{Edge, Rule}
-use Rattle.model.specs.Construction.{withCode, codeOf, startBases, startCodes, startRow, allows, rowResets, targetOf, pairTargets, rowTargets, nextRow}
+use Rattle.model.specs.Construction.{withCode, codeOf, startBases, startCodes, startRow, allows, rowResets}
+use Rattle.model.specs.Construction.{targetOf, pairTargets, rowTargets, nextRow}
 use Rattle.model.specs.Claims.{ascending}
 use Rattle.model.proofs.Logic.{Cmp, cmp, is-lt, is-eq, is-gt, In, here, there}
 use Rattle.model.proofs.Masks.{Asc}

@@ -24,7 +24,8 @@ use Rattle.model.proofs.Numbers.{among-zero, word-numbers}
 use Rattle.model.proofs.Calls.{Made, made, Answered, answered}
 
 -- an answer without a number gives its value
-value-of : (f : Refusal) (value : ℕ) (answer : Answer) → answer ≡ answerOf f value → answer .number ≡ 0 → answer .value ≡ value
+value-of :
+    (f : Refusal) (value : ℕ) (answer : Answer) → answer ≡ answerOf f value → answer .number ≡ 0 → answer .value ≡ value
 value-of f value answer e z =
     let none : f .number ≡ 0 = sym (ap (λ (x : Answer). x .number) e) ∙ z in
     ap (λ (x : Answer). x .value) e ∙ rw (eq-eqb (f .number) 0 none)
@@ -55,7 +56,8 @@ branch-found f r d symbols stamps branch e z =
 
 pub runners-agree : Runners-agree
 unfolding buildRefusal
-runners-agree head edges scratch scratch′ cells cells′ rows rows′ pool pool′ room room′ d symbols stamps building exact table branch p t e b z zt ze zb =
+runners-agree head edges scratch scratch′ cells cells′ rows rows′ pool pool′ room room′ d symbols stamps building
+    exact table branch p t e b z zt ze zb =
     let r : Rule = ruleIn head edges in
     let built : Refusal = buildRefusal head edges scratch cells rows pool in
     let none : built .number ≡ 0 = sym (ap (λ (x : Building). x .number) (p .answer-is)) ∙ z in

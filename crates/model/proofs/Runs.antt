@@ -10,8 +10,10 @@ use borrow.Author.Tests.{ltb-true}
 use Rattle.model.specs.Basics.{isIn}
 use Rattle.model.specs.Rules.{Edge, Rule}
 use Rattle.model.specs.Words.{Event}
-use Rattle.model.specs.Runs.{older, zeroed, canTake, startAges, noEdge, runEndsFinal, isAcceptingRun, someEdge, acceptsFrom, acceptsFromSome, accepts}
-use Rattle.model.proofs.Logic.{no-way, in-is, in-at, and-left, and-right, or-left, or-right, In, here, there, Some, some-either}
+use Rattle.model.specs.Runs.{older, zeroed, canTake, startAges, noEdge, runEndsFinal, isAcceptingRun, someEdge}
+use Rattle.model.specs.Runs.{acceptsFrom, acceptsFromSome, accepts}
+use Rattle.model.proofs.Logic.{no-way, in-is, in-at, and-left, and-right, or-left, or-right, In, here, there}
+use Rattle.model.proofs.Logic.{Some, some-either}
 
 -- An event: some edge can be taken and what is left is accepted from where it leads.
 module _ (d l : ℕ) (ages : List ℕ) (v : Event) (on : ℕ → List ℕ → Bool) where

@@ -20,7 +20,8 @@ edge-in r n h = in-at noEdge (r .edges) n (ltb-true n (length (r .edges)) h)
 
 module _ (r : Rule) (s i : ℕ) (row : List ℕ) where
   abbrev allowed-by :
-      (pair : ℕ) (e : Edge) → In pair row → Numbered noEdge (r .edges) e → allows r s i pair e ≡ true → Allowed r s i row
+      (pair : ℕ) (e : Edge) → In pair row → Numbered noEdge (r .edges) e → allows r s i pair e ≡ true
+      → Allowed r s i row
   allowed-by pair e j n a = record {
     pair = pair;
     edge = n .number;

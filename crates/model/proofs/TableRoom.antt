@@ -14,7 +14,8 @@ use Rattle.model.specs.Construction.{width, rowsOf, mostRows}
 use Rattle.model.specs.Tables.{rowWidth, poolNumbers, rowRoom, fitRefusal, tableRefusal}
 use Rattle.model.proofs.Logic.{Two, two, less, least, lesser-left, lesser-right}
 use Rattle.model.proofs.Discovery.{Closed, discovered}
-use Rattle.model.proofs.Refusals.{refused-false, first-passes, then-passes, Settled, refuse-settled, then-settled}
+use Rattle.model.proofs.Refusals.{refused-false, first-passes, then-passes, Settled, refuse-settled}
+use Rattle.model.proofs.Refusals.{then-settled}
 
 -- the three ways on at a row
 pub fit-23 :

@@ -14,7 +14,8 @@ use Rattle.model.specs.declared.Follower.{Follower}
 use Rattle.model.specs.Basics.{pick, oneIf}
 use Rattle.model.specs.Rules.{Rule, cm}
 use Rattle.model.specs.Words.{Event, eventsOf}
-use Rattle.model.specs.Construction.{intervalOf, nextRow, rowResets, rowAt, numberOf, mostRows, rowsOf, cellOf, walksFrom, walks}
+use Rattle.model.specs.Construction.{intervalOf, nextRow, rowResets, rowAt, numberOf, mostRows, rowsOf, cellOf}
+use Rattle.model.specs.Construction.{walksFrom, walks}
 use Rattle.model.specs.Tables.{tablesBy, tablesOf}
 use Rattle.model.specs.Walks.{verdict, stamp, startAt, stepCell, step, stepAll, tableAccepts}
 use Rattle.model.specs.Demands.{Table-walks}
@@ -135,7 +136,8 @@ pub table-walks : Table-walks
 unfolding tablesOf
 table-walks r scratch cells rows pool d most xs ts valid fits word =
     let w : Keeps (r .symbols) d most xs ts = fine-keeps (r .symbols) d most xs ts word in
-    walk-by (suc mostRows) r (rowsOf r) cells rows pool d (eventsOf xs ts) (w .grain-least) (final-asc r (valid-of r valid))
+    walk-by (suc mostRows) r (rowsOf r) cells rows pool d (eventsOf xs ts) (w .grain-least)
+    (final-asc r (valid-of r valid))
     (discovered r)
     (fitted-closed r scratch cells rows pool fits)
     (w .symbols-below)

@@ -23,7 +23,8 @@ use Rattle.model.specs.Demands.{Read-back, Three-calls, Three-calls-writ
 use Rattle.model.proofs.Logic.{by-test}
 use Rattle.model.proofs.FileRead.{valid-is-spelt}
 use Rattle.model.proofs.Numbers.{among-none, read-numbers, table-numbers, word-numbers}
-use Rattle.model.proofs.Calls.{outside, Read, read, read-short, read-numbered, Made, made, built-numbered, Answered, answered}
+use Rattle.model.proofs.Calls.{outside, Read, read, read-short, read-numbered, Made, made, built-numbered}
+use Rattle.model.proofs.Calls.{Answered, answered}
 
 -- none of 1 to 8 and 20: the first number is 0
 first-none :
@@ -37,7 +38,8 @@ first-none file edges edges′ reading p a b = by-test (tooShort edges) short lo
     number = ap (λ (x : Reading). x .number) (p .answer-is)
 
     short : tooShort edges ≡ true → reading .number ≡ 0
-    short h = absurd (eqb-false (reading .number) 20 b (number ∙ ap (λ (f : Refusal). f .number) (read-short file edges h)))
+    short h =
+        absurd (eqb-false (reading .number) 20 b (number ∙ ap (λ (f : Refusal). f .number) (read-short file edges h)))
 
     long : tooShort edges ≡ false → reading .number ≡ 0
     long h =
@@ -93,7 +95,8 @@ not-refused r edges edges′ reading f p =
     (λ h. rw (ap (λ (x : Reading). x .number) (p .answer-is), read-numbered (ruleBytes r) edges h, f))
 
 pub three-calls : Three-calls
-three-calls file edges edges′ scratch scratch′ cells cells′ rows rows′ pool pool′ d symbols stamps reading building answer p q u a b c e =
+three-calls file edges edges′ scratch scratch′ cells cells′ rows rows′ pool pool′ d symbols stamps reading building
+    answer p q u a b c e =
     let r : Rule = readRule file .rule-is in
     let zero-read : reading .number ≡ 0 = first-none file edges edges′ reading p a b in
     let x : Read file edges edges′ reading = read file edges edges′ reading p zero-read in
@@ -107,11 +110,15 @@ three-calls file edges edges′ scratch scratch′ cells cells′ rows rows′ p
     subst (λ (t : Tables). Answered r t d symbols stamps) (sym (y .tables-are))
     (answered r (length scratch) (length cells) (length rows) (length pool) d symbols stamps
     (x .valid)
-    (y .fits)) in
-    (zero-read, zero-built, third-none r (tables (building .built) cells′ rows′ pool′) d symbols stamps answer z (u .answer-is) e)
+    (y .fits)) in (
+      zero-read,
+      zero-built,
+      third-none r (tables (building .built) cells′ rows′ pool′) d symbols stamps answer z (u .answer-is) e,
+    )
 
 pub three-calls-written : Three-calls-written
-three-calls-written r edges edges′ scratch scratch′ cells cells′ rows rows′ pool pool′ d symbols stamps reading building answer v p q u b c e =
+three-calls-written r edges edges′ scratch scratch′ cells cells′ rows rows′ pool pool′ d symbols stamps reading
+    building answer v p q u b c e =
     let k : Read-back r = valid-is-spelt r v in
     let claim =
     three-calls (ruleBytes r) edges edges′ scratch scratch′ cells cells′ rows rows′ pool pool′ d symbols stamps

@@ -9,8 +9,11 @@ use lib.Dec.{eqb, ltb, leb}
 use lib.ListN.{length}
 use borrow.Author.Tests.{ltb-true, leb-true, eqb-true}
 use Rattle.model.specs.Basics.{within}
-use Rattle.model.specs.Rules.{Atom, Edge, Rule, largestConstant, largestOf, cm, pairCount, mostPairs, mostEdges, mostAtoms, sizesOk, atomOk, atomsOk, edgeOk, hasEqual, integerReset, rising, edgesOk, validRule}
-use Rattle.model.proofs.Logic.{and-left, and-right, or-cases, within-least, within-most, larger-left, larger-right, larger-most, In, here, there}
+use Rattle.model.specs.Rules.{Atom, Edge, Rule, largestConstant, largestOf, cm, pairCount, mostPairs, mostEdges}
+use Rattle.model.specs.Rules.{mostAtoms, sizesOk, atomOk, atomsOk, edgeOk, hasEqual, integerReset, rising}
+use Rattle.model.specs.Rules.{edgesOk, validRule}
+use Rattle.model.proofs.Logic.{and-left, and-right, or-cases, within-least, within-most, larger-left}
+use Rattle.model.proofs.Logic.{larger-right, larger-most, In, here, there}
 
 -- the sizes, in their ranges
 pub record Sizes (l s k : ℕ) : Type 0 where
@@ -44,11 +47,13 @@ pub record AtomIn (k : ℕ) (a : Atom) : Type 0 where
 
 pub atom-of : (k : ℕ) (a : Atom) → atomOk k a ≡ true → AtomIn k a
 atom-of k a h =
-    let b : (ltb (a .clock) k && leb (a .relation) 4) ≡ true = and-left (ltb (a .clock) k && leb (a .relation) 4) (leb (a .constant) 30) h in
+    let b : (ltb (a .clock) k && leb (a .relation) 4) ≡ true =
+    and-left (ltb (a .clock) k && leb (a .relation) 4) (leb (a .constant) 30) h in
     record {
       clock-below = ltb-true (a .clock) k (and-left (ltb (a .clock) k) (leb (a .relation) 4) b);
       relation-most = leb-true (a .relation) 4 (and-right (ltb (a .clock) k) (leb (a .relation) 4) b);
-      constant-most = leb-true (a .constant) 30 (and-right (ltb (a .clock) k && leb (a .relation) 4) (leb (a .constant) 30) h);
+      constant-most = leb-true (a .constant) 30 (and-right (ltb (a .clock) k && leb (a .relation) 4)
+          (leb (a .constant) 30) h);
     }
 
 pub atoms-of : (k : ℕ) (xs : List Atom) → atomsOk k xs ≡ true → (a : Atom) → In a xs → AtomIn k a
@@ -64,7 +69,9 @@ pub record EdgeIn (r : Rule) (e : Edge) : Type 0 where
   pub pinned : integerReset e ≡ true
   pub atoms-most : length (e .atoms) ≤ mostAtoms
 
-edge-of : (r : Rule) (e : Edge) → edgeOk r e ≡ true → integerReset e ≡ true → leb (length (e .atoms)) mostAtoms ≡ true → EdgeIn r e
+edge-of :
+    (r : Rule) (e : Edge) → edgeOk r e ≡ true → integerReset e ≡ true → leb (length (e .atoms)) mostAtoms ≡ true
+    → EdgeIn r e
 edge-of r e h p m =
     let s : Bool = ltb (e .source) (r .locations) in
     let t : Bool = ltb (e .target) (r .locations) in
@@ -180,24 +187,31 @@ edge-largest e (f ∷ es) (there h) =
 pub constant-below : (r : Rule) (e : Edge) (a : Atom) → In e (r .edges) → In a (e .atoms) → a .constant ≤ cm r
 unfolding cm
 constant-below r e a i j =
-    omega
-    (arith, constant-largest a (e .atoms) j, edge-largest e (r .edges) i, larger-left (largestOf (r .edges)) (r .ceiling - 1))
+    omega (
+      arith,
+      constant-largest a (e .atoms) j,
+      edge-largest e (r .edges) i,
+      larger-left (largestOf (r .edges)) (r .ceiling - 1),
+    )
 
 pub atoms-largest : (xs : List Atom) (m : ℕ) → ((a : Atom) → In a xs → a .constant ≤ m) → largestConstant xs ≤ m
 atoms-largest [] m h = omega arith
 atoms-largest (x ∷ xs) m h =
     larger-most (x .constant) (largestConstant xs) m (h x (here refl)) (atoms-largest xs m (λ a i. h a (there i)))
 
-pub edges-largest : (es : List Edge) (m : ℕ) → ((e : Edge) → In e es → largestConstant (e .atoms) ≤ m) → largestOf es ≤ m
+pub edges-largest :
+    (es : List Edge) (m : ℕ) → ((e : Edge) → In e es → largestConstant (e .atoms) ≤ m) → largestOf es ≤ m
 edges-largest [] m h = omega arith
 edges-largest (x ∷ xs) m h =
-    larger-most (largestConstant (x .atoms)) (largestOf xs) m (h x (here refl)) (edges-largest xs m (λ e i. h e (there i)))
+    larger-most (largestConstant (x .atoms)) (largestOf xs) m (h x (here refl))
+    (edges-largest xs m (λ e i. h e (there i)))
 
 pub cm-most : (r : Rule) → Valid r → cm r ≤ 30
 unfolding cm
 cm-most r v =
     larger-most (largestOf (r .edges)) (r .ceiling - 1) 30
-    (edges-largest (r .edges) 30 (λ e i. atoms-largest (e .atoms) 30 (λ a j. v .edges-in e i .atoms-in a j .constant-most)))
+    (edges-largest (r .edges) 30 (λ e i. atoms-largest (e .atoms) 30
+    (λ a j. v .edges-in e i .atoms-in a j .constant-most)))
     (omega (arith, v .ceiling-most))
 
 -- an edge that resets a clock has an equality

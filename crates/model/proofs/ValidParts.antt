@@ -7,7 +7,8 @@ use native.Mathlib.Omega.{arith}
 use lib.Dec.{ltb, leb}
 use lib.ListN.{length}
 use borrow.Author.Tests.{leb-true, lt-ltb, le-leb}
-use Rattle.model.specs.Rules.{Edge, Rule, pairCount, mostPairs, mostEdges, mostAtoms, edgeOk, integerReset, rising, edgesOk, validRule}
+use Rattle.model.specs.Rules.{Edge, Rule, pairCount, mostPairs, mostEdges, mostAtoms, edgeOk, integerReset}
+use Rattle.model.specs.Rules.{rising, edgesOk, validRule}
 use Rattle.model.specs.Files.{pastLast}
 use Rattle.model.proofs.Logic.{and-left, and-right, and-both}
 use Rattle.model.proofs.Valid.{Parts}

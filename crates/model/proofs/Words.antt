@@ -11,7 +11,8 @@ use borrow.Author.Tests.{ltb-false, leb-false, eqb-true, eq-eqb, le-ltb, lt-leb,
 use Rattle.model.specs.Basics.{Refusal, fine, refuse, passes, _⨾_}
 use Rattle.model.specs.Words.{Event, eventsOf, grainOk, eventRefusal, eventsRefusal, wordRefusal}
 use Rattle.model.proofs.Logic.{by-test, within-least, within-most, in-within, neither-left, neither-right}
-use Rattle.model.proofs.Refusals.{fine-number, refused-false, refuse-fine, first-passes, then-passes, both-fine, Settled, refuse-settled, then-settled}
+use Rattle.model.proofs.Refusals.{fine-number, refused-false, refuse-fine, first-passes, then-passes}
+use Rattle.model.proofs.Refusals.{both-fine, Settled, refuse-settled, then-settled}
 
 -- no stamp below the one before
 abbrev pub Ordered : ℕ → List Event → Type 0

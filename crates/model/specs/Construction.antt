@@ -101,7 +101,7 @@ abbrev pub advanced : ℕ → ℕ → List ℕ → List ℕ
 advanced c i [] = []
 advanced c i (b ∷ bases) = pick (ltb c (b + i / 2)) (suc c) (b + i / 2) ∷ advanced c i bases
 
--- the target of a pair by an edge: where the timer is reset every base is brought forward, with the edge's clocks zeroed
+-- the target of a pair by an edge: where the timer is reset every base is brought forward; the edge's clocks are zeroed
 unfoldable pub targetOf : Rule → ℕ → Bool → ℕ → Edge → ℕ
 targetOf r i timer x e =
     codeOf r (e .target) (zeroed (e .resets) (pick timer (advanced (cm r) i (basesOf r x)) (basesOf r x)))

@@ -89,20 +89,25 @@ abbrev pub leaves : Refusal → List ℕ → List ℕ → List ℕ
 leaves f made was = pick (passes f) made (pick (leb 23 (f .number)) (zeros (length was)) was)
 
 pub record BuildsTable
-    (head : Head) (edges scratch scratch′ cells cells′ rows rows′ pool pool′ : List ℕ) (answer : Building) : Type 0 where
+    (head : Head) (edges scratch scratch′ cells cells′ rows rows′ pool pool′ : List ℕ) (answer : Building)
+    : Type 0 where
   pub answer-is : answer ≡ buildingOf (buildRefusal head edges scratch cells rows pool) (ruleIn head edges)
   pub scratch-is : scratch′ ≡ leaves (buildRefusal head edges scratch cells rows pool) (zeros (length scratch)) scratch
   pub cells-are :
       cells′
-      ≡ leaves (buildRefusal head edges scratch cells rows pool) (tablesMade (ruleIn head edges) cells rows pool .cells) cells
+      ≡ leaves (buildRefusal head edges scratch cells rows pool)
+      (tablesMade (ruleIn head edges) cells rows pool .cells) cells
   pub rows-are :
       rows′
-      ≡ leaves (buildRefusal head edges scratch cells rows pool) (tablesMade (ruleIn head edges) cells rows pool .rows) rows
+      ≡ leaves (buildRefusal head edges scratch cells rows pool)
+      (tablesMade (ruleIn head edges) cells rows pool .rows) rows
   pub pool-is :
       pool′
-      ≡ leaves (buildRefusal head edges scratch cells rows pool) (tablesMade (ruleIn head edges) cells rows pool .pool) pool
+      ≡ leaves (buildRefusal head edges scratch cells rows pool)
+      (tablesMade (ruleIn head edges) cells rows pool .pool) pool
 
--- run_exact: 20, 21, 30 to 33, then 26. The scratch is zero after a call that passes the checks, also when it ends in 26.
+-- run_exact: 20, 21, 30 to 33, then 26. The scratch is zero after a call that passes the checks, also where it ends
+-- in 26.
 -- Room for scratch length / (2 (K + 1)) configurations, rounded down.
 abbrev pub configRoom : Rule → List ℕ → ℕ
 configRoom r scratch = length scratch / (2 * (r .clocks + 1))
@@ -181,7 +186,8 @@ unfoldable pub followed : Follower → Tables → Event → Followed
 followed f t v = followedBy (followRefusal t f v) t f v
 
 pub record FollowsEvent
-    (follower : Follower) (built : Built) (cells rows pool : List ℕ) (symbol : ℕ) (at : Stamp) (answer : Followed) : Type 0 where
+    (follower : Follower) (built : Built) (cells rows pool : List ℕ) (symbol : ℕ) (at : Stamp) (answer : Followed)
+    : Type 0 where
   pub answer-is : answer ≡ followed follower (tables built cells rows pool) (event symbol at)
 
 -- follow_in_place: the same, the head's own record brought forward where it is kept
@@ -189,7 +195,8 @@ abbrev pub movedBy : Followed → Moved
 movedBy x = record { number = x .number; place = x .place; yes = x .yes }
 
 pub record FollowsInPlace
-    (follower follower′ : Follower) (built : Built) (cells rows pool : List ℕ) (symbol : ℕ) (at : Stamp) (answer : Moved)
+    (follower follower′ : Follower) (built : Built) (cells rows pool : List ℕ) (symbol : ℕ) (at : Stamp)
+    (answer : Moved)
     : Type 0 where
   pub answer-is : answer ≡ movedBy (followed follower (tables built cells rows pool) (event symbol at))
   pub follower-is : follower′ ≡ followed follower (tables built cells rows pool) (event symbol at) .follower
@@ -210,7 +217,8 @@ abbrev pub decideLeaves : Refusal → Refusal → List ℕ → List ℕ → List
 decideLeaves read build made was = pick (passes read) (leaves build made was) was
 
 pub record Decides
-    (file edges edges′ scratch scratch′ cells cells′ rows rows′ pool pool′ : List ℕ) (d : ℕ) (symbols stamps : List ℕ) (answer : Answer)
+    (file edges edges′ scratch scratch′ cells cells′ rows rows′ pool pool′ : List ℕ) (d : ℕ)
+    (symbols stamps : List ℕ) (answer : Answer)
     : Type 0 where
   pub answer-is :
       answer
@@ -219,7 +227,8 @@ pub record Decides
   pub edges-are : edges′ ≡ edgesRead file edges
   pub scratch-is :
       scratch′
-      ≡ decideLeaves (readRefusal file edges) (roomedRefusal file scratch cells rows pool) (zeros (length scratch)) scratch
+      ≡ decideLeaves (readRefusal file edges) (roomedRefusal file scratch cells rows pool) (zeros (length scratch))
+      scratch
   pub cells-are :
       cells′
       ≡ decideLeaves (readRefusal file edges) (roomedRefusal file scratch cells rows pool)

@@ -43,7 +43,7 @@ canTake d l ages v e = eqb (e .source) l && eqb (e .symbol) (v .symbol) && holds
 abbrev pub startAges : Rule → List ℕ
 startAges r = zeros (r .clocks)
 
--- A run, as the paper has it: a start location and one edge for each event, given by number. `last` is the stamp before.
+-- A run, as the paper has it: a start location and one edge for each event, by number. `last` is the stamp before.
 abbrev pub noEdge : Edge
 noEdge = record { source = 0; target = 0; symbol = 0; resets = 0; atoms = [] }
 

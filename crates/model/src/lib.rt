@@ -24,7 +24,7 @@ impl Stamp {
     }
 }
 
-// The head record of a rule: sizes, initial and final locations as masks, the ceiling as 0 for none or its number plus 1,
+// The head record of a rule: sizes, initial and final locations as masks, the ceiling as 0 for none or its number + 1,
 // the edge count.
 #[repr(C)]
 pub struct Head {

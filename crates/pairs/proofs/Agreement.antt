@@ -11,7 +11,8 @@ use lib.Seq.{getD-take}
 use Rattle.model.specs.Basics.{pick, quotient, remainder, bit}
 use Rattle.model.specs.Rules.{Atom, Edge, Rule, cm, baseCount}
 use Rattle.model.specs.Runs.{zeroedFrom, zeroed}
-use Rattle.model.specs.Construction.{regionOf, regionRelated, regionsHold, digitsOf, digitsCode, codeOf, locationOf, basesOf, allows, advanced, targetOf}
+use Rattle.model.specs.Construction.{regionOf, regionRelated, regionsHold, digitsOf, digitsCode, codeOf, locationOf}
+use Rattle.model.specs.Construction.{basesOf, allows, advanced, targetOf}
 use Rattle.model.proofs.Logic.{In, here, there}
 use Rattle.model.proofs.Valid.{EdgeIn}
 use Rattle.pairs.specs.declared.Scale.{Scale}

@@ -17,7 +17,8 @@ use Rattle.model.proofs.ValidParts.{rising-last}
 use Rattle.model.proofs.MaskSets.{mask-last, mask-below}
 use Rattle.model.proofs.EdgesWritten.{edges-numbers-length}
 use Rattle.model.proofs.Readable.{table-length}
-use Rattle.model.proofs.FileRecords.{Location-allowed, Ceiling-allowed, Edge-allowed, Allowed, sizes, initial, final, ceiling, edge}
+use Rattle.model.proofs.FileRecords.{Location-allowed, Ceiling-allowed, Edge-allowed, Allowed, sizes, initial, final}
+use Rattle.model.proofs.FileRecords.{ceiling, edge}
 use Rattle.model.proofs.FileSoFar.{So-far, sizes-so-far, record-so-far, atoms-from-length}
 use Rattle.reader.specs.declared.Cursor.{Cursor}
 use Rattle.reader.specs.State.{tableWith, Body, Room, Takes, Stage, none, some, State}

@@ -21,7 +21,8 @@ use Rattle.model.proofs.FileSteps.{recordLength, ruleAfter, readOn, read-all, r
 use Rattle.model.proofs.FileOutcomes.{end-unseen, end-too-many, end-fine}
 use Rattle.edges.specs.Powers.{smallPairs}
 use Rattle.reader.specs.declared.Cursor.{Cursor}
-use Rattle.reader.specs.State.{Stage, none, some, State, Goes-on, Stops, Under-way, RefusedAt, Finishes, Cleared, ReadsRecords}
+use Rattle.reader.specs.State.{Stage, none, some, State, Goes-on, Stops, Under-way, RefusedAt, Finishes}
+use Rattle.reader.specs.State.{Cleared, ReadsRecords}
 
 -- readings of a refusal, of a rule, and before anything is read
 abbrev readingBy : Spelt → Reading

@@ -9,7 +9,8 @@ use lib.ListN.{length, take, drop}
 use borrow.Author.Tests.{lt-ltb, le-ltb, le-leb, lt-leb, ne-eqb}
 use Rattle.model.specs.declared.Head.{Head}
 use Rattle.model.specs.Rules.{Rule, edgeOk, atomsOk, hasEqual}
-use Rattle.model.specs.Files.{numberAt, edgeBody, bodyOk, atomsFrom, edgeFrom, outOfOrder, oneTooMany, badSizes, outOfRange, notPinned}
+use Rattle.model.specs.Files.{numberAt, edgeBody, bodyOk, atomsFrom, edgeFrom, outOfOrder, oneTooMany, badSizes}
+use Rattle.model.specs.Files.{outOfRange, notPinned}
 use Rattle.model.specs.Layout.{headOf}
 use Rattle.edges.proofs.Answers.{failed, passed}
 use Rattle.edges.proofs.Parts.{part-rest}

@@ -8,7 +8,8 @@ use lib.ListN.{length, take, drop}
 use Rattle.model.specs.declared.Reading.{Reading}
 use Rattle.model.specs.Basics.{pick, zeros, Refusal, refusal, refuse, _⨾_}
 use Rattle.model.specs.Rules.{Edge, Rule}
-use Rattle.model.specs.Files.{numberAt, kindOf, edgeFrom, noRule, pastLast, outOfOrder, oneTooMany, badSizes, outOfRange, notPinned, recordRefusal, withEdge, withRecord, atEnd, readRule}
+use Rattle.model.specs.Files.{numberAt, kindOf, edgeFrom, noRule, pastLast, outOfOrder, oneTooMany, badSizes}
+use Rattle.model.specs.Files.{outOfRange, notPinned, recordRefusal, withEdge, withRecord, atEnd, readRule}
 use Rattle.model.specs.Layout.{edgeNeed, edgeWidth, headOf, noHead, edgeNumbers, edgeTable}
 use Rattle.model.specs.Promises.{readingOf}
 use Rattle.model.proofs.FileSteps.{recordLength, ruleAfter}

@@ -11,7 +11,8 @@ use borrow.Author.Tests.{le-leb, leb-true, ltb-true, ltb-false, eq-eqb, not-fals
 use Rattle.model.specs.declared.Head.{Head}
 use Rattle.model.specs.declared.Answer.{Answer}
 use Rattle.model.specs.Basics.{filled, same, maskOf, bitsFrom, Refusal, refusal, fine, refuse, _⨾_}
-use Rattle.model.specs.Rules.{Edge, rule, Rule, largestOf, cm, pairCount, mostPairs, mostEdges, sizesOk, rising, edgesOk, validRule}
+use Rattle.model.specs.Rules.{Edge, rule, Rule, largestOf, cm, pairCount, mostPairs, mostEdges, sizesOk, rising}
+use Rattle.model.specs.Rules.{edgesOk, validRule}
 use Rattle.model.specs.Layout.{edgesNumbers, edgeNeed, edgeTable, edgesIn, ruleIn, isReadable, ruleRefusal}
 use Rattle.model.specs.Promises.{ChecksRule}
 use Rattle.model.proofs.Logic.{same-truth, and-left, and-right, larger-most}

@@ -30,7 +30,10 @@ pub fn decide(
     symbols: &[u16],
     stamps: &[u32],
 ) -> Answer
-    ensures { λ r. ⌜ Decides (now (file .entry)) (now (edges .entry)) (now (edges .exit)) (now (scratch .entry)) (now (scratch .exit)) (now (cells .entry)) (now (cells .exit)) (now (rows .entry)) (now (rows .exit)) (now (pool .entry)) (now (pool .exit)) grain (now (symbols .entry)) (now (stamps .entry)) r ⌝ }
+    ensures { λ r.
+        ⌜ Decides (now (file .entry)) (now (edges .entry)) (now (edges .exit)) (now (scratch .entry))
+        (now (scratch .exit)) (now (cells .entry)) (now (cells .exit)) (now (rows .entry)) (now (rows .exit))
+        (now (pool .entry)) (now (pool .exit)) grain (now (symbols .entry)) (now (stamps .entry)) r ⌝ }
 {
     let reading = read_rule(file, edges);
     if reading.number != 0 {

@@ -5,7 +5,8 @@ use Prim.Native.Nat.{ℕ, _<_, _+_, _-_, _*_}
 use lib.ListN.{getD, drop}
 use borrow.Author.Needs.{needs}
 use Rattle.model.specs.Layout.{edgeFields, edgeWidth}
-use Rattle.edges.proofs.Laws.{Largest, largest-start, largest-next, largest-end, atom-constant, larger-less, larger-least, count-known}
+use Rattle.edges.proofs.Laws.{Largest, largest-start, largest-next, largest-end, atom-constant, larger-less}
+use Rattle.edges.proofs.Laws.{larger-least, count-known}
 use Rattle.edges.proofs.largest_in.Statement.{statement}
 use Rattle.edges.proofs.largest_in.Tie as tie
 
@@ -58,8 +59,10 @@ loop-again c =
       search needs,
       search needs,
       ⊎-elim
-          (λ w. largest-next (l .inv .3) (c .if1 .most) k (search needs) known (w .1 ∙ larger-less (l .most) k (w .0 .taken)))
-          (λ w. largest-next (l .inv .3) (c .if1 .most) k (search needs) known (w .1 ∙ larger-least (l .most) k (w .0 .left)))
+          (λ w. largest-next (l .inv .3) (c .if1 .most) k (search needs) known
+          (w .1 ∙ larger-less (l .most) k (w .0 .taken)))
+          (λ w. largest-next (l .inv .3) (c .if1 .most) k (search needs) known
+          (w .1 ∙ larger-least (l .most) k (w .0 .left)))
           (c .if1 .came),
     )
 

@@ -9,7 +9,8 @@ use Rattle.edges.proofs.top_of.Statement.{statement}
 use Rattle.edges.proofs.top_of.Tie as tie
 
 abbrev Inv-loop : tie.InvT-loop
-Inv-loop edges count ceiling most₀ e₀ most e = (count < 2 ^ 32) × (most₀ ≡ ceiling - 1) × LargestEdge most₀ count e most edges
+Inv-loop edges count ceiling most₀ e₀ most e =
+    (count < 2 ^ 32) × (most₀ ≡ ceiling - 1) × LargestEdge most₀ count e most edges
 
 abbrev μ-loop : tie.MeasureT-loop
 μ-loop edges count ceiling most₀ e₀ most e = count - e
@@ -24,8 +25,11 @@ sub-most : tie.Need-sub-most Inv-loop μ-loop
 sub-most c = search needs
 
 loop-holds : tie.Need-loop-holds Inv-loop μ-loop
-loop-holds c =
-    (search needs, ⊎-elim (λ w. omega (arith, w .1)) (λ w. omega (arith, w .0 .left, w .1)) (c .if1 .came), edges-start _ _ _)
+loop-holds c = (
+  search needs,
+  ⊎-elim (λ w. omega (arith, w .1)) (λ w. omega (arith, w .0 .left, w .1)) (c .if1 .came),
+  edges-start _ _ _,
+)
 
 largest-in-requires : tie.Need-largest-in-requires Inv-loop μ-loop
 largest-in-requires c κs = search needs

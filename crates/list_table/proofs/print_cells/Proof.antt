@@ -1,4 +1,4 @@
--- `list_table::print_cells` is safe and ends: a line that is whole lies within the table, so the place after it does too.
+-- `list_table::print_cells` is safe and ends: a whole line lies within the table, so the place after it does too.
 use Prim.Native.Nat.{_≤_, _-_}
 use borrow.Author.Needs.{needs}
 use Rattle.list_table.proofs.print_cells.Statement.{statement}

@@ -5,7 +5,8 @@ use lib.ListN.{length}
 use borrow.Author.Needs.{needs}
 use Rattle.reader.specs.State.{StepIs}
 use Rattle.reader.specs.declared.Step.{Step}
-use Rattle.reader.proofs.Ends.{Reads, reads-under-way, reads-start, reads-next, next-less, reads-stops, reads-ends}
+use Rattle.reader.proofs.Ends.{Reads, reads-under-way, reads-start, reads-next, next-less, reads-stops}
+use Rattle.reader.proofs.Ends.{reads-ends}
 use Rattle.reader.proofs.read_records.Statement.{statement}
 use Rattle.reader.proofs.read_records.Tie as tie
 

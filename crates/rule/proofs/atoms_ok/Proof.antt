@@ -2,7 +2,8 @@
 use Prim.Native.Nat.{_-_}
 use native.Mathlib.Omega.{arith}
 use borrow.Author.Needs.{needs}
-use Rattle.rule.proofs.Laws.{Atoms, atoms-start, atoms-clock, atoms-relation, atoms-constant, atoms-next, atoms-end}
+use Rattle.rule.proofs.Laws.{Atoms, atoms-start, atoms-clock, atoms-relation, atoms-constant, atoms-next}
+use Rattle.rule.proofs.Laws.{atoms-end}
 use Rattle.rule.proofs.atoms_ok.Statement.{statement}
 use Rattle.rule.proofs.atoms_ok.Tie as tie
 

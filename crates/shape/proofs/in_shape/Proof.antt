@@ -17,7 +17,9 @@ use Rattle.shape.proofs.in_shape.Tie as tie
 ranged-at : (c : tie.Else1) → sizesInRange (c .before .before .before .before .before .args .built) ≡ true
 ranged-at c = is-true (c .before .in-range .ensures) (c .if1 .left)
 
-sized-at : (c : tie.Else2) → builtSizesOk (c .before .before .before .before .before .before .before .before .args .built) ≡ true
+sized-at :
+    (c : tie.Else2)
+    → builtSizesOk (c .before .before .before .before .before .before .before .before .args .built) ≡ true
 sized-at c =
     let k = c .before .before in
     let counts = is-true (c .before .counts-ok .ensures) (c .if2 .left) in

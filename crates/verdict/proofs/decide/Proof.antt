@@ -16,7 +16,8 @@ same-length c = search needs
 returns : tie.Need-returns
 returns c =
     rw (c .handed-on .ensures)
-    (unread _ _ _ _ _ _ _ _ _ _ _ (c .before .before .before .before .before .read-rule .ensures) (c .before .if1 .taken))
+    (unread _ _ _ _ _ _ _ _ _ _ _ (c .before .before .before .before .before .read-rule .ensures)
+    (c .before .if1 .taken))
 
 build-table-requires : tie.Need-build-table-requires
 build-table-requires c κs = search needs
@@ -44,7 +45,8 @@ returns-2 c =
     let made = c .before .before .before .before .before .before .before .before .before .before .before in
     let read = made .before .before .before .before .before .before .before .before .before .before .before in
     rw (c .handed-on2 .ensures)
-    (unbuilt _ _ _ _ _ _ _ _ _ _ _ _ _ _ _ _ (read .read-rule .ensures) (made .before .before .before .before .before .before .before .if1 .left)
+    (unbuilt _ _ _ _ _ _ _ _ _ _ _ _ _ _ _ _ (read .read-rule .ensures)
+    (made .before .before .before .before .before .before .before .if1 .left)
     (made .build-table .ensures)
     (c .before .if2 .taken))
 
@@ -52,7 +54,10 @@ run-table-requires : tie.Need-run-table-requires
 run-table-requires c κs = search needs
 
 same-length-7 : tie.Need-same-length-7
-same-length-7 c = c .before .before .before .before .before .before .before .before .before .before .before .before .before .before .before .before .before .before .before .before .before .before .before .before .before .before .read-rule .kept .1 .0
+same-length-7 c =
+    c .before .before .before .before .before .before .before .before .before .before .before .before .before .before
+    .before .before .before .before .before .before .before .before .before .before .before .before .read-rule .kept
+    .1 .0
 
 same-length-8 : tie.Need-same-length-8
 same-length-8 c = search needs
@@ -68,9 +73,11 @@ same-length-11 c = search needs
 
 returns-3 : tie.Need-returns-3
 returns-3 c =
-    let made = c .before .before .before .before .before .before .before .before .before .before .before .before .before .before .before in
+    let made = c .before .before .before .before .before .before .before .before .before .before .before .before
+    .before .before .before in
     let read = made .before .before .before .before .before .before .before .before .before .before .before in
-    decided _ _ _ _ _ _ _ _ _ _ _ _ _ _ _ _ (read .read-rule .ensures) (made .before .before .before .before .before .before .before .if1 .left)
+    decided _ _ _ _ _ _ _ _ _ _ _ _ _ _ _ _ (read .read-rule .ensures)
+    (made .before .before .before .before .before .before .before .if1 .left)
     (made .build-table .ensures)
     (c .run-table .result)
     (c .before .before .before .before .before .if2 .left)

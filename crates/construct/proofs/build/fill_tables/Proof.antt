@@ -5,7 +5,8 @@ use native.Mathlib.Omega.{arith}
 use lib.ListN.{length}
 use borrow.Author.Needs.{needs}
 use Rattle.model.specs.Layout.{ruleIn}
-use Rattle.construct.proofs.Beginning.{room-few, room-rows, room-cells, room-of, each-is, start-refused, start-fills, start-done}
+use Rattle.construct.proofs.Beginning.{room-few, room-rows, room-cells, room-of, each-is, start-refused}
+use Rattle.construct.proofs.Beginning.{start-fills, start-done}
 use Rattle.construct.proofs.StartLaws.{can-start, start-row}
 use Rattle.construct.proofs.SymbolFilling.{symbols-few}
 use Rattle.construct.proofs.build.fill_tables.Statement.{statement}
@@ -105,7 +106,8 @@ fill-rows-requires c κs =
           (after-place-start .place-start .kept .1 .1 .0)
           (each-is (s .args .head) (s .args .edges .now) _ _ (s .pre .ready) (after-wide32 .wide32 .ensures .0)
           (after-wide8 .wide8 .ensures .0))
-          (room-cells (length (s .args .cells .now)) (length (s .args .rows .now)) _ _ (after-row-room .row-room .ensures))
+          (room-cells (length (s .args .cells .now)) (length (s .args .rows .now)) _ _
+          (after-row-room .row-room .ensures))
           (at-if1 .if1 .left),
       after-link-edges .link-edges .ensures,
     )

@@ -6,13 +6,16 @@ use lib.ListN.{length}
 use borrow.Author.Needs.{needs, scaled-fits}
 use Rattle.model.specs.Layout.{ruleIn}
 use Rattle.model.specs.Construction.{width as widthOf}
-use Rattle.construct.proofs.SymbolFilling.{Filling, filling-start, filling-leave, filling-refused, filling-next, filling-fits, filling-end, symbols-of, symbols-few, width-is, place-known}
+use Rattle.construct.proofs.SymbolFilling.{Filling, filling-start, filling-leave, filling-refused}
+use Rattle.construct.proofs.SymbolFilling.{filling-next, filling-fits, filling-end, symbols-of, symbols-few}
+use Rattle.construct.proofs.SymbolFilling.{width-is, place-known}
 use Rattle.construct.specs.Rows.{rowsIn}
 use Rattle.construct.proofs.cells.fill_symbol.Statement.{statement}
 use Rattle.construct.proofs.cells.fill_symbol.Tie as tie
 
 abbrev Inv-loop : tie.InvT-loop
-Inv-loop head edges links scale row symbol marks₀ cells₀ rows₀ pool₀ width at progress₀ i₀ marks cells rows pool progress i =
+Inv-loop head edges links scale row symbol marks₀ cells₀ rows₀ pool₀ width at progress₀ i₀ marks cells rows pool
+    progress i =
     (width ≡ widthOf (ruleIn head edges)) × (width ≤ 512) × (at ≡ (row * ruleIn head edges .symbols + symbol) * width)
     × (length marks ≡ length marks₀) × (length rows ≡ length rows₀) × (length pool ≡ length pool₀)
     × Filling (ruleIn head edges) row symbol at (rowsIn (progress₀ .rows) rows₀ pool₀) (progress₀ .room) marks₀
@@ -20,14 +23,16 @@ Inv-loop head edges links scale row symbol marks₀ cells₀ rows₀ pool₀ wid
     cells rows pool progress
 
 abbrev μ-loop : tie.MeasureT-loop
-μ-loop head edges links scale row symbol marks₀ cells₀ rows₀ pool₀ width at progress₀ i₀ marks cells rows pool progress i =
+μ-loop head edges links scale row symbol marks₀ cells₀ rows₀ pool₀ width at progress₀ i₀ marks cells rows pool
+    progress i =
     width - i
 
 -- the cell's place lies in the table
 fits :
     (c : tie.In-loop Inv-loop μ-loop)
     → c .before .before .place-of .result + c .before .loop .i
-    < length (c .before .before .before .before .before .before .before .before .before .before .before .before .args .cells
+    < length (c .before .before .before .before .before .before .before .before .before .before .before .before
+    .args .cells
     .now)
 fits c =
     let s = c .before .before .before .before .before .before .before .before .before .before .before .before in
@@ -116,14 +121,16 @@ add-cells : tie.Need-add-cells Inv-loop μ-loop
 add-cells c =
     let after-place = c .before .before .before .before .before .before .before .before .before .before .before
     .before .before .before in
-    let start = after-place .before .before .before .before .before .before .before .before .before .before .before .before in
+    let start = after-place .before .before .before .before .before .before .before .before .before .before .before
+    .before in
     omega (arith, fits after-place, start .good .1 .1 .1 .1 .1 .1 .1 .0 .0)
 
 mul-cells : tie.Need-mul-cells Inv-loop μ-loop
 mul-cells c =
     let after-place = c .before .before .before .before .before .before .before .before .before .before .before
     .before .before .before in
-    let start = after-place .before .before .before .before .before .before .before .before .before .before .before .before in
+    let start = after-place .before .before .before .before .before .before .before .before .before .before .before
+    .before in
     scaled-fits _ (length (start .args .cells .now)) 4 (fits after-place) (start .good .1 .1 .1 .1 .1 .1 .1 .0 .1)
 
 slice-write-cells : tie.Need-slice-write-cells Inv-loop μ-loop

@@ -18,6 +18,18 @@ Inv-loop edges e₀ none links₀ e links = (e ≤ e₀) × LinkedFrom (edgesIn 
 abbrev μ-loop : tie.MeasureT-loop
 μ-loop edges e₀ none links₀ e links = e
 
+-- source and symbol of the edge that is linked
+fields :
+    (c : tie.In-loop Inv-loop μ-loop)
+    → Fields (c .before .before .before .before .before .args .edges .now)
+    (edgesIn (c .before .before .before .wide32 .result) (c .before .before .before .before .before .args .edges .now))
+    (c .before .loop .e - 1)
+fields c =
+    let after-wide32 = c .before .before .before in
+    let start = after-wide32 .before .before in
+    fields-of (start .args .head) (start .args .edges .now) _ _ (start .pre) (after-wide32 .wide32 .ensures .0)
+    (omega (arith, c .loop-test .taken, c .before .loop .inv .0))
+
 wide32-requires : tie.Need-wide32-requires Inv-loop μ-loop
 wide32-requires c κs = search needs
 
@@ -61,14 +73,16 @@ mul-links c = search needs
 
 array-read-links : tie.Need-array-read-links Inv-loop μ-loop
 array-read-links c =
-    let at-loop = c .before .before .before in
-    let after-wide32 = at-loop .before .before in
-    let start = after-wide32 .before .before in
-    let a = start .args in
-    let f : Fields (a .edges .now) (edgesIn (after-wide32 .wide32 .result) (a .edges .now)) (at-loop .loop .e - 1) =
-    fields-of (a .head) (a .edges .now) (after-wide32 .wide32 .result) (at-loop .loop .e - 1) (start .pre)
-    (after-wide32 .wide32 .ensures .0) (omega (arith, c .before .before .loop-test .taken, at-loop .loop .inv .0)) in
-    omega (arith, f .source-is, f .symbol-is, f .source-few, f .symbol-few, c .before .number-at .ensures .0, c .number-at2 .ensures .0)
+    let f = fields (c .before .before) in
+    omega (
+      arith,
+      f .source-is,
+      f .symbol-is,
+      f .source-few,
+      f .symbol-few,
+      c .before .number-at .ensures .0,
+      c .number-at2 .ensures .0,
+    )
 
 add-links : tie.Need-add-links Inv-loop μ-loop
 add-links c = search needs
@@ -104,18 +118,28 @@ loop-less c = search needs
 
 loop-again : tie.Need-loop-again Inv-loop μ-loop
 loop-again c =
-    let at-loop = c .before .before .before .before in
+    let in-loop = c .before .before .before in
+    let at-loop = in-loop .before in
     let after-wide32 = at-loop .before .before in
     let start = after-wide32 .before .before in
     let a = start .args in
-    let f : Fields (a .edges .now) (edgesIn (after-wide32 .wide32 .result) (a .edges .now)) (at-loop .loop .e - 1) =
-    fields-of (a .head) (a .edges .now) (after-wide32 .wide32 .result) (at-loop .loop .e - 1) (start .pre)
-    (after-wide32 .wide32 .ensures .0) (omega (arith, c .before .before .before .loop-test .taken, at-loop .loop .inv .0)) in (
+    let f = fields in-loop in (
       omega arith,
-      link-step _ _ _ _ _ (at-loop .loop .inv .1) (c .before .before .before .loop-test .taken)
-          (omega (arith, at-loop .loop .inv .0, after-wide32 .wide32 .ensures .0, edges-few (a .head) (a .edges .now) (start .pre)))
+      link-step _ _ _ _ _ (at-loop .loop .inv .1) (in-loop .loop-test .taken)
+          (omega (
+            arith,
+            at-loop .loop .inv .0,
+            after-wide32 .wide32 .ensures .0,
+            edges-few (a .head) (a .edges .now) (start .pre),
+          ))
           (f .inside) (f .source-few) (f .symbol-few)
-          (omega (arith, f .source-is, f .symbol-is, c .before .before .number-at .ensures .0, c .before .number-at2 .ensures .0))
+          (omega (
+            arith,
+            f .source-is,
+            f .symbol-is,
+            c .before .before .number-at .ensures .0,
+            c .before .number-at2 .ensures .0,
+          ))
           (c .narrow162 .ensures),
     )
 

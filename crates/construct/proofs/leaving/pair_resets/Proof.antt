@@ -4,12 +4,14 @@ use Prim.Native.Nat.{_-_}
 use native.Mathlib.Omega.{arith}
 use borrow.Author.Needs.{needs}
 use Rattle.model.specs.Layout.{ruleIn}
-use Rattle.construct.proofs.EdgeLaws.{edge-count, first-at, resets-is, Looking, looking-start, looking-found, looking-next, looking-end, looking-later}
+use Rattle.construct.proofs.EdgeLaws.{edge-count, first-at, resets-is, Looking, looking-start, looking-found}
+use Rattle.construct.proofs.EdgeLaws.{looking-next, looking-end, looking-later}
 use Rattle.construct.proofs.leaving.pair_resets.Statement.{statement}
 use Rattle.construct.proofs.leaving.pair_resets.Tie as tie
 
 abbrev Inv-loop : tie.InvT-loop
-Inv-loop head edges links scale input code pair e₀ e = Looking (ruleIn head edges) (input .symbol) (input .interval) code e
+Inv-loop head edges links scale input code pair e₀ e =
+    Looking (ruleIn head edges) (input .symbol) (input .interval) code e
 
 abbrev μ-loop : tie.MeasureT-loop
 μ-loop head edges links scale input code pair e₀ e = head .count - e
@@ -27,7 +29,8 @@ loop-holds c =
     let a = start .args in
     looking-start (ruleIn (a .head) (a .edges .now)) (a .input .symbol) (a .input .interval) (a .code) _
     (c .first-edge .ensures
-    ∙ first-at (a .head) (a .edges .now) (a .links .now) (a .input .symbol) (a .code) _ (start .pre .0) (start .pre .1 .0)
+    ∙ first-at (a .head) (a .edges .now) (a .links .now) (a .input .symbol) (a .code) _ (start .pre .0)
+    (start .pre .1 .0)
     (start .pre .1 .1)
     (after-unpack .unpack .ensures))
 

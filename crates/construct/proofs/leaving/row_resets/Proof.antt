@@ -35,7 +35,8 @@ pair-resets-requires c κs = search needs
 returns-2 : tie.Need-returns-2 Inv-loop μ-loop
 returns-2 c =
     let in-loop = c .before .before .before in
-    row-found (in-loop .before .loop .inv) _ (in-loop .loop-test .taken) (c .before .pair-resets .ensures) (c .if2 .taken)
+    row-found (in-loop .before .loop .inv) _ (in-loop .loop-test .taken) (c .before .pair-resets .ensures)
+    (c .if2 .taken)
 
 add-n : tie.Need-add-n Inv-loop μ-loop
 add-n c = search needs

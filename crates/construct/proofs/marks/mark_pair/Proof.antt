@@ -7,7 +7,8 @@ use lib.ListN.{length}
 use borrow.Author.Needs.{needs}
 use Rattle.construct.proofs.MarkLaws.{marks-again}
 use Rattle.construct.proofs.EdgeLaws.{first-at}
-use Rattle.construct.proofs.TargetMarks.{Pairing, pairing-start, pairing-can, pairing-next, pairing-skip, pairing-later, pairing-end}
+use Rattle.construct.proofs.TargetMarks.{Pairing, pairing-start, pairing-can, pairing-next, pairing-skip}
+use Rattle.construct.proofs.TargetMarks.{pairing-later, pairing-end}
 use Rattle.construct.specs.Marks.{codesIn}
 use Rattle.construct.proofs.marks.mark_pair.Statement.{statement}
 use Rattle.construct.proofs.marks.mark_pair.Tie as tie

@@ -8,8 +8,8 @@ use Rattle.construct.proofs.marks.mark_row.Statement.{statement}
 use Rattle.construct.proofs.marks.mark_row.Tie as tie
 
 abbrev Inv-loop : tie.InvT-loop
-Inv-loop head edges links scale input timer row marks₀ span₀ n₀ marks span n = (length marks ≡ length marks₀) × Rowing head
-    edges input timer row n marks span
+Inv-loop head edges links scale input timer row marks₀ span₀ n₀ marks span n =
+    (length marks ≡ length marks₀) × Rowing head edges input timer row n marks span
 
 abbrev μ-loop : tie.MeasureT-loop
 μ-loop head edges links scale input timer row marks₀ span₀ n₀ marks span n = length row - n

@@ -6,7 +6,8 @@ use native.Mathlib.Omega.{arith}
 use lib.ListN.{length, getD}
 use borrow.Author.Count.{below-more}
 use borrow.Author.Needs.{needs, scaled-fits}
-use Rattle.construct.proofs.RowSearch.{Searching, searching, search-next, search-found, search-ends, row-fits, row-is, row-differs, row-longer}
+use Rattle.construct.proofs.RowSearch.{Searching, searching, search-next, search-found, search-ends, row-fits}
+use Rattle.construct.proofs.RowSearch.{row-is, row-differs, row-longer}
 use Rattle.construct.specs.Rows.{rowIn}
 use Rattle.construct.proofs.rows.find_row.Statement.{statement}
 use Rattle.construct.proofs.rows.find_row.Tie as tie

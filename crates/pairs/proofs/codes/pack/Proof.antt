@@ -5,7 +5,8 @@ use native.Mathlib.Omega.{arith}
 use lib.ListN.{take}
 use borrow.Author.Needs.{needs}
 use Rattle.model.specs.Construction.{digitsCode}
-use Rattle.pairs.proofs.Bases.{Packing, packing-start, packing-next, packing-skip, packing-end, pack-is, first-most, digit-most, place-next}
+use Rattle.pairs.proofs.Bases.{Packing, packing-start, packing-next, packing-skip, packing-end, pack-is}
+use Rattle.pairs.proofs.Bases.{first-most, digit-most, place-next}
 use Rattle.pairs.proofs.codes.pack.Statement.{statement}
 use Rattle.pairs.proofs.codes.pack.Tie as tie
 

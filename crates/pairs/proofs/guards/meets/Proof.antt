@@ -1,5 +1,6 @@
 -- `pairs::guards::meets` meets its contract, relation by relation.
-use Rattle.pairs.proofs.GuardTests.{related-less, related-at-most, related-equal, related-at-least, related-other}
+use Rattle.pairs.proofs.GuardTests.{related-less, related-at-most, related-equal, related-at-least}
+use Rattle.pairs.proofs.GuardTests.{related-other}
 use Rattle.pairs.proofs.guards.meets.Statement.{statement}
 use Rattle.pairs.proofs.guards.meets.Tie as tie
 

@@ -1,7 +1,8 @@
 -- `reader::Cursor::step` meets its contract: the faults in their order, then the record is taken.
 use native.Mathlib.Omega.{arith}
 use borrow.Author.Needs.{needs}
-use Rattle.reader.proofs.Steps.{restOf, rest-whole, stops-cut, stops-body, body-known, stops-fault, taken-room, goes-on}
+use Rattle.reader.proofs.Steps.{restOf, rest-whole, stops-cut, stops-body, body-known, stops-fault, taken-room}
+use Rattle.reader.proofs.Steps.{goes-on}
 use Rattle.reader.proofs.Cursor.step.Statement.{statement}
 use Rattle.reader.proofs.Cursor.step.Tie as tie
 

@@ -1,7 +1,8 @@
 -- `reader::atoms_ok` meets its contract: the atoms passed are in range, so that the rest decides.
 use Prim.Native.Nat.{_-_}
 use borrow.Author.Needs.{needs}
-use Rattle.reader.proofs.Atoms.{InRange, range-start, range-clock, range-relation, range-constant, range-next, range-end}
+use Rattle.reader.proofs.Atoms.{InRange, range-start, range-clock, range-relation, range-constant, range-next}
+use Rattle.reader.proofs.Atoms.{range-end}
 use Rattle.reader.proofs.edge.atoms_ok.Statement.{statement}
 use Rattle.reader.proofs.edge.atoms_ok.Tie as tie
 

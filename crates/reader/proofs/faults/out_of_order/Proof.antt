@@ -1,6 +1,7 @@
 -- `reader::out_of_order` meets its contract: its tests, one by one, by what the cursor holds.
 use borrow.Author.Needs.{needs}
-use Rattle.reader.proofs.FaultLaws.{order-sizes, order-missing, order-falls, order-initial, order-final, order-ceiling, order-other}
+use Rattle.reader.proofs.FaultLaws.{order-sizes, order-missing, order-falls, order-initial, order-final}
+use Rattle.reader.proofs.FaultLaws.{order-ceiling, order-other}
 use Rattle.reader.proofs.faults.out_of_order.Statement.{statement}
 use Rattle.reader.proofs.faults.out_of_order.Tie as tie
 
