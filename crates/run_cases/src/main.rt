@@ -123,87 +123,32 @@ fn print_stray(built: Built, cells: &[u32], rows: &[u32], pool: &[u32]) {
     print_refusal(followed.number, followed.place);
 }
 
-fn print_words(head: Head, edges: &[u16], built: Built, cells: &[u32], rows: &[u32], pool: &[u32]) {
+// Low and good return in turn at 1, 2, 2 and 3 s: no event, the first, the first two, ..
+fn print_starts(
+    head: Head,
+    edges: &[u16],
+    built: Built,
+    cells: &[u32],
+    rows: &[u32],
+    pool: &[u32],
+) {
     let symbols = [0u16, 1, 0, 1];
     let stamps = [2u32, 4, 4, 6];
-    print_word(
-        head,
-        edges,
-        built,
-        cells,
-        rows,
-        pool,
-        2,
-        &symbols[..0],
-        &stamps[..0],
-    );
-    print_word(
-        head,
-        edges,
-        built,
-        cells,
-        rows,
-        pool,
-        2,
-        &symbols[..1],
-        &stamps[..1],
-    );
-    print_word(
-        head,
-        edges,
-        built,
-        cells,
-        rows,
-        pool,
-        2,
-        &symbols[..2],
-        &stamps[..2],
-    );
-    print_word(
-        head,
-        edges,
-        built,
-        cells,
-        rows,
-        pool,
-        2,
-        &symbols[..2],
-        &[2u32, 3],
-    );
-    print_word(
-        head,
-        edges,
-        built,
-        cells,
-        rows,
-        pool,
-        2,
-        &symbols[..1],
-        &[1u32],
-    );
-    print_word(
-        head,
-        edges,
-        built,
-        cells,
-        rows,
-        pool,
-        2,
-        &symbols[..3],
-        &stamps[..3],
-    );
-    print_word(head, edges, built, cells, rows, pool, 2, &symbols, &stamps);
-    print_word(
-        head,
-        edges,
-        built,
-        cells,
-        rows,
-        pool,
-        3,
-        &symbols[..2],
-        &[3u32, 7],
-    );
+    let mut n: usize = 0;
+    while n < 5 {
+        let events = &symbols[..n];
+        let at = &stamps[..n];
+        print_word(head, edges, built, cells, rows, pool, 2, events, at);
+        n += 1;
+    }
+}
+
+// At 1 and 1.5 s; at 0.5 s; at 1 and 2 1/3 s, in thirds of a second.
+fn print_times(head: Head, edges: &[u16], built: Built, cells: &[u32], rows: &[u32], pool: &[u32]) {
+    let both = [0u16, 1];
+    print_word(head, edges, built, cells, rows, pool, 2, &both, &[2u32, 3]);
+    print_word(head, edges, built, cells, rows, pool, 2, &[0u16], &[1u32]);
+    print_word(head, edges, built, cells, rows, pool, 3, &both, &[3u32, 7]);
 }
 
 fn print_refusals(file: &[u8], built: Built, cells: &[u32], rows: &[u32], pool: &[u32]) {
@@ -230,6 +175,7 @@ fn main() {
     let mut pool = [7u32; 2];
     let building = build_table(head, &edges, &mut scratch, &mut cells, &mut rows, &mut pool);
     let built = building.built;
-    print_words(head, &edges, built, &cells, &rows, &pool);
+    print_starts(head, &edges, built, &cells, &rows, &pool);
+    print_times(head, &edges, built, &cells, &rows, &pool);
     print_refusals(worked, built, &cells, &rows, &pool);
 }
