@@ -77,7 +77,7 @@ ascending-of n [] a = refl
 ascending-of n (x ∷ xs) a = rw (le-leb n x (a .0), ascending-of (suc x) xs (a .1))
 
 -- a code is put in where it keeps the order
-with-ascends : (n x : ℕ) (ys : List ℕ) → n ≤ x → Asc n ys → Asc n (withCode x ys)
+pub with-ascends : (n x : ℕ) (ys : List ℕ) → n ≤ x → Asc n ys → Asc n (withCode x ys)
 with-ascends n x [] h a = (h, tt)
 with-ascends n x (y ∷ ys) h a = go (cmp x y) (with-ascends (suc y) x ys)
   where

@@ -14,7 +14,7 @@ use Rattle.model.specs.declared.Built.{Built}
 use Rattle.model.specs.Basics.{oneIf, within, remainder, allBelow, zeros, filled}
 use Rattle.model.specs.Rules.{Rule, cm, pairCount, mostPairs, sizesOk}
 use Rattle.model.specs.Construction.{width, nextRow, rowResets, numberOf, rowsOf, mostRows, cellOf}
-use Rattle.model.specs.Tables.{rowWidth, cellsFrom, symbolCells, cellNumbers, rowNumbers, poolNumbers, builtBy}
+use Rattle.model.specs.Tables.{rowWidth, cellsFrom, symbolCells, cellNumbers, rowNumbers, codesSay, poolNumbers, builtBy}
 use Rattle.model.specs.Tables.{tablesBy, tablesOf}
 use Rattle.model.specs.Walks.{builtPairs, builtSizesOk, cellNeed, longEnough, rowsChain, cellOk, cellsOk, inShape}
 use Rattle.model.specs.Demands.{Built-in-shape}
@@ -63,7 +63,7 @@ pub long-enough : (r : Rule) (rows : List (List ℕ)) (c n p : ℕ) → longEnou
 unfolding tablesBy
 long-enough r rows c n p =
     let cells : List ℕ = cellNumbers r rows rows in
-    let numbers : List ℕ = rowNumbers 0 rows in
+    let numbers : List ℕ = rowNumbers codesSay 0 rows in
     let pool : List ℕ = poolNumbers rows in
     let need : ℕ = length rows * (r .symbols * width r) in
     and-both (leb need (length (filled c cells)) && leb (rowWidth * length rows) (length (filled n numbers)))
@@ -78,10 +78,10 @@ long-enough r rows c n p =
 pub rows-chain :
     (p total : ℕ) (xs : List (List ℕ)) (rest : List ℕ)
     → total ≡ p + length (poolNumbers xs)
-    → rowsChain (length xs) p (rowNumbers p xs ++ rest) total ≡ true
+    → rowsChain (length xs) p (rowNumbers codesSay p xs ++ rest) total ≡ true
 rows-chain p total [] rest h = eq-eqb p total (omega arith)
 rows-chain p total (x ∷ xs) rest h =
-    and-both (eqb p p) (rowsChain (length xs) (p + length x) (rowNumbers (p + length x) xs ++ rest) total)
+    and-both (eqb p p) (rowsChain (length xs) (p + length x) (rowNumbers codesSay (p + length x) xs ++ rest) total)
     (eq-eqb p p refl)
     (rows-chain (p + length x) total xs rest (omega (arith, length-append x (poolNumbers xs))))
 
@@ -189,7 +189,7 @@ shape-by r rows c n p v some few closed below =
     let b : Built = builtBy r rows in
     let sizes : Bool = builtSizesOk b in
     let long : Bool = longEnough (tablesBy r rows c n p) in
-    let chain : Bool = rowsChain (length rows) 0 (filled n (rowNumbers 0 rows)) (b .total) in
+    let chain : Bool = rowsChain (length rows) 0 (filled n (rowNumbers codesSay 0 rows)) (b .total) in
     let codes : Bool = allBelow (builtPairs b) (take (b .total) (filled p (poolNumbers rows))) in
     let cells : Bool = cellsOk 0 (width r) (length rows) (take (cellNeed b) (filled c (cellNumbers r rows rows))) in
     let front : take (b .total) (filled p (poolNumbers rows)) ≡ poolNumbers rows =
@@ -202,7 +202,7 @@ shape-by r rows c n p v some few closed below =
     (and-both (sizes && long && chain) codes
     (and-both (sizes && long) chain
     (and-both sizes long (built-sizes r rows v some few) (long-enough r rows c n p))
-    (rows-chain 0 (b .total) rows (zeros (n - length (rowNumbers 0 rows))) (omega arith)))
+    (rows-chain 0 (b .total) rows (zeros (n - length (rowNumbers codesSay 0 rows))) (omega arith)))
     (rw front (below-test (pairCount r) (poolNumbers rows) (pool-below (pairCount r) rows below))))
     (rw whole (rw z at (rows-cells r rows 0 rows (cell-ok r rows v closed))))
 

@@ -12,7 +12,7 @@ use borrow.Author.Tests.{ltb-true}
 use Rattle.model.specs.Basics.{zeros}
 use Rattle.model.specs.Rules.{Rule}
 use Rattle.model.specs.Construction.{width, rowsOf, rowAt, cellOf, locationOf, holdsFinal}
-use Rattle.model.specs.Tables.{cellsFrom, symbolCells, cellNumbers, rowWidth, rowNumbers, poolNumbers, builtBy}
+use Rattle.model.specs.Tables.{cellsFrom, symbolCells, cellNumbers, rowWidth, rowNumbers, codesSay, poolNumbers, builtBy}
 use Rattle.model.specs.Tables.{tablesBy, tablesOf}
 use Rattle.model.specs.Walks.{rowCodes, anyFinal, verdict, cellAt}
 use Rattle.model.specs.Claims.{Every-place}
@@ -99,7 +99,7 @@ startOf (suc n) (x ∷ xs) = length x + startOf n xs
 pub start-number :
     (p : ℕ) (xs : List (List ℕ)) (n : ℕ)
     → n < length xs
-    → getD (rowNumbers p xs) (rowWidth * n) 0 ≡ p + startOf n xs
+    → getD (rowNumbers codesSay p xs) (rowWidth * n) 0 ≡ p + startOf n xs
 start-number p [] n h = absurd (omega arith)
 start-number p (x ∷ xs) zero h = omega arith
 start-number p (x ∷ xs) (suc n) h =
@@ -109,14 +109,14 @@ start-number p (x ∷ xs) (suc n) h =
 pub length-number :
     (p : ℕ) (xs : List (List ℕ)) (n : ℕ)
     → n < length xs
-    → getD (rowNumbers p xs) (rowWidth * n + 1) 0 ≡ length (rowAt xs n)
+    → getD (rowNumbers codesSay p xs) (rowWidth * n + 1) 0 ≡ length (rowAt xs n)
 length-number p [] n h = absurd (omega arith)
 length-number p (x ∷ xs) zero h = refl
 length-number p (x ∷ xs) (suc n) h =
     let e : rowWidth * suc n + 1 ≡ suc (suc (rowWidth * n + 1)) = omega arith in
     rw e (length-number (p + length x) xs n (omega arith))
 
-pub row-numbers-length : (p : ℕ) (xs : List (List ℕ)) → length (rowNumbers p xs) ≡ rowWidth * length xs
+pub row-numbers-length : (p : ℕ) (xs : List (List ℕ)) → length (rowNumbers codesSay p xs) ≡ rowWidth * length xs
 row-numbers-length p [] = refl
 row-numbers-length p (x ∷ xs) = omega (arith, row-numbers-length (p + length x) xs)
 
@@ -150,7 +150,7 @@ module _ (r : Rule) (rows : List (List ℕ)) (c n p : ℕ) where
   pub codes-by-place : (m : ℕ) → m < length rows → rowCodes (tablesBy r rows c n p) m ≡ rowAt rows m
   unfolding tablesBy
   codes-by-place m h =
-      let numbers : List ℕ = rowNumbers 0 rows in
+      let numbers : List ℕ = rowNumbers codesSay 0 rows in
       let rest : List ℕ = zeros (n - length numbers) in
       let front : (k : ℕ) → k < rowWidth * length rows → getD (numbers ++ rest) k 0 ≡ getD numbers k 0 =
       λ k l. first-part 0 numbers rest k (omega (arith, row-numbers-length 0 rows)) in

@@ -7,7 +7,7 @@ use lib.ListN.{length, getD}
 use Rattle.model.specs.Basics.{pick, oneIf, isIn, same, zeros, quotient, remainder}
 use Rattle.model.specs.Rules.{Atom, Edge, Rule, cm, baseCount}
 use Rattle.model.specs.Words.{Event}
-use Rattle.model.specs.Runs.{zeroed}
+use Rattle.model.specs.Runs.{related, zeroed}
 
 -- Interval numbers of the timer: 2c is [c], 2c + 1 is (c, c + 1), 2 · cm + 1 is everything above cm.
 abbrev pub topInterval : ℕ → ℕ
@@ -30,13 +30,9 @@ abbrev pub regionOf : ℕ → ℕ → ℕ → ℕ
 regionOf c base i =
     pick (ltb c base) (topInterval c) (pick (ltb (2 * c) (2 * base + i)) (topInterval c) (2 * base + i))
 
--- a region against a constant, which is at most cm
+-- a region against a constant, which is at most cm: constant c is region 2c
 abbrev pub regionRelated : ℕ → ℕ → ℕ → Bool
-regionRelated relation region constant =
-    pick (eqb relation 0) (ltb region (2 * constant))
-    (pick (eqb relation 1) (leb region (2 * constant))
-    (pick (eqb relation 2) (eqb region (2 * constant))
-    (pick (eqb relation 3) (leb (2 * constant) region) (ltb (2 * constant) region))))
+regionRelated relation region constant = related relation region (2 * constant)
 
 -- a guard over regions: all atoms hold
 abbrev pub regionsHold : ℕ → ℕ → List ℕ → List Atom → Bool

@@ -2,6 +2,59 @@
 ghost use mathlib.Core.Path.{_≡_};
 ghost use Prim.Native.Nat.{_-_};
 
+// The limits of document 01 and the layout of the lent tables. Each has its name in specs/, as `edgeWidth` for EDGE_WIDTH.
+pub const MOST_LOCATIONS: usize = 32;
+
+pub const MOST_SYMBOLS: usize = 16;
+
+pub const MOST_CLOCKS: usize = 4;
+
+pub const MOST_EDGES: usize = 256;
+
+pub const MOST_ATOMS: usize = 8;
+
+pub const MOST_RELATION: usize = 4;
+
+pub const MOST_CONSTANT: usize = 30;
+
+pub const MOST_PAIRS: usize = 65536;
+
+pub const MOST_GRAIN: usize = 1000;
+
+pub const MOST_EVENTS: usize = 4096;
+
+pub const MOST_BRANCH_EVENTS: usize = 12;
+
+pub const MOST_ROWS: usize = 4096;
+
+// An edge of the table: source, target, symbol, reset mask, atom count, then eight atoms of clock, relation, constant.
+pub const EDGE_SOURCE: usize = 0;
+
+pub const EDGE_TARGET: usize = 1;
+
+pub const EDGE_SYMBOL: usize = 2;
+
+pub const EDGE_RESETS: usize = 3;
+
+pub const EDGE_COUNT: usize = 4;
+
+pub const EDGE_FIELDS: usize = 5;
+
+pub const ATOM_RELATION: usize = 1;
+
+pub const ATOM_CONSTANT: usize = 2;
+
+pub const ATOM_WIDTH: usize = 3;
+
+pub const EDGE_WIDTH: usize = 29;
+
+pub const EDGE_NEED: usize = 7424;
+
+// A row of the table: start and length in the pool.
+pub const ROW_LENGTH: usize = 1;
+
+pub const ROW_WIDTH: usize = 2;
+
 // A time since the start of the word, in D-ths of a second.
 #[repr(C)]
 pub struct Stamp(pub u32);

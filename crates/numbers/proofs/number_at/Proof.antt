@@ -1,0 +1,25 @@
+-- `numbers::number_at` meets its contract: past the end the definitions read 0.
+use mathlib.Core.Path.{sym}
+use borrow.Author.Needs.{needs}
+use lib.ListN.{List·getD-eq-default}
+use Rattle.numbers.proofs.number_at.Statement.{statement}
+use Rattle.numbers.proofs.number_at.Tie as tie
+
+returns : tie.Need-returns
+returns c = (sym (List·getD-eq-default (c .before .before .args .table .now) 0 (c .if1 .taken)), search needs)
+
+mul-wide16 : tie.Need-mul-wide16
+mul-wide16 c = search needs
+
+shared-slice-read-wide16 : tie.Need-shared-slice-read-wide16
+shared-slice-read-wide16 c = search needs
+
+wide16-requires : tie.Need-wide16-requires
+wide16-requires c κs = search needs
+
+returns-2 : tie.Need-returns-2
+returns-2 c = search needs
+
+pub number-at-spec : {M : Type 1} → statement M
+number-at-spec =
+    tie.close (tie.spec returns mul-wide16 shared-slice-read-wide16 wide16-requires returns-2)
