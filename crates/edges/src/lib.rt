@@ -1,52 +1,42 @@
-// The edge table by place, and what the sizes of a rule give: their ranges, cm, powers and N.
+// The edge table by place: an edge's fields, its checks, and what the sizes of a rule give, cm, powers and N.
 // Total: a place past the end of the table holds 0, as in the definitions.
 ghost use mathlib.Core.Path.{_≡_};
-ghost use Prim.Native.Nat.{_+_, _*_, _^_, _≤_, _<_};
+ghost use Prim.Native.Nat.{_^_, _≤_, _<_};
 ghost use lib.Dec.{ltb};
-ghost use lib.ListN.{getD, drop};
 ghost use Rattle.model.specs.Basics.{larger, within};
-ghost use Rattle.model.specs.Rules.{cm, largestConstant, sizesOk};
-ghost use Rattle.model.specs.Layout.{edgeIn, edgeWidth, ruleIn};
+ghost use Rattle.model.specs.Rules.{cm, largestConstant, mostClocks, mostPairs, sizesOk};
+ghost use Rattle.model.specs.Layout.{edgeAt, ruleIn};
 ghost use Rattle.edges.specs.Powers.{smallPower, smallPairs};
+use crate::fields::atoms_place;
+use crate::fields::count_of;
+use model::ATOM_CONSTANT;
+use model::ATOM_WIDTH;
 use model::Head;
+use model::MOST_CLOCKS;
+use model::MOST_CONSTANT;
+use model::MOST_LOCATIONS;
+use model::MOST_PAIRS;
+use model::MOST_SYMBOLS;
+use numbers::number_at;
+use numbers::wide32;
 
-pub fn wide16(x: u16) -> usize
-    ensures { λ r. ⌜ (r ≡ x) × (r < 65536) ⌝ }
-{
-    x as usize
-}
-
-pub fn wide32(x: u32) -> usize
-    ensures { λ r. ⌜ (r ≡ x) × (r < 2 ^ 32) ⌝ }
-{
-    x as usize
-}
-
-// The number at a place of the edge table.
-pub fn number_at(edges: &[u16], at: usize) -> usize
-    ensures { λ r. ⌜ (r ≡ getD (now (edges .entry)) at 0) × (r < 65536) ⌝ }
-{
-    if edges.len() <= at {
-        return 0;
-    }
-    wide16(edges[at])
-}
+pub mod fields;
 
 // base ^ exponent, for a base below 65,536 and an exponent of at most 4.
 pub fn power(base: usize, exponent: usize) -> usize
     ensures { λ r. ⌜ r ≡ smallPower base exponent ⌝ }
 {
-    if 65535 < base {
+    if MOST_PAIRS <= base {
         return 0;
     }
-    if 4 < exponent {
+    if MOST_CLOCKS < exponent {
         return 0;
     }
     small_power(base, exponent)
 }
 
 pub(crate) fn small_power(base: usize, exponent: usize) -> usize
-    requires { ⌜ (base ≤ 65535) × (exponent ≤ 4) ⌝ }
+    requires { ⌜ (base < mostPairs) × (exponent ≤ mostClocks) ⌝ }
     ensures { λ r. ⌜ r ≡ base ^ exponent ⌝ }
 {
     let mut power: usize = 1;
@@ -59,16 +49,15 @@ pub(crate) fn small_power(base: usize, exponent: usize) -> usize
 }
 
 // The largest constant of the atoms of edge `e`, or `least` if that is larger.
-pub(crate) fn largest_in(edges: &[u16], e: usize, least: usize) -> usize
-    requires { ⌜ e < 2 ^ 32 ⌝ }
-    ensures { λ r. ⌜ r ≡ larger least (largestConstant (edgeIn (drop (edgeWidth * e) (now (edges .entry))) .atoms)) ⌝ }
+pub(crate) fn largest_in(edges: &[u16], e: u32, least: usize) -> usize
+    ensures { λ r. ⌜ r ≡ larger least (largestConstant (edgeAt e (now (edges .entry)) .atoms)) ⌝ }
 {
-    let at = 29 * e;
-    let count = number_at(edges, at + 4);
+    let at = atoms_place(e);
+    let count = count_of(edges, e);
     let mut most = least;
     let mut j: usize = 0;
     while j < count {
-        let constant = number_at(edges, at + 3 * j + 7);
+        let constant = number_at(edges, at + ATOM_WIDTH * j + ATOM_CONSTANT);
         if most < constant {
             most = constant;
         }
@@ -81,14 +70,13 @@ pub(crate) fn largest_in(edges: &[u16], e: usize, least: usize) -> usize
 pub fn top_of(head: Head, edges: &[u16]) -> usize
     ensures { λ r. ⌜ r ≡ cm (ruleIn head (now (edges .entry))) ⌝ }
 {
-    let count = wide32(head.count);
     let ceiling = wide32(head.ceiling);
     let mut most: usize = 0;
     if 0 < ceiling {
         most = ceiling - 1;
     }
-    let mut e: usize = 0;
-    while e < count {
+    let mut e: u32 = 0;
+    while e < head.count {
         most = largest_in(edges, e, most);
         e += 1;
     }
@@ -100,15 +88,15 @@ pub fn pairs_of(head: Head, edges: &[u16]) -> usize
     ensures { λ r. ⌜ r ≡ smallPairs head (now (edges .entry)) ⌝ }
 {
     let locations = wide32(head.locations);
-    if 32 < locations {
+    if MOST_LOCATIONS < locations {
         return 0;
     }
     let clocks = wide32(head.clocks);
-    if 4 < clocks {
+    if MOST_CLOCKS < clocks {
         return 0;
     }
     let top = top_of(head, edges);
-    if 30 < top {
+    if MOST_CONSTANT < top {
         return 0;
     }
     locations * power(top + 2, clocks)
@@ -127,13 +115,13 @@ pub(crate) fn in_range(x: usize, most: usize) -> bool
 pub fn sizes_ok(locations: usize, symbols: usize, clocks: usize) -> bool
     ensures { λ r. ⌜ r ≡ sizesOk locations symbols clocks ⌝ }
 {
-    if !in_range(locations, 32) {
+    if !in_range(locations, MOST_LOCATIONS) {
         return false;
     }
-    if !in_range(symbols, 16) {
+    if !in_range(symbols, MOST_SYMBOLS) {
         return false;
     }
-    in_range(clocks, 4)
+    in_range(clocks, MOST_CLOCKS)
 }
 
 // Whether a mask has no bit at or past `bits`.

@@ -1,1 +1,4 @@
+pub mod Answers
+pub mod TwoNumbers
 pub mod Masks
+pub mod Parts

@@ -12,8 +12,8 @@ use Rattle.model.specs.Rules.{Rule, edgeOk, atomsOk, hasEqual}
 use Rattle.model.specs.Files.{numberAt, edgeBody, bodyOk, atomsFrom, edgeFrom, outOfOrder, oneTooMany, badSizes}
 use Rattle.model.specs.Files.{outOfRange, notPinned}
 use Rattle.model.specs.Layout.{headOf}
-use Rattle.edges.proofs.Answers.{failed, passed}
-use Rattle.edges.proofs.Parts.{part-rest}
+use Rattle.numbers.proofs.Answers.{failed, passed}
+use Rattle.numbers.proofs.Parts.{part-rest}
 use Rattle.reader.specs.declared.Cursor.{Cursor}
 use Rattle.reader.specs.State.{Holds, numbered, bodyRefusal}
 

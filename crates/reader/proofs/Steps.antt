@@ -13,8 +13,8 @@ use Rattle.model.specs.Files.{bodyLength, kindOf, bodyOf, edgeBody, bodyOk, cut
 use Rattle.model.proofs.Logic.{by-test, and-left, and-right, neither-right, within-least, within-most}
 use Rattle.model.proofs.FileRecords.{Allowed}
 use Rattle.model.proofs.FileChecks.{record-allowed}
-use Rattle.edges.proofs.Answers.{failed, passed}
-use Rattle.edges.proofs.Parts.{part-rest}
+use Rattle.numbers.proofs.Answers.{failed, passed}
+use Rattle.numbers.proofs.Parts.{part-rest}
 use Rattle.reader.specs.declared.Cursor.{Cursor}
 use Rattle.reader.specs.State.{numbered, bodyRefusal, Body, Room, Takes, State, Goes-on, Stops}
 use Rattle.reader.proofs.Allowed.{room-for, state-after}

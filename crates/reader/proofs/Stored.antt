@@ -14,7 +14,7 @@ use Rattle.model.specs.Layout.{edgeWidth, edgeNumbers}
 use Rattle.model.proofs.Bytes.{numbersOf, number-later, atom-numbers-length}
 use Rattle.model.proofs.EdgesWritten.{edge-numbers-length}
 use Rattle.model.proofs.FileSoFar.{atoms-from-length}
-use Rattle.edges.proofs.Parts.{part-rest}
+use Rattle.numbers.proofs.Parts.{part-rest}
 
 -- one number more
 pub numbers-length : (n : ℕ) (s : List ℕ) → length (numbersOf n s) ≡ n

@@ -15,8 +15,8 @@ use Rattle.model.specs.Rules.{sizesOk, atomsOk, hasEqual, integerReset}
 use Rattle.model.specs.Layout.{edgeFields, edgeWidth, atomsIn, edgeIn}
 use Rattle.model.proofs.Logic.{by-test, or-right}
 use Rattle.model.proofs.EdgeTable.{atoms-rest}
-use Rattle.edges.proofs.Answers.{failed, passed}
-use Rattle.edges.proofs.Parts.{part-rest}
+use Rattle.numbers.proofs.Answers.{failed, passed}
+use Rattle.numbers.proofs.Parts.{part-rest}
 use Rattle.rule.specs.Checks.{allZero, edgeGood, edgesGood}
 
 -- no bit seen up to a place, and zeros from there on

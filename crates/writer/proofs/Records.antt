@@ -14,7 +14,7 @@ use Rattle.model.specs.Layout.{edgeFields, edgeWidth, atomsIn, edgeIn, edgesIn}
 use Rattle.model.proofs.Bytes.{numbers-length}
 use Rattle.model.proofs.EdgeTable.{edges-rest, atoms-length}
 use Rattle.model.proofs.FileRead.{edge-record-length}
-use Rattle.edges.proofs.Parts.{part-rest}
+use Rattle.numbers.proofs.Parts.{part-rest}
 use Rattle.writer.specs.Writing.{Puts, Table}
 use Rattle.writer.proofs.Putting.{Putting, then-put, put-wide, putting-start, putting-room, putting-next}
 

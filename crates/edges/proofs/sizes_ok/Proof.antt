@@ -1,6 +1,6 @@
 -- `edges::sizes_ok` meets its contract: its three ranges in the definition's order.
 use borrow.Author.Needs.{needs}
-use Rattle.edges.proofs.Answers.{failed, passed}
+use Rattle.numbers.proofs.Answers.{failed, passed}
 use Rattle.edges.proofs.sizes_ok.Statement.{statement}
 use Rattle.edges.proofs.sizes_ok.Tie as tie
 

@@ -9,24 +9,20 @@ use Rattle.edges.proofs.top_of.Statement.{statement}
 use Rattle.edges.proofs.top_of.Tie as tie
 
 abbrev Inv-loop : tie.InvT-loop
-Inv-loop edges count ceiling most₀ e₀ most e =
-    (count < 2 ^ 32) × (most₀ ≡ ceiling - 1) × LargestEdge most₀ count e most edges
+Inv-loop head edges ceiling most₀ e₀ most e =
+    (most₀ ≡ ceiling - 1) × LargestEdge most₀ (head .count) e most edges
 
 abbrev μ-loop : tie.MeasureT-loop
-μ-loop edges count ceiling most₀ e₀ most e = count - e
+μ-loop head edges ceiling most₀ e₀ most e = head .count - e
 
 wide32-requires : tie.Need-wide32-requires Inv-loop μ-loop
 wide32-requires c κs = search needs
-
-wide32-requires-2 : tie.Need-wide32-requires-2 Inv-loop μ-loop
-wide32-requires-2 c κs = search needs
 
 sub-most : tie.Need-sub-most Inv-loop μ-loop
 sub-most c = search needs
 
 loop-holds : tie.Need-loop-holds Inv-loop μ-loop
 loop-holds c = (
-  search needs,
   ⊎-elim (λ w. omega (arith, w .1)) (λ w. omega (arith, w .0 .left, w .1)) (c .if1 .came),
   edges-start _ _ _,
 )
@@ -42,17 +38,15 @@ loop-less c = search needs
 
 loop-again : tie.Need-loop-again Inv-loop μ-loop
 loop-again c =
-    let l = c .before .before .loop in
-    (search needs, search needs, edges-next (l .inv .2) _ (search needs) (c .largest-in .ensures))
+    let l = c .before .before .before .loop in
+    (search needs, edges-next (l .inv .1) _ (search needs) (c .largest-in .ensures))
 
 returns : tie.Need-returns Inv-loop μ-loop
 returns c =
-    let l = c .before .loop in
+    let l = c .before .before .loop in
     let a = c .before .before .before .before .before .before .args in
-    cm-found (a .head) (a .edges .now) (l .most) _ _ _ (c .before .before .before .before .wide32 .ensures .0)
-    (c .before .before .before .wide322 .ensures .0)
-    (l .inv .1)
-    (edges-end (l .inv .2) (search needs))
+    cm-found (a .head) (a .edges .now) (l .most) _ _ (c .before .before .before .before .wide32 .ensures .0) (l .inv .0)
+    (edges-end (l .inv .1) (search needs))
 
 pub top-of-spec : {M : Type 1} → statement M
 top-of-spec =
@@ -61,7 +55,6 @@ top-of-spec =
     Inv-loop
     μ-loop
     wide32-requires
-    wide32-requires-2
     sub-most
     loop-holds
     largest-in-requires

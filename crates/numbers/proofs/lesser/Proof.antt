@@ -1,5 +1,5 @@
 -- `numbers::lesser` meets its contract.
-use Rattle.construct.proofs.MarkLaws.{lesser-first, lesser-second}
+use Rattle.numbers.proofs.TwoNumbers.{lesser-first, lesser-second}
 use Rattle.numbers.proofs.lesser.Statement.{statement}
 use Rattle.numbers.proofs.lesser.Tie as tie
 

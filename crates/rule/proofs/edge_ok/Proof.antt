@@ -3,7 +3,7 @@ use native.Mathlib.Omega.{arith}
 use lib.ListN.{getD}
 use borrow.Author.Tests.{le-leb, lt-leb}
 use borrow.Author.Needs.{needs}
-use Rattle.edges.proofs.Answers.{failed, passed}
+use Rattle.numbers.proofs.Answers.{failed, passed}
 use Rattle.rule.specs.Checks.{edgeGood}
 use Rattle.rule.proofs.Laws.{edge-atoms, edge-pinned, edge-unused}
 use Rattle.rule.proofs.edge_ok.Statement.{statement}

@@ -1,7 +1,7 @@
 -- `rule::head_ok` meets its contract: its tests in the definition's order.
 use borrow.Author.Tests.{le-leb, lt-leb}
 use borrow.Author.Needs.{needs}
-use Rattle.edges.proofs.Answers.{failed, passed}
+use Rattle.numbers.proofs.Answers.{failed, passed}
 use Rattle.rule.specs.Checks.{headGood}
 use Rattle.rule.proofs.Laws.{sizes-known, mask-known}
 use Rattle.rule.proofs.head_ok.Statement.{statement}

@@ -2,7 +2,7 @@
 use mathlib.Core.Path.{sym, _∙_}
 use native.Mathlib.Omega.{arith}
 use borrow.Author.Needs.{needs}
-use Rattle.edges.proofs.Answers.{failed, passed}
+use Rattle.numbers.proofs.Answers.{failed, passed}
 use Rattle.rule.proofs.Checked.{readable-is, good-head, pairs-good}
 use Rattle.rule.proofs.readable.Statement.{statement}
 use Rattle.rule.proofs.readable.Tie as tie

@@ -3,7 +3,7 @@ use native.Mathlib.Omega.{arith}
 use lib.ListN.{length-drop}
 use borrow.Author.Tests.{ne-eqb}
 use borrow.Author.Needs.{needs}
-use Rattle.edges.proofs.Parts.{part-rest}
+use Rattle.numbers.proofs.Parts.{part-rest}
 use Rattle.reader.proofs.FaultLaws.{pinned-none, pinned-equal}
 use Rattle.reader.proofs.faults.not_pinned.Statement.{statement}
 use Rattle.reader.proofs.faults.not_pinned.Tie as tie
