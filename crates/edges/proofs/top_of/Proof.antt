@@ -1,7 +1,7 @@
 -- `edges::top_of` meets its contract: the ceiling's number, or 0 for none, then each edge's largest constant.
 use mathlib.Core.Path.{_≡_}
 use mathlib.Core.Logic.{⊎-elim}
-use Prim.Native.Nat.{_<_, _-_, _^_}
+use Prim.Native.Nat.{_-_}
 use native.Mathlib.Omega.{arith}
 use borrow.Author.Needs.{needs}
 use Rattle.edges.proofs.Laws.{LargestEdge, edges-start, edges-next, edges-end, cm-found}
