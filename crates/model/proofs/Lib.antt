@@ -19,12 +19,22 @@ pub mod EdgesWritten
 -- Ages as lists; the checks that come before a run
 pub mod Ages
 pub mod Inputs
--- P1 to P9, two whole tables, every refusal at its edges: by computation from the definitions
+-- By computation from the definitions: P1 to P9 and two whole tables; every refusal on both sides of its range; whole
+-- calls with all that they leave
 pub mod Examples
+pub mod Cases
+pub mod RefusedFiles
 pub mod Refused
--- One outcome for one call, for every promise; which numbers each check can give
+pub mod RefusedShapes
+pub mod Moves
+pub mod WholeReads
+pub mod WholeBuilds
+pub mod WholeRuns
+-- One outcome for one call, for every promise; which numbers each check can give; what each call leaves, by its number
 pub mod Outcomes
 pub mod Numbers
+pub mod Kept
+pub mod KeptRuns
 -- Runs: a word is accepted exactly if some run is accepting; the least run
 pub mod Runs
 pub mod LeastRun
