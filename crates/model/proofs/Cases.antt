@@ -1,5 +1,6 @@
 -- What vectors share: a refusal that is found beside the one that it must be; the head record and the edge table of the
 -- worked case; a rule that forks.
+use mathlib.Core.Path.{_≡_, refl}
 use mathlib.Core.Bool.{Bool, true, _&&_}
 use mathlib.Core.List.{List, [], _∷_, _++_}
 use Prim.Native.Nat.{ℕ}
@@ -7,8 +8,9 @@ use lib.Dec.{eqb}
 use lib.ListN.{replicate}
 use Rattle.model.specs.declared.Head.{Head}
 use Rattle.model.specs.declared.Built.{Built}
-use Rattle.model.specs.Basics.{Refusal}
-use Rattle.model.specs.Rules.{Edge, Rule, rule}
+use Rattle.model.specs.Basics.{maskOf, bitsFrom, Refusal, refusal, fine}
+use Rattle.model.specs.Rules.{Edge, Rule, rule, cm, pairCount, validRule}
+use Rattle.model.specs.Layout.{headOf, edgesNumbers, edgeTable, ruleIn, isReadable, ruleRefusal}
 
 pub data Case : Type 0 where
   case : (found must-be : Refusal) → Case
@@ -46,6 +48,33 @@ forks =
     ∷ free-edge 0 0 1
     ∷ free-edge 0 1 1
     ∷ free-edge 1 1 1
-    ∷ record { source = 0; target = 0; symbol = 2; resets = 1; atoms = record { clock = 0; relation = 2; constant = 1 } ∷ [] }
+    ∷ record {
+      source = 0;
+      target = 0;
+      symbol = 2;
+      resets = 1;
+      atoms = record { clock = 0; relation = 2; constant = 1 } ∷ [];
+    }
     ∷ free-edge 0 0 2
     ∷ [])
+
+-- both pass 20 and 21; without a number of the table, or without the head record, the worked case does not
+pub worked-passes : ruleRefusal worked-head (worked-edges 7366) ≡ fine
+unfolding maskOf bitsFrom cm pairCount validRule edgesNumbers edgeTable ruleIn isReadable ruleRefusal
+worked-passes = refl
+
+pub forks-passes : ruleRefusal (headOf forks) (edgeTable 7424 forks) ≡ fine
+unfolding maskOf bitsFrom cm pairCount validRule edgesNumbers edgeTable ruleIn isReadable ruleRefusal free-edge forks
+forks-passes = refl
+
+pub short-refused : ruleRefusal worked-head (worked-edges 7365) ≡ refusal 20 0
+unfolding ruleRefusal
+short-refused = refl
+
+pub both-refused : ruleRefusal zero-head (worked-edges 7365) ≡ refusal 20 0
+unfolding ruleRefusal
+both-refused = refl
+
+pub head-refused : ruleRefusal zero-head (worked-edges 7366) ≡ refusal 21 0
+unfolding maskOf bitsFrom cm pairCount validRule edgesNumbers edgeTable ruleIn isReadable ruleRefusal
+head-refused = refl

@@ -40,7 +40,8 @@ pub read-zeroed :
 unfolding readRefusal
 read-zeroed file t t′ a p h n =
     let long : ltb (length t) 7424 ≡ false = le-ltb (length t) 7424 h in
-    let number : a .number ≡ readRule file .refused .number = ap (λ (x : Reading). x .number) (p .answer-is) ∙ rw long in
+    let number : a .number ≡ readRule file .refused .number =
+    ap (λ (x : Reading). x .number) (p .answer-is) ∙ rw long in
     let stops : eqb (readRule file .refused .number) 0 ≡ false =
     ne-eqb (readRule file .refused .number) 0 (λ z. n (number ∙ z)) in
     (ap (λ (x : Reading). x .head) (p .answer-is) ∙ rw (long, stops), p .edges-are ∙ rw (long, stops))

@@ -1,5 +1,5 @@
--- The follower by computation: the order of its refusals, and whole answers with the follower after them. The table is the
--- worked one.
+-- The follower by computation: the order of its refusals, and whole answers with the follower after them. The table is
+-- the worked one.
 use mathlib.Core.Path.{_≡_, refl}
 use mathlib.Core.Bool.{Bool, true, false}
 use mathlib.Core.List.{List, [], _∷_}
@@ -64,12 +64,14 @@ followers-met = refl
 -- an event over the worked table, or over the same one with a row less than its built record says
 answers : Follower → ℕ → ℕ → Followed → Type 0
 answers f symbol t answer =
-    FollowsEvent f (worked-tables .built) (worked-tables .cells) (worked-tables .rows) (worked-tables .pool) symbol (at t)
+    FollowsEvent f (worked-tables .built) (worked-tables .cells) (worked-tables .rows) (worked-tables .pool) symbol
+    (at t)
     answer
 
 short-answers : Follower → ℕ → ℕ → Followed → Type 0
 short-answers f symbol t answer =
-    FollowsEvent f (worked-tables .built) (worked-tables .cells) (0 ∷ 1 ∷ 1 ∷ 0 ∷ []) (worked-tables .pool) symbol (at t)
+    FollowsEvent f (worked-tables .built) (worked-tables .cells) (0 ∷ 1 ∷ 1 ∷ 0 ∷ []) (worked-tables .pool) symbol
+    (at t)
     answer
 
 refused : ℕ → ℕ → Follower → Followed
@@ -108,8 +110,8 @@ stays =
     × answers (standing 2 0 0 4 7) 1 3 (refused 33 8 (standing 2 0 0 4 7))
 
 stays-are : stays
-unfolding inShape shapeRefusal verdict step followRefusal followed worked-tables at standing answers short-answers refused
-    stays
+unfolding inShape shapeRefusal verdict step followRefusal followed worked-tables at standing answers short-answers
+    refused stays
 stays-are = (
   record { answer-is = refl },
   record { answer-is = refl },

@@ -1,5 +1,5 @@
--- Refusals 22 to 24, 26 and 30 to 33 on their conditions, with their places, by computation: cases on both sides of each
--- range, and for each two that stand side by side in an order.
+-- Refusals 22 to 24, 26 and 30 to 33 on their conditions, with their places, by computation: cases on both sides of
+-- each range, and for each two that stand side by side in an order.
 use mathlib.Core.Path.{_≡_, refl}
 use mathlib.Core.Bool.{true}
 use mathlib.Core.List.{List, [], _∷_}

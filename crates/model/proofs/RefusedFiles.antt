@@ -60,8 +60,8 @@ cuts =
     ∷ []
 
 cuts-met : allMet cuts ≡ true
-unfolding cm pairCount recordRefusal withRecord atEnd readFrom readRule worked-file allMet reads sized sizes location edge
-    cuts
+unfolding cm pairCount recordRefusal withRecord atEnd readFrom readRule worked-file allMet reads sized sizes location
+    edge cuts
 cuts-met = refl
 
 -- 3: what is out of order, and before 2 of a later record; an empty file is 3 at place 0; 4: edge 257
@@ -93,8 +93,8 @@ orders =
     ∷ []
 
 orders-met : allMet orders ≡ true
-unfolding cm pairCount recordRefusal withRecord atEnd readFrom readRule allMet reads sized sizes location edge bare times
-    orders
+unfolding cm pairCount recordRefusal withRecord atEnd readFrom readRule allMet reads sized sizes location edge bare
+    times orders
 orders-met = refl
 
 -- 5 and 6: each number on both sides of its range; 7; 8 at the file's length
@@ -144,5 +144,6 @@ ranges =
     ∷ []
 
 ranges-met : allMet ranges ≡ true
-unfolding cm pairCount recordRefusal withRecord atEnd readFrom readRule allMet reads sized sizes location edge bare ranges
+unfolding cm pairCount recordRefusal withRecord atEnd readFrom readRule allMet reads sized sizes location edge bare
+    ranges
 ranges-met = refl

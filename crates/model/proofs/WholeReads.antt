@@ -1,5 +1,5 @@
--- Whole calls of the reader, of the writer and of the check of a rule, by computation: the answer, and every number of the
--- lent table after it. Outcomes.antt has that there is no other outcome.
+-- Whole calls of the reader, of the writer and of the check of a rule, by computation: the answer, and every number of
+-- the lent table after it. Outcomes.antt has that there is no other outcome.
 use mathlib.Core.Path.{refl}
 use mathlib.Core.List.{List, [], _∷_, _++_}
 use Prim.Native.Nat.{ℕ}
@@ -28,25 +28,24 @@ second-edges =
     ++ ((2 ∷ 2 ∷ 1 ∷ 0 ∷ 2 ∷ 1 ∷ 4 ∷ 1 ∷ 0 ∷ 4 ∷ 0 ∷ replicate 18 0) ++ replicate 7310 0)))
 
 -- the widest rule: 32 locations, 16 symbols, 4 clocks, an edge with eight atoms; the last location in both sets
+eight-atoms : List ℕ
+eight-atoms =
+    (3 ∷ 2 ∷ 4 ∷ 2 ∷ 1 ∷ 3 ∷ 1 ∷ 0 ∷ 2 ∷ 0 ∷ 3 ∷ 1 ∷ [])
+    ++ (3 ∷ 4 ∷ 0 ∷ 2 ∷ 2 ∷ 4 ∷ 1 ∷ 1 ∷ 3 ∷ 0 ∷ 0 ∷ 2 ∷ [])
+
 widest-file : List ℕ
 widest-file =
     numbers
     ((6 ∷ 1 ∷ 32 ∷ 16 ∷ 4 ∷ [])
     ++ ((2 ∷ 2 ∷ 0 ∷ 2 ∷ 2 ∷ 31 ∷ [])
-    ++ ((2 ∷ 3 ∷ 31 ∷ [])
-    ++ ((2 ∷ 4 ∷ 0 ∷ [])
-    ++ (56 ∷ 5 ∷ 31 ∷ 30 ∷ 15 ∷ 14 ∷ 3 ∷ 2 ∷ 4 ∷ 2 ∷ 1 ∷ 3 ∷ 1 ∷ 0 ∷ 2 ∷ 0 ∷ 3 ∷ 1 ∷ 3 ∷ 4 ∷ 0 ∷ 2 ∷ 2 ∷ 4 ∷ 1 ∷ 1 ∷ 3 ∷ 0 ∷ 0
-    ∷ 2
-    ∷ [])))))
+    ++ ((2 ∷ 3 ∷ 31 ∷ []) ++ ((2 ∷ 4 ∷ 0 ∷ []) ++ ((56 ∷ 5 ∷ 31 ∷ 30 ∷ 15 ∷ 14 ∷ []) ++ eight-atoms)))))
 
 widest-head : Head
 widest-head =
     record { locations = 32; symbols = 16; clocks = 4; starts = 2147483649; ends = 2147483648; ceiling = 1; count = 1 }
 
 widest-edges : List ℕ
-widest-edges =
-    (31 ∷ 30 ∷ 15 ∷ 14 ∷ 8 ∷ 3 ∷ 2 ∷ 4 ∷ 2 ∷ 1 ∷ 3 ∷ 1 ∷ 0 ∷ 2 ∷ 0 ∷ 3 ∷ 1 ∷ 3 ∷ 4 ∷ 0 ∷ 2 ∷ 2 ∷ 4 ∷ 1 ∷ 1 ∷ 3 ∷ 0 ∷ 0 ∷ 2
-    ∷ replicate 7396 0)
+widest-edges = (31 ∷ 30 ∷ 15 ∷ 14 ∷ 8 ∷ []) ++ (eight-atoms ++ replicate 7396 0)
 
 reading : ℕ → ℕ → Head → Reading
 reading number place head = record { number = number; place = place; head = head }
@@ -101,7 +100,8 @@ reads-filled =
 
 reads-filled-are : reads-filled
 unfolding maskOf cm pairCount recordRefusal withRecord atEnd readFrom readRule edgesNumbers edgeTable readRefusal
-    worked-file second-file second-head second-edges widest-file widest-head widest-edges reading reads-filled
+    worked-file second-file second-head second-edges eight-atoms widest-file widest-head widest-edges reading
+    reads-filled
 reads-filled-are = (
   record { answer-is = refl; edges-are = refl },
   record { answer-is = refl; edges-are = refl },
@@ -131,8 +131,8 @@ checks =
     × ChecksRule worked-head (worked-edges 7366 ++ (1 ∷ [])) (answer 21 0)
 
 checks-are : checks
-unfolding maskOf bitsFrom cm pairCount validRule edgesNumbers edgeTable ruleIn isReadable ruleRefusal other-head answer
-    checks
+unfolding maskOf bitsFrom cm pairCount validRule edgesNumbers edgeTable ruleIn isReadable ruleRefusal other-head
+    answer checks
 checks-are = (
   record { answer-is = refl },
   record { answer-is = refl },
@@ -166,8 +166,9 @@ writes =
     × WritesRule widest-head widest-edges (replicate 94 9) widest-file (answer 0 94)
 
 writes-are : writes
-unfolding maskOf bitsFrom cm pairCount validRule edgesNumbers edgeTable ruleIn isReadable ruleRefusal edgeRecords ruleBytes
-    writeRefusal worked-file second-file second-head second-edges widest-file widest-head widest-edges answer writes
+unfolding maskOf bitsFrom cm pairCount validRule edgesNumbers edgeTable ruleIn isReadable ruleRefusal edgeRecords
+    ruleBytes writeRefusal worked-file second-file second-head second-edges eight-atoms widest-file widest-head
+    widest-edges answer writes
 writes-are = (
   record { answer-is = refl; out-is = refl },
   record { answer-is = refl; out-is = refl },

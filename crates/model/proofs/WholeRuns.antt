@@ -1,27 +1,48 @@
--- Whole calls of the runners, by computation: the answer, and the scratch of the exact runner after it. Outcomes.antt has
--- that there is no other outcome.
-use mathlib.Core.Path.{refl}
+-- Whole calls of the runners, by computation: the answer, and the scratch of the exact runner after it. Outcomes.antt
+-- has that there is no other outcome.
+use mathlib.Core.Path.{_≡_, refl}
 use mathlib.Core.Bool.{true, false}
 use mathlib.Core.List.{List, [], _∷_, _++_}
 use Prim.Native.Nat.{ℕ}
-use lib.ListN.{replicate}
+use lib.ListN.{length, replicate}
 use Rattle.model.specs.declared.Head.{Head}
 use Rattle.model.specs.declared.Answer.{Answer}
 use Rattle.model.specs.declared.Branch.{Branch}
-use Rattle.model.specs.Basics.{maskOf, bitsFrom}
-use Rattle.model.specs.Rules.{cm, pairCount, validRule}
-use Rattle.model.specs.Words.{wordRefusal}
+use Rattle.model.specs.Basics.{pick, oneIf, zeros, maskOf, bitsFrom, Refusal, refusal, fine, passes, _⨾_}
+use Rattle.model.specs.Words.{eventsOf, mostEvents, mostBranchEvents, wordRefusal}
 use Rattle.model.specs.Runs.{acceptsFrom, acceptsFromSome, accepts, leastFrom, leastStart, leastRun}
 use Rattle.model.specs.Runs.{byEdges, byConfigs, roomRefusalFrom, roomRefusal}
-use Rattle.model.specs.Layout.{headOf, edgesNumbers, edgeTable, ruleIn, isReadable, ruleRefusal}
+use Rattle.model.specs.Layout.{headOf, edgesNumbers, edgeTable, ruleIn, ruleRefusal}
 use Rattle.model.specs.Walks.{inShape, shapeRefusal, verdict, step, stepAll, tableAccepts}
-use Rattle.model.specs.Promises.{ChecksTable, inputRefusal, exactRefusal, RunsExact, RunsBranches, runRefusal}
-use Rattle.model.specs.Promises.{ChecksWord, RunsTable}
+use Rattle.model.specs.Promises.{answerOf, ChecksWord, ChecksTable, configRoom, inputRefusal, exactRefusal}
+use Rattle.model.specs.Promises.{RunsExact, branchOf, RunsBranches, runRefusal, RunsTable}
 use Rattle.model.proofs.Examples.{worked-tables}
 use Rattle.model.proofs.Cases.{worked-head, worked-edges, zero-head, zero-built, free-edge, forks}
+use Rattle.model.proofs.Cases.{worked-passes, forks-passes, short-refused, both-refused, head-refused}
 
 answer : ℕ → ℕ → ℕ → Answer
 answer number place value = record { number = number; place = place; value = value }
+
+-- the rule's refusal as it is known, then that of rule and word, then the answer and the scratch
+run-as :
+    {h : Head} {t : List ℕ} {d : ℕ} {xs ts s s′ : List ℕ} {a : Answer} {g : Refusal} (f : Refusal)
+    → ruleRefusal h t ≡ g
+    → (g ⨾ wordRefusal (h .symbols) d mostEvents xs ts) ≡ f
+    → a
+    ≡ answerOf (f ⨾ roomRefusal (ruleIn h t) d (configRoom (ruleIn h t) s) (eventsOf xs ts))
+    (oneIf (accepts (ruleIn h t) d (eventsOf xs ts)))
+    → s′ ≡ pick (passes f) (zeros (length s)) s
+    → RunsExact h t d xs ts s s′ a
+unfolding ruleIn inputRefusal exactRefusal
+run-as f k e answer-is scratch-is = record { answer-is = rw (k, e) answer-is; scratch-is = rw (k, e) scratch-is }
+
+branch-as :
+    {h : Head} {t : List ℕ} {d : ℕ} {xs ts : List ℕ} {a : Branch} {g : Refusal} → ruleRefusal h t ≡ g
+    → a
+    ≡ branchOf (g ⨾ wordRefusal (h .symbols) d mostBranchEvents xs ts) (leastRun (ruleIn h t) d (eventsOf xs ts))
+    → RunsBranches h t d xs ts a
+unfolding ruleIn inputRefusal
+branch-as k answer-is = record { answer-is = rw k answer-is }
 
 -- The exact runner on the worked case with D = 2: one configuration takes 4 numbers of scratch, all 7 at first.
 exact : ℕ → Head → ℕ → ℕ → List ℕ → List ℕ → ℕ → Answer → Type 0
@@ -41,18 +62,17 @@ exacts-untouched =
     × exact 7 worked-head 7366 2 (0 ∷ 1 ∷ []) (2 ∷ 1 ∷ []) 3 (answer 33 2 0)
 
 exacts-untouched-are : exacts-untouched
-unfolding maskOf bitsFrom cm pairCount validRule edgesNumbers edgeTable ruleIn isReadable ruleRefusal wordRefusal byEdges
-    byConfigs roomRefusalFrom roomRefusal inputRefusal exactRefusal answer exact exacts-untouched
+unfolding ruleIn wordRefusal answer exact exacts-untouched
 exacts-untouched-are = (
-  record { answer-is = refl; scratch-is = refl },
-  record { answer-is = refl; scratch-is = refl },
-  record { answer-is = refl; scratch-is = refl },
-  record { answer-is = refl; scratch-is = refl },
-  record { answer-is = refl; scratch-is = refl },
-  record { answer-is = refl; scratch-is = refl },
-  record { answer-is = refl; scratch-is = refl },
-  record { answer-is = refl; scratch-is = refl },
-  record { answer-is = refl; scratch-is = refl },
+  run-as (refusal 20 0) both-refused refl refl refl,
+  run-as (refusal 20 0) short-refused refl refl refl,
+  run-as (refusal 21 0) head-refused refl refl refl,
+  run-as (refusal 30 0) worked-passes refl refl refl,
+  run-as (refusal 30 0) worked-passes refl refl refl,
+  run-as (refusal 31 0) worked-passes refl refl refl,
+  run-as (refusal 31 0) worked-passes refl refl refl,
+  run-as (refusal 32 2) worked-passes refl refl refl,
+  run-as (refusal 33 2) worked-passes refl refl refl,
 )
 
 -- 26 and each verdict: the scratch is zero
@@ -73,23 +93,22 @@ exacts-zeroed =
     × forked 1 (0 ∷ 0 ∷ []) (0 ∷ 0 ∷ []) 7 (answer 0 0 0)
 
 exacts-zeroed-are : exacts-zeroed
-unfolding maskOf bitsFrom cm pairCount validRule edgesNumbers edgeTable ruleIn isReadable ruleRefusal wordRefusal
-    acceptsFrom acceptsFromSome accepts byEdges byConfigs roomRefusalFrom roomRefusal inputRefusal exactRefusal answer exact
-    free-edge forks forked exacts-zeroed
+unfolding maskOf bitsFrom edgesNumbers edgeTable ruleIn wordRefusal acceptsFrom acceptsFromSome accepts byEdges
+    byConfigs roomRefusalFrom roomRefusal answer exact free-edge forks forked exacts-zeroed
 exacts-zeroed-are = (
-  record { answer-is = refl; scratch-is = refl },
-  record { answer-is = refl; scratch-is = refl },
-  record { answer-is = refl; scratch-is = refl },
-  record { answer-is = refl; scratch-is = refl },
-  record { answer-is = refl; scratch-is = refl },
-  record { answer-is = refl; scratch-is = refl },
-  record { answer-is = refl; scratch-is = refl },
-  record { answer-is = refl; scratch-is = refl },
-  record { answer-is = refl; scratch-is = refl },
+  run-as fine worked-passes refl refl refl,
+  run-as fine worked-passes refl refl refl,
+  run-as fine worked-passes refl refl refl,
+  run-as fine worked-passes refl refl refl,
+  run-as fine worked-passes refl refl refl,
+  run-as fine forks-passes refl refl refl,
+  run-as fine forks-passes refl refl refl,
+  run-as fine forks-passes refl refl refl,
+  run-as fine forks-passes refl refl refl,
 )
 
--- The branch runner: the start and the edges of the least run, unused places zero; all zero where there is none and on a
--- refusal. At most 12 events.
+-- The branch runner: the start and the edges of the least run, unused places zero; all zero where there is none and on
+-- a refusal. At most 12 events.
 branch : ℕ → ℕ → Branch
 branch number place =
     record { number = number; place = place; found = false; start = 0; edges = replicate 12 0 }
@@ -113,21 +132,21 @@ branches =
     (record { number = 0; place = 0; found = true; start = 0; edges = replicate 11 2 ++ (3 ∷ []) })
 
 branches-are : branches
-unfolding maskOf bitsFrom cm pairCount validRule edgesNumbers edgeTable ruleIn isReadable ruleRefusal wordRefusal leastFrom
-    leastStart leastRun inputRefusal branch free-edge forks branches
+unfolding maskOf bitsFrom edgesNumbers edgeTable ruleIn wordRefusal leastFrom leastStart leastRun branch free-edge
+    forks branches
 branches-are = (
-  record { answer-is = refl },
-  record { answer-is = refl },
-  record { answer-is = refl },
-  record { answer-is = refl },
-  record { answer-is = refl },
-  record { answer-is = refl },
-  record { answer-is = refl },
-  record { answer-is = refl },
-  record { answer-is = refl },
-  record { answer-is = refl },
-  record { answer-is = refl },
-  record { answer-is = refl },
+  branch-as both-refused refl,
+  branch-as head-refused refl,
+  branch-as worked-passes refl,
+  branch-as worked-passes refl,
+  branch-as worked-passes refl,
+  branch-as worked-passes refl,
+  branch-as worked-passes refl,
+  branch-as worked-passes refl,
+  branch-as worked-passes refl,
+  branch-as worked-passes refl,
+  branch-as forks-passes refl,
+  branch-as forks-passes refl,
 )
 
 -- The table runner on the worked table: 25, then 30 to 33; yes and no. The checks that it makes.
@@ -139,7 +158,8 @@ table d symbols stamps answer-is =
 tables-run : Type 0
 tables-run =
     RunsTable zero-built [] [] [] 0 [] [] (answer 25 0 0) × ChecksTable zero-built [] [] [] (answer 25 0 0)
-    × ChecksTable (worked-tables .built) (worked-tables .cells) (worked-tables .rows) (worked-tables .pool) (answer 0 0 0)
+    × ChecksTable (worked-tables .built) (worked-tables .cells) (worked-tables .rows) (worked-tables .pool)
+    (answer 0 0 0)
     × ChecksWord 2 0 4 [] [] (answer 30 0 0)
     × ChecksWord 2 1 4 (replicate 4 0) (replicate 4 0) (answer 0 0 0)
     × ChecksWord 2 1 4 (replicate 5 0) (replicate 5 0) (answer 31 0 0)
