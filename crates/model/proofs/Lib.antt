@@ -38,8 +38,10 @@ pub mod KeptRuns
 -- Runs: a word is accepted exactly if some run is accepting; the least run
 pub mod Runs
 pub mod LeastRun
--- With all configurations kept, accepted is to end in a final location
+-- With all configurations kept, accepted is to end in a final location; they are those that some run reaches (26)
 pub mod Configs
+pub mod Reaching
+pub mod Counted
 -- Rows: bases track ages, codes give their pairs back, the successor row is the paper's set
 pub mod Regions
 pub mod Clocks
@@ -56,6 +58,7 @@ pub mod Discovery
 pub mod CodeBounds
 pub mod TableRoom
 pub mod TablePlaces
+pub mod StartRow
 pub mod TableWalk
 pub mod Shape
 pub mod FollowerWalk
