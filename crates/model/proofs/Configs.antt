@@ -23,11 +23,6 @@ abbrev pub someConfig : (Config → Bool) → List Config → Bool
 someConfig f [] = false
 someConfig f (c ∷ cs) = f c || someConfig f cs
 
-or-swap : (a b c : Bool) → (a || (b || c)) ≡ (b || (a || c))
-or-swap true true c = refl
-or-swap true false c = refl
-or-swap false b c = refl
-
 or-three : (a b c : Bool) → ((a || b) || c) ≡ (a || (b || c))
 or-three true b c = refl
 or-three false b c = refl

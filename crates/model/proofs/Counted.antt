@@ -1,25 +1,26 @@
 -- The configurations that 26 counts: those that some run over the events so far reaches, each once. 26 comes at the
 -- first place where they are more than there is room for, and only there.
-use mathlib.Core.Path.{_≡_, refl, sym, _∙_}
-use mathlib.Core.Bool.{Bool, true, false, _&&_, not}
+use mathlib.Core.Path.{_≡_, refl, sym, _∙_, ap}
+use mathlib.Core.Bool.{Bool, true, false, _&&_, _||_, not}
 use mathlib.Core.List.{List, [], _∷_, _++_}
 use Prim.Native.Nat.{ℕ, zero, suc, _+_, _-_, _≤_, _<_}
 use native.Mathlib.Omega.{arith}
 use lib.Dec.{eqb, ltb}
 use lib.ListN.{length, take}
 use borrow.Author.Tests.{eqb-true, leb-true, eq-eqb, ne-eqb, lt-ltb, le-leb, not-true}
-use Rattle.model.specs.Basics.{same, refusal, fine}
+use Rattle.model.specs.Basics.{isIn, same, refusal, fine}
 use Rattle.model.specs.Rules.{Edge, Rule}
 use Rattle.model.specs.Words.{Event}
 use Rattle.model.specs.Runs.{older, zeroed, canTake, startAges, isAcceptingRun}
 use Rattle.model.specs.Runs.{Config, config, hasConfig, withConfig, byEdges, byConfigs, startConfigs}
 use Rattle.model.specs.Runs.{roomRefusalFrom, roomRefusal}
-use Rattle.model.specs.Claims.{configsAfter, configsOf, eachOnce, Configs-are}
+use Rattle.model.specs.Claims.{anyAtFinal, configsAfter, configsOf, eachOnce, Configs-are}
 use Rattle.model.proofs.Logic.{by-test, same-truth, and-left, and-right}
 use Rattle.model.proofs.Logic.{same-equal, same-self, neither-left, neither-right}
 use Rattle.model.proofs.Masks.{Asc}
 use Rattle.model.proofs.Valid.{valid-of}
 use Rattle.model.proofs.Rising.{rising-asc}
+use Rattle.model.proofs.Configs.{someFinal, accepted-by-configs}
 use Rattle.model.proofs.Reaching.{is-reached, is-kept, ends-final}
 
 -- Each once: a configuration is added only where it is not kept yet.
@@ -123,6 +124,11 @@ module _ (r : Rule) (d room : ℕ) where
       rw (roomRefusalFrom, h 0 (omega arith))
       (roomy-from vs (suc k) (v .stamp) (byConfigs r d v (v .stamp - last) cs []) (λ i l. h (suc i) (omega arith)))
 
+-- accepted is to be at a final location
+some-at-final : (r : Rule) (cs : List Config) → someFinal r cs ≡ anyAtFinal r cs
+some-at-final r [] = refl
+some-at-final r (c ∷ cs) = ap (λ (b : Bool). isIn (c .location) (r .final) || b) (some-at-final r cs)
+
 -- The claim.
 pub configs-are : Configs-are
 unfolding configsOf roomRefusal isAcceptingRun
@@ -140,4 +146,5 @@ configs-are = record {
       roomy-from r d room vs 0 0 (startConfigs r (r .initial)) (λ i l. h i (le-leb i (length vs) l));
   ends-final = λ r d vs c m.
       rw (m .initial) (ends-final c r d vs 0 (m .start) (startAges r) (m .taken) (m .ends-there));
+  accepted = λ r d vs. accepted-by-configs r d vs ∙ some-at-final r (configsOf r d vs);
 }

@@ -88,10 +88,14 @@ moves =
     × answers (standing 2 2 2 2 1) 1 3 (moved false (standing 2 1 2 3 2))
     × answers (standing 2 0 2 4 2) 0 4 (moved false (standing 2 2 4 4 3))
     × answers (standing 3 2 3 3 4095) 1 7 (moved true (standing 3 0 3 7 4096))
+    × answers (standing 2 0 0 0 0) 0 1 (moved false (standing 2 1 0 1 1))
+    × answers (standing 2 0 0 0 0) 0 3 (moved false (standing 2 1 0 3 1))
 
 moves-are : moves
 unfolding inShape shapeRefusal verdict step followRefusal followed worked-tables at standing answers moved moves
 moves-are = (
+  record { answer-is = refl },
+  record { answer-is = refl },
   record { answer-is = refl },
   record { answer-is = refl },
   record { answer-is = refl },
