@@ -45,12 +45,6 @@ number-later i k s =
     let b : 2 * k + (2 * i + 1) ≡ 2 * (k + i) + 1 = omega arith in
     rw (getD-drop (2 * k) s (2 * i) 0, getD-drop (2 * k) s (2 * i + 1) 0, a, b)
 
--- number i of the record at place p of a file
-pub number-at-place :
-    (i p : ℕ) (file : List ℕ)
-    → numberAt i (drop p file) ≡ getD file (p + 2 * i) 0 + 256 * getD file (p + (2 * i + 1)) 0
-number-at-place i p file = rw (getD-drop p file (2 * i) 0, getD-drop p file (2 * i + 1) 0)
-
 number-next : (i a b : ℕ) (s : List ℕ) → numberAt (suc i) (a ∷ b ∷ s) ≡ numberAt i s
 number-next i a b s =
     let high : 2 * suc i + 1 ≡ suc (suc (2 * i + 1)) = omega arith in

@@ -4,7 +4,7 @@ use mathlib.Core.Path.{_≡_, refl, sym, _∙_, ap, ap₂}
 use mathlib.Core.Bool.{Bool, true, false, _&&_, _||_}
 use mathlib.Core.List.{List, [], _∷_, _++_}
 use mathlib.Core.Logic.{_⊎_, inl, inr}
-use Prim.Native.Nat.{ℕ, _+_, _-_, _≤_}
+use Prim.Native.Nat.{ℕ, _-_, _≤_}
 use native.Mathlib.Omega.{arith}
 use lib.Dec.{eqb}
 use lib.ListN.{length, length-append}
@@ -14,6 +14,7 @@ use Rattle.model.specs.Rules.{Edge, Rule}
 use Rattle.model.specs.Words.{Event}
 use Rattle.model.specs.Runs.{older, zeroed, canTake, startAges, someEdge, acceptsFrom, acceptsFromSome}
 use Rattle.model.specs.Runs.{accepts, Config, config, hasConfig, withConfig, byEdges, byConfigs, startConfigs}
+use Rattle.model.specs.Claims.{configsAfter, configsOf}
 use Rattle.model.proofs.Ages.{AtMost, older-most, zeroed-most, zeros-most}
 use Rattle.model.proofs.Logic.{no-way, by-test, and-left, and-right, or-left, or-right, or-cases, same-equal}
 
@@ -21,11 +22,6 @@ use Rattle.model.proofs.Logic.{no-way, by-test, and-left, and-right, or
 abbrev pub someConfig : (Config → Bool) → List Config → Bool
 someConfig f [] = false
 someConfig f (c ∷ cs) = f c || someConfig f cs
-
-or-swap : (a b c : Bool) → (a || (b || c)) ≡ (b || (a || c))
-or-swap true true c = refl
-or-swap true false c = refl
-or-swap false b c = refl
 
 or-three : (a b c : Bool) → ((a || b) || c) ≡ (a || (b || c))
 or-three true b c = refl
@@ -90,7 +86,7 @@ module _ (f : Config → Bool) where
       ∙ rw (with-some to cs) (or-three (someConfig f cs) (f to) (leads v d l ages es))))
       (λ h. rw h (edges-some d v l ages es cs))
 
-  configs-some :
+  pub configs-some :
       (r : Rule) (d : ℕ) (v : Event) (delay : ℕ) (cs new : List Config)
       → someConfig f (byConfigs r d v delay cs new)
       ≡ (someConfig f new || someConfig (λ c. leads v d (c .location) (older delay (c .ages)) (r .edges)) cs)
@@ -132,11 +128,6 @@ pub end-some : (r : Rule) (d last : ℕ) (cs : List Config) → acceptsSome r d 
 unfolding acceptsFrom
 end-some r d last cs = refl
 
--- the configurations after all events
-unfoldable pub configsAfter : Rule → ℕ → ℕ → List Config → List Event → List Config
-configsAfter r d last cs [] = cs
-configsAfter r d last cs (v ∷ vs) = configsAfter r d (v .stamp) (byConfigs r d v (v .stamp - last) cs []) vs
-
 after-some :
     (r : Rule) (d last : ℕ) (cs : List Config) (vs : List Event)
     → someFinal r (configsAfter r d last cs vs) ≡ acceptsSome r d vs last cs
@@ -145,9 +136,8 @@ after-some r d last cs [] = sym (end-some r d last cs)
 after-some r d last cs (v ∷ vs) =
     after-some r d (v .stamp) (byConfigs r d v (v .stamp - last) cs []) vs ∙ event-some r d v vs last cs
 
-pub accepted-by-configs :
-    (r : Rule) (d : ℕ) (vs : List Event)
-    → accepts r d vs ≡ someFinal r (configsAfter r d 0 (startConfigs r (r .initial)) vs)
+pub accepted-by-configs : (r : Rule) (d : ℕ) (vs : List Event) → accepts r d vs ≡ someFinal r (configsOf r d vs)
+unfolding configsOf
 accepted-by-configs r d vs = sym (after-some r d 0 (startConfigs r (r .initial)) vs ∙ start-some r d vs)
 
 -- Configurations are only added.

@@ -37,10 +37,6 @@ module _ (p last : ℕ) (r : Rule) (s : List ℕ) (more : 0 < length s) where
       let number = ap (λ (x : Refusal). x .number) e in
       read-refuses p last r s more (λ z. omega (arith, number, z)) ∙ ap unspelt e
 
-  pub refused-1 : cutShort s ≡ true → readOn p last r s ≡ unspelt (refusal 1 p)
-  unfolding recordRefusal
-  refused-1 a = met 0 (rw a)
-
   module _ (a : cutShort s ≡ false) where
     pub refused-2 : bodyOk (kindOf s) (bodyLength s) ≡ false → readOn p last r s ≡ unspelt (refusal 2 p)
     unfolding recordRefusal

@@ -19,17 +19,29 @@ pub mod EdgesWritten
 -- Ages as lists; the checks that come before a run
 pub mod Ages
 pub mod Inputs
--- P1 to P9, two whole tables, every refusal at its edges: by computation from the definitions
+-- By computation from the definitions: P1 to P9 and two whole tables; every refusal on both sides of its range; whole
+-- calls with all that they leave
 pub mod Examples
+pub mod Cases
+pub mod RefusedFiles
 pub mod Refused
--- One outcome for one call, for every promise; which numbers each check can give
+pub mod RefusedShapes
+pub mod Moves
+pub mod WholeReads
+pub mod WholeBuilds
+pub mod WholeRuns
+-- One outcome for one call, for every promise; which numbers each check can give; what each call leaves, by its number
 pub mod Outcomes
 pub mod Numbers
+pub mod Kept
+pub mod KeptRuns
 -- Runs: a word is accepted exactly if some run is accepting; the least run
 pub mod Runs
 pub mod LeastRun
--- With all configurations kept, accepted is to end in a final location
+-- With all configurations kept, accepted is to end in a final location; they are those that some run reaches (26)
 pub mod Configs
+pub mod Reaching
+pub mod Counted
 -- Rows: bases track ages, codes give their pairs back, the successor row is the paper's set
 pub mod Regions
 pub mod Clocks
@@ -46,6 +58,7 @@ pub mod Discovery
 pub mod CodeBounds
 pub mod TableRoom
 pub mod TablePlaces
+pub mod StartRow
 pub mod TableWalk
 pub mod Shape
 pub mod FollowerWalk

@@ -1,5 +1,5 @@
 -- A mask's bits are the members of the ascending list that it was made of.
-use mathlib.Core.Path.{_≡_, refl, sym, _∙_, ap}
+use mathlib.Core.Path.{_≡_, refl, sym, _∙_, ap, ap₂}
 use mathlib.Core.Bool.{true, false}
 use mathlib.Core.List.{List, [], _∷_}
 use Prim.Native.Nat.{ℕ, suc, _+_, _-_, _*_, _/_, _%_, _^_, _≤_, _<_}
@@ -7,9 +7,10 @@ use native.Mathlib.Omega.{arith}
 use native.Mathlib.Nat.{mul-div-cancel, zero-div, pow-succ', add-comm}
 use lib.Arith.{digits-div}
 use lib.Pow.{pow-add, pow-pos, shr-shr, pow-lt}
-use borrow.Author.Tests.{eq-eqb, ne-eqb}
+use lib.Dec.{eqb}
+use borrow.Author.Tests.{eqb-true, eq-eqb, ne-eqb}
 use Rattle.model.specs.Basics.{isIn, bit, maskOf}
-use Rattle.model.proofs.Logic.{Cmp, cmp, is-lt, is-eq, is-gt}
+use Rattle.model.proofs.Logic.{no-way, by-test, Cmp, cmp, is-lt, is-eq, is-gt}
 
 -- ascending from n on
 abbrev pub Asc : ℕ → List ℕ → Type 0
@@ -19,6 +20,29 @@ Asc n (x ∷ xs) = (n ≤ x) × Asc (suc x) xs
 pub not-below : (n : ℕ) (xs : List ℕ) (l : ℕ) → Asc n xs → l < n → isIn l xs ≡ false
 not-below n [] l a h = refl
 not-below n (x ∷ xs) l a h = rw (ne-eqb l x (omega arith)) (not-below (suc x) xs l (a .1) (omega (arith, a .0)))
+
+-- two ascending lists with the same members are equal
+pub asc-same :
+    (n m : ℕ) (xs ys : List ℕ) → Asc n xs → Asc m ys → ((l : ℕ) → isIn l xs ≡ isIn l ys) → xs ≡ ys
+asc-same n m [] [] a b h = refl
+asc-same n m [] (y ∷ ys) a b h = no-way (h y ∙ rw (eq-eqb y y refl))
+asc-same n m (x ∷ xs) [] a b h = no-way (sym (h x) ∙ rw (eq-eqb x x refl))
+asc-same n m (x ∷ xs) (y ∷ ys) a b h = go (cmp x y) (asc-same (suc x) (suc y) xs ys (a .1) (b .1))
+  where
+    rest : x ≡ y → (l : ℕ) → isIn l xs ≡ isIn l ys
+    rest e l =
+        by-test (eqb l x)
+        (λ q.
+        let at-x : l ≡ x = eqb-true l x q in
+        not-below (suc x) xs l (a .1) (omega arith) ∙ sym (not-below (suc y) ys l (b .1) (omega arith)))
+        (λ q. rw (q, ← e, q) at (h l))
+
+    go : Cmp x y → (((l : ℕ) → isIn l xs ≡ isIn l ys) → xs ≡ ys) → x ∷ xs ≡ y ∷ ys
+    go (is-lt l) k =
+        no-way (sym (not-below y (y ∷ ys) x (omega arith, b .1) l) ∙ (sym (h x) ∙ rw (eq-eqb x x refl)))
+    go (is-eq l) k = ap₂ _∷_ l (k (rest l))
+    go (is-gt l) k =
+        no-way (sym (not-below x (x ∷ xs) y (omega arith, a .1) l) ∙ (h y ∙ rw (eq-eqb y y refl)))
 
 -- a power as a multiple of a lower one
 lower : (n x : ℕ) → n ≤ x → 2 ^ x ≡ 2 ^ (x - n) * 2 ^ n

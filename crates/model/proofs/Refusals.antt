@@ -37,12 +37,6 @@ then-passes f g h = sym (ap (λ (x : Refusal). x .number) (on-pass f g (first-pa
 pub fine-number : {f : Refusal} → f ≡ fine → f .number ≡ 0
 fine-number h = ap (λ (x : Refusal). x .number) h
 
-pub first-fine : (f g : Refusal) → (f ⨾ g) ≡ fine → f .number ≡ 0
-first-fine f g h = first-passes f g (fine-number h)
-
-pub then-fine : (f g : Refusal) → (f ⨾ g) ≡ fine → g ≡ fine
-then-fine f g h = sym (on-pass f g (first-fine f g h)) ∙ h
-
 pub both-fine : (f g : Refusal) → f .number ≡ 0 → g ≡ fine → (f ⨾ g) ≡ fine
 both-fine f g p q = on-pass f g p ∙ q
 

@@ -134,13 +134,6 @@ in-later x (y ∷ ys) more h = there (in-later x ys more h)
 pub extends-in : {rows after : List (List ℕ)} (x : List ℕ) → Extends rows after → In x rows → In x after
 extends-in {rows} x f h = rw (f .after-is) (in-first x rows (f .added) h)
 
-pub extends-number :
-    {rows after : List (List ℕ)} (x : List ℕ)
-    → Extends rows after
-    → In x rows
-    → numberOf x after ≡ numberOf x rows
-extends-number {rows} x f h = rw (f .after-is) (number-stays 0 x rows (f .added) h)
-
 -- A row is put in where no equal row is present; either way its number is the one that it had before.
 pub with-present : (x : List ℕ) (rows : List (List ℕ)) → numberOf x rows < length rows → withRow x rows ≡ rows
 with-present x rows h = rw (lt-ltb (numberOf x rows) (length rows) h)

@@ -14,8 +14,8 @@ use Rattle.model.specs.declared.Built.{Built}
 use Rattle.model.specs.Basics.{oneIf, within, remainder, allBelow, zeros, filled}
 use Rattle.model.specs.Rules.{Rule, cm, pairCount, mostPairs, sizesOk}
 use Rattle.model.specs.Construction.{width, nextRow, rowResets, numberOf, rowsOf, mostRows, cellOf}
-use Rattle.model.specs.Tables.{rowWidth, cellsFrom, symbolCells, cellNumbers, rowNumbers, codesSay, poolNumbers, builtBy}
-use Rattle.model.specs.Tables.{tablesBy, tablesOf}
+use Rattle.model.specs.Tables.{rowWidth, cellsFrom, symbolCells, cellNumbers, rowNumbers, codesSay, poolNumbers}
+use Rattle.model.specs.Tables.{builtBy, tablesBy, tablesOf}
 use Rattle.model.specs.Walks.{builtPairs, builtSizesOk, cellNeed, longEnough, rowsChain, cellOk, cellsOk, inShape}
 use Rattle.model.specs.Demands.{Built-in-shape}
 use Rattle.model.proofs.Logic.{and-left, and-right, and-both, or-right, in-within, remainder-is, In, here, there}

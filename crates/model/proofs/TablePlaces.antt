@@ -12,8 +12,8 @@ use borrow.Author.Tests.{ltb-true}
 use Rattle.model.specs.Basics.{zeros}
 use Rattle.model.specs.Rules.{Rule}
 use Rattle.model.specs.Construction.{width, rowsOf, rowAt, cellOf, locationOf, holdsFinal}
-use Rattle.model.specs.Tables.{cellsFrom, symbolCells, cellNumbers, rowWidth, rowNumbers, codesSay, poolNumbers, builtBy}
-use Rattle.model.specs.Tables.{tablesBy, tablesOf}
+use Rattle.model.specs.Tables.{cellsFrom, symbolCells, cellNumbers, rowWidth, rowNumbers, codesSay, poolNumbers}
+use Rattle.model.specs.Tables.{builtBy, tablesBy, tablesOf}
 use Rattle.model.specs.Walks.{rowCodes, anyFinal, verdict, cellAt}
 use Rattle.model.specs.Claims.{Every-place}
 use Rattle.model.proofs.Logic.{first-part}

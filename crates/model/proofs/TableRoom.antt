@@ -14,8 +14,7 @@ use Rattle.model.specs.Construction.{width, rowsOf, mostRows}
 use Rattle.model.specs.Tables.{rowWidth, poolNumbers, rowRoom, fitRefusal, tableRefusal}
 use Rattle.model.proofs.Logic.{Two, two, less, least, lesser-left, lesser-right}
 use Rattle.model.proofs.Discovery.{Closed, discovered}
-use Rattle.model.proofs.Refusals.{refused-false, first-passes, then-passes, Settled, refuse-settled}
-use Rattle.model.proofs.Refusals.{then-settled}
+use Rattle.model.proofs.Refusals.{refused-false, first-passes, then-passes}
 
 -- the three ways on at a row
 pub fit-23 :
@@ -139,10 +138,3 @@ pub fitted-closed :
     → Closed r (length (rowsOf r)) (rowsOf r)
 fitted-closed r scratch cells rows pool h =
     discovered r .closed (few-below (rowsOf r) (fitted r scratch cells rows pool h .few))
-
-pub table-settled : (r : Rule) (scratch cells rows pool : ℕ) → Settled (tableRefusal r scratch cells rows pool)
-unfolding tableRefusal
-table-settled r scratch cells rows pool =
-    then-settled (refuse (ltb scratch (pairCount r)) 22 0) (fitRefusal 0 (rowRoom r cells rows) 0 pool (rowsOf r))
-    (refuse-settled (ltb scratch (pairCount r)) 21 0)
-    (λ h. fit-of 0 (rowRoom r cells rows) 0 pool (rowsOf r) (omega arith) (omega arith) h .settled)

@@ -1,0 +1,183 @@
+-- Whole calls of the reader, of the writer and of the check of a rule, by computation: the answer, and every number of
+-- the lent table after it. Outcomes.antt has that there is no other outcome.
+use mathlib.Core.Path.{refl}
+use mathlib.Core.List.{List, [], _∷_, _++_}
+use Prim.Native.Nat.{ℕ}
+use lib.ListN.{replicate, drop}
+use Rattle.model.specs.declared.Head.{Head}
+use Rattle.model.specs.declared.Answer.{Answer}
+use Rattle.model.specs.declared.Reading.{Reading}
+use Rattle.model.specs.Basics.{maskOf, bitsFrom}
+use Rattle.model.specs.Rules.{cm, pairCount, validRule}
+use Rattle.model.specs.Files.{numbers, recordRefusal, withRecord, atEnd, readFrom, readRule, edgeRecords}
+use Rattle.model.specs.Files.{ruleBytes}
+use Rattle.model.specs.Layout.{edgesNumbers, edgeTable, ruleIn, isReadable, ruleRefusal}
+use Rattle.model.specs.Promises.{ChecksRule, readRefusal, ReadsRule, writeRefusal, WritesRule}
+use Rattle.model.proofs.Examples.{worked-file, second-file}
+use Rattle.model.proofs.Cases.{worked-head, worked-edges, zero-head}
+
+-- the head record and the edge table of the second rule
+second-head : Head
+second-head = record { locations = 3; symbols = 2; clocks = 2; starts = 3; ends = 4; ceiling = 3; count = 4 }
+
+second-edges : List ℕ
+second-edges =
+    (0 ∷ 1 ∷ 1 ∷ 2 ∷ 2 ∷ 0 ∷ 2 ∷ 1 ∷ 1 ∷ 1 ∷ 1 ∷ replicate 18 0)
+    ++ ((1 ∷ 2 ∷ 0 ∷ 0 ∷ 2 ∷ 1 ∷ 0 ∷ 1 ∷ 0 ∷ 3 ∷ 1 ∷ replicate 18 0)
+    ++ ((1 ∷ 0 ∷ 0 ∷ 1 ∷ 1 ∷ 0 ∷ 2 ∷ 1 ∷ replicate 21 0)
+    ++ ((2 ∷ 2 ∷ 1 ∷ 0 ∷ 2 ∷ 1 ∷ 4 ∷ 1 ∷ 0 ∷ 4 ∷ 0 ∷ replicate 18 0) ++ replicate 7310 0)))
+
+-- the widest rule: 32 locations, 16 symbols, 4 clocks, an edge with eight atoms; the last location in both sets
+eight-atoms : List ℕ
+eight-atoms =
+    (3 ∷ 2 ∷ 4 ∷ 2 ∷ 1 ∷ 3 ∷ 1 ∷ 0 ∷ 2 ∷ 0 ∷ 3 ∷ 1 ∷ [])
+    ++ (3 ∷ 4 ∷ 0 ∷ 2 ∷ 2 ∷ 4 ∷ 1 ∷ 1 ∷ 3 ∷ 0 ∷ 0 ∷ 2 ∷ [])
+
+widest-file : List ℕ
+widest-file =
+    numbers
+    ((6 ∷ 1 ∷ 32 ∷ 16 ∷ 4 ∷ [])
+    ++ ((2 ∷ 2 ∷ 0 ∷ 2 ∷ 2 ∷ 31 ∷ [])
+    ++ ((2 ∷ 3 ∷ 31 ∷ []) ++ ((2 ∷ 4 ∷ 0 ∷ []) ++ ((56 ∷ 5 ∷ 31 ∷ 30 ∷ 15 ∷ 14 ∷ []) ++ eight-atoms)))))
+
+widest-head : Head
+widest-head =
+    record { locations = 32; symbols = 16; clocks = 4; starts = 2147483649; ends = 2147483648; ceiling = 1; count = 1 }
+
+widest-edges : List ℕ
+widest-edges = (31 ∷ 30 ∷ 15 ∷ 14 ∷ 8 ∷ []) ++ (eight-atoms ++ replicate 7396 0)
+
+reading : ℕ → ℕ → Head → Reading
+reading number place head = record { number = number; place = place; head = head }
+
+answer : ℕ → ℕ → Answer
+answer number value = record { number = number; place = 0; value = value }
+
+-- 20, before all else: the table is untouched, the head record zero
+reads-untouched : Type 0
+reads-untouched =
+    ReadsRule worked-file (replicate 7423 5) (replicate 7423 5) (reading 20 0 zero-head)
+    × ReadsRule (0 ∷ []) (5 ∷ []) (5 ∷ []) (reading 20 0 zero-head)
+
+reads-untouched-are : reads-untouched
+unfolding maskOf cm pairCount recordRefusal withRecord atEnd readFrom readRule edgesNumbers edgeTable readRefusal
+    worked-file reading reads-untouched
+reads-untouched-are = (record { answer-is = refl; edges-are = refl }, record { answer-is = refl; edges-are = refl })
+
+-- 1 to 8: head record and table are zero, to the table's end
+reads-zeroed : Type 0
+reads-zeroed =
+    ReadsRule (0 ∷ []) (replicate 7424 5) (replicate 7424 0) (reading 1 0 zero-head)
+    × ReadsRule (worked-file ++ numbers (2 ∷ 6 ∷ 0 ∷ [])) (replicate 7424 5) (replicate 7424 0) (reading 2 58 zero-head)
+    × ReadsRule [] (replicate 7425 5) (replicate 7425 0) (reading 3 0 zero-head)
+    × ReadsRule (numbers (6 ∷ 1 ∷ 0 ∷ 1 ∷ 1 ∷ [])) (replicate 7424 5) (replicate 7424 0) (reading 5 0 zero-head)
+    × ReadsRule (worked-file ++ numbers (8 ∷ 5 ∷ 0 ∷ 0 ∷ 2 ∷ 0 ∷ [])) (replicate 7424 5) (replicate 7424 0)
+    (reading 6 58 zero-head)
+    × ReadsRule (worked-file ++ numbers (8 ∷ 5 ∷ 0 ∷ 0 ∷ 0 ∷ 1 ∷ [])) (replicate 7424 5) (replicate 7424 0)
+    (reading 7 58 zero-head)
+    × ReadsRule (numbers (6 ∷ 1 ∷ 17 ∷ 1 ∷ 3 ∷ 2 ∷ 4 ∷ 14 ∷ [])) (replicate 7424 5) (replicate 7424 0)
+    (reading 8 16 zero-head)
+
+reads-zeroed-are : reads-zeroed
+unfolding maskOf cm pairCount recordRefusal withRecord atEnd readFrom readRule edgesNumbers edgeTable readRefusal
+    worked-file reading reads-zeroed
+reads-zeroed-are = (
+  record { answer-is = refl; edges-are = refl },
+  record { answer-is = refl; edges-are = refl },
+  record { answer-is = refl; edges-are = refl },
+  record { answer-is = refl; edges-are = refl },
+  record { answer-is = refl; edges-are = refl },
+  record { answer-is = refl; edges-are = refl },
+  record { answer-is = refl; edges-are = refl },
+)
+
+-- an accepted file: the head record, the edges, and zero in every place past them
+reads-filled : Type 0
+reads-filled =
+    ReadsRule worked-file (replicate 7424 5) (worked-edges 7366) (reading 0 0 worked-head)
+    × ReadsRule second-file (replicate 7426 5) second-edges (reading 0 0 second-head)
+    × ReadsRule widest-file (replicate 7425 5) widest-edges (reading 0 0 widest-head)
+
+reads-filled-are : reads-filled
+unfolding maskOf cm pairCount recordRefusal withRecord atEnd readFrom readRule edgesNumbers edgeTable readRefusal
+    worked-file second-file second-head second-edges eight-atoms widest-file widest-head widest-edges reading
+    reads-filled
+reads-filled-are = (
+  record { answer-is = refl; edges-are = refl },
+  record { answer-is = refl; edges-are = refl },
+  record { answer-is = refl; edges-are = refl },
+)
+
+-- a head record or an edge table that no reading leaves: each has one number changed
+other-head : ℕ → ℕ → ℕ → ℕ → Head
+other-head starts ends ceiling count =
+    record { locations = 2; symbols = 2; clocks = 1; starts = starts; ends = ends; ceiling = ceiling; count = count }
+
+checks : Type 0
+checks =
+    ChecksRule worked-head (worked-edges 7365) (answer 20 0) × ChecksRule zero-head (worked-edges 7365) (answer 20 0)
+    × ChecksRule worked-head (worked-edges 7366) (answer 0 0)
+    × ChecksRule worked-head (worked-edges 7400) (answer 0 0)
+    × ChecksRule zero-head (replicate 7424 0) (answer 21 0)
+    × ChecksRule (other-head 3 0 31 2) (worked-edges 7366) (answer 0 0)
+    × ChecksRule (other-head 4 1 0 2) (worked-edges 7366) (answer 21 0)
+    × ChecksRule (other-head 1 4 0 2) (worked-edges 7366) (answer 21 0)
+    × ChecksRule (other-head 4294967297 1 0 2) (worked-edges 7366) (answer 21 0)
+    × ChecksRule (other-head 1 4294967297 0 2) (worked-edges 7366) (answer 21 0)
+    × ChecksRule (other-head 1 1 32 2) (worked-edges 7366) (answer 21 0)
+    × ChecksRule (other-head 1 1 0 1) (worked-edges 7366) (answer 21 0)
+    × ChecksRule (other-head 1 1 0 3) (worked-edges 7366) (answer 0 0)
+    × ChecksRule worked-head (2 ∷ drop 1 (worked-edges 7366)) (answer 21 0)
+    × ChecksRule worked-head (worked-edges 7366 ++ (1 ∷ [])) (answer 21 0)
+
+checks-are : checks
+unfolding maskOf bitsFrom cm pairCount validRule edgesNumbers edgeTable ruleIn isReadable ruleRefusal other-head
+    answer checks
+checks-are = (
+  record { answer-is = refl },
+  record { answer-is = refl },
+  record { answer-is = refl },
+  record { answer-is = refl },
+  record { answer-is = refl },
+  record { answer-is = refl },
+  record { answer-is = refl },
+  record { answer-is = refl },
+  record { answer-is = refl },
+  record { answer-is = refl },
+  record { answer-is = refl },
+  record { answer-is = refl },
+  record { answer-is = refl },
+  record { answer-is = refl },
+  record { answer-is = refl },
+)
+
+-- 20, 21, 27, in this order: the output is untouched; else the file and, past it, what was there
+writes : Type 0
+writes =
+    WritesRule zero-head (worked-edges 7365) [] [] (answer 20 0)
+    × WritesRule worked-head (worked-edges 7365) (replicate 60 9) (replicate 60 9) (answer 20 0)
+    × WritesRule zero-head (worked-edges 7366) [] [] (answer 21 0)
+    × WritesRule zero-head (worked-edges 7366) (replicate 60 9) (replicate 60 9) (answer 21 0)
+    × WritesRule worked-head (worked-edges 7366) (replicate 57 9) (replicate 57 9) (answer 27 0)
+    × WritesRule worked-head (worked-edges 7366) (replicate 58 9) worked-file (answer 0 58)
+    × WritesRule worked-head (worked-edges 7366) (replicate 60 9) (worked-file ++ (9 ∷ 9 ∷ [])) (answer 0 58)
+    × WritesRule second-head second-edges (replicate 125 9) (second-file ++ (9 ∷ [])) (answer 0 124)
+    × WritesRule widest-head widest-edges (replicate 93 9) (replicate 93 9) (answer 27 0)
+    × WritesRule widest-head widest-edges (replicate 94 9) widest-file (answer 0 94)
+
+writes-are : writes
+unfolding maskOf bitsFrom cm pairCount validRule edgesNumbers edgeTable ruleIn isReadable ruleRefusal edgeRecords
+    ruleBytes writeRefusal worked-file second-file second-head second-edges eight-atoms widest-file widest-head
+    widest-edges answer writes
+writes-are = (
+  record { answer-is = refl; out-is = refl },
+  record { answer-is = refl; out-is = refl },
+  record { answer-is = refl; out-is = refl },
+  record { answer-is = refl; out-is = refl },
+  record { answer-is = refl; out-is = refl },
+  record { answer-is = refl; out-is = refl },
+  record { answer-is = refl; out-is = refl },
+  record { answer-is = refl; out-is = refl },
+  record { answer-is = refl; out-is = refl },
+  record { answer-is = refl; out-is = refl },
+)
