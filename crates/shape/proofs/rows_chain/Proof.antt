@@ -1,6 +1,6 @@
 -- `shape::rows_chain` meets its contract: what holds of the rows to come is what holds of all.
-use mathlib.Core.Path.{sym, _∙_}
 use Prim.Native.Nat.{_-_}
+use native.Mathlib.Omega.{arith}
 use borrow.Author.Needs.{needs}
 use Rattle.shape.proofs.Loops.{Chained, chain-start, chain-next, chain-broken, chain-end}
 use Rattle.shape.proofs.rows_chain.Statement.{statement}
@@ -23,9 +23,7 @@ row-start-requires : tie.Need-row-start-requires Inv-loop μ-loop
 row-start-requires c κs = search needs
 
 returns : tie.Need-returns Inv-loop μ-loop
-returns c =
-    let read = c .before in
-    chain-broken (turn read .loop .inv) (search needs) (λ e. c .if1 .taken (read .row-start .ensures .0 ∙ e))
+returns c = chain-broken (turn (c .before) .loop .inv) (search needs) (λ e. omega (arith, c .if1 .taken))
 
 row-length-requires : tie.Need-row-length-requires Inv-loop μ-loop
 row-length-requires c κs = search needs
@@ -41,9 +39,8 @@ loop-less c = search needs
 
 loop-again : tie.Need-loop-again Inv-loop μ-loop
 loop-again c =
-    let read = c .before .before in
-    let met = sym (read .row-start .ensures .0) ∙ c .before .if1 .left in
-    chain-next (turn read .loop .inv) _ (search needs) met (c .row-length .ensures .0) (c .row-length .ensures .1)
+    let read = c .row-length .ensures in
+    chain-next (turn (c .before .before) .loop .inv) _ (search needs) (search needs) (read .0) (read .1)
 
 returns-2 : tie.Need-returns-2 Inv-loop μ-loop
 returns-2 c = chain-end (c .before .loop .inv) (search needs)
