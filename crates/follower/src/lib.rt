@@ -2,19 +2,21 @@
 ghost use mathlib.Core.Path.{_≡_};
 ghost use mathlib.Core.List.{[]};
 ghost use Prim.Native.Nat.{_≤_, _<_};
+ghost use Rattle.model.specs.Words.{mostEvents};
 ghost use Rattle.model.specs.Tables.{tables};
 ghost use Rattle.model.specs.Walks.{startAt, step, strayed};
 ghost use Rattle.model.specs.Promises.{answerOf, event, followedBy, StartsFollower, FollowsEvent, FollowsInPlace};
 ghost use Rattle.follower.specs.Checks.{eventChecks, answered, keptBy};
-use edges::wide16;
-use edges::wide32;
 use model::Answer;
 use model::Built;
 use model::Followed;
 use model::Follower;
+use model::MOST_EVENTS;
 use model::Moved;
 use model::Stamp;
 use model::Started;
+use numbers::wide16;
+use numbers::wide32;
 use shape::in_shape;
 use walk::Walk;
 use walk::verdict;
@@ -67,7 +69,7 @@ pub(crate) fn strayed(rows: u32, follower: Follower) -> bool
     if reset % follower.grain != 0 {
         return true;
     }
-    4096 < follower.count
+    (MOST_EVENTS as u32) < follower.count
 }
 
 pub(crate) fn answered(number: u8, place: usize) -> Answer
@@ -90,7 +92,7 @@ pub(crate) fn check_event(follower: Follower, built: Built, symbol: u16, stamp: 
     if strayed(built.rows, follower) {
         return answered(34, 0);
     }
-    if follower.count == 4096 {
+    if follower.count == MOST_EVENTS as u32 {
         return answered(31, 0);
     }
     let event = wide32(follower.count) + 1;
@@ -111,7 +113,7 @@ pub(crate) fn moved(
     symbol: u16,
     stamp: Stamp,
 ) -> Follower
-    requires { ⌜ follower .count < 4096 ⌝ }
+    requires { ⌜ follower .count < mostEvents ⌝ }
     ensures { λ r. ⌜ r ≡ step (tables built (now (cells .entry)) [] []) follower (event symbol stamp) ⌝ }
 {
     let grain = follower.grain;

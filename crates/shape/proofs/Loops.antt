@@ -12,7 +12,7 @@ use lib.Seq.{drop-cons, drop-drop, getD-drop}
 use borrow.Author.Tests.{lt-ltb, le-ltb, eq-eqb, ne-eqb}
 use Rattle.model.specs.Basics.{remainder, allBelow}
 use Rattle.model.specs.Construction.{intervalCount}
-use Rattle.model.specs.Tables.{rowWidth}
+use Rattle.model.specs.Tables.{rowWidth, rowStart, rowLength}
 use Rattle.model.specs.Walks.{rowsChain, cellsOk}
 use Rattle.model.proofs.Logic.{remainder-is, or-right, two, less, least}
 use Rattle.shape.specs.Ranges.{resetsOk}
@@ -25,7 +25,7 @@ from-place xs i h = rw (add-one i) (drop-cons xs i 0 h)
 pub record Chained (count total : ℕ) (xs : List ℕ) (end i : ℕ) : Type 0 where
   pub turns : i ≤ count
   pub end-most : end ≤ i * 4294967295
-  pub rest-is : rowsChain (count - i) end (drop (2 * i) xs) total ≡ rowsChain count 0 xs total
+  pub rest-is : rowsChain (count - i) end (drop (rowWidth * i) xs) total ≡ rowsChain count 0 xs total
 
 pub chain-start : (count total : ℕ) (xs : List ℕ) → Chained count total xs 0 0
 chain-start count total xs =
@@ -36,26 +36,26 @@ module _ {count total : ℕ} {xs : List ℕ} {end i : ℕ} (inv : Chained count 
   chain-rest :
       i < count
       → rowsChain count 0 xs total
-      ≡ (eqb (getD xs (2 * i) 0) end
-      && rowsChain (count - (i + 1)) (end + getD xs (2 * i + 1) 0) (drop (2 * (i + 1)) xs) total)
+      ≡ (eqb (rowStart xs i) end
+      && rowsChain (count - (i + 1)) (end + rowLength xs i) (drop (rowWidth * (i + 1)) xs) total)
   chain-rest h =
+      let at = rowWidth * i in
       let a : count - i ≡ suc (count - (i + 1)) = omega arith in
-      let b : 2 * i + 2 ≡ 2 * (i + 1) = omega arith in
-      let z : 2 * i + 0 ≡ 2 * i = omega arith in
-      sym (inv .rest-is)
-      ∙ rw (a, drop-drop rowWidth (2 * i) xs, b, getD-drop (2 * i) xs 0 0, getD-drop (2 * i) xs 1 0, z)
+      let b : at + rowWidth ≡ rowWidth * (i + 1) = omega arith in
+      let z : at + 0 ≡ at = omega arith in
+      sym (inv .rest-is) ∙ rw (a, drop-drop rowWidth at xs, b, getD-drop at xs 0 0, getD-drop at xs 1 0, z)
 
   pub chain-next :
-      (n : ℕ) → i < count → getD xs (2 * i) 0 ≡ end → n ≡ getD xs (2 * i + 1) 0 → n < 2 ^ 32
+      (n : ℕ) → i < count → rowStart xs i ≡ end → n ≡ rowLength xs i → n < 2 ^ 32
       → Chained count total xs (end + n) (i + 1)
   chain-next n h e q f = record {
     turns = omega arith;
     end-most = omega (arith, inv .end-most);
-    rest-is = rw q (sym (chain-rest h ∙ rw (eq-eqb (getD xs (2 * i) 0) end e)));
+    rest-is = rw q (sym (chain-rest h ∙ rw (eq-eqb (rowStart xs i) end e)));
   }
 
-  pub chain-broken : i < count → (getD xs (2 * i) 0 ≡ end → ⊥) → false ≡ rowsChain count 0 xs total
-  chain-broken h n = sym (chain-rest h ∙ rw (ne-eqb (getD xs (2 * i) 0) end n))
+  pub chain-broken : i < count → (rowStart xs i ≡ end → ⊥) → false ≡ rowsChain count 0 xs total
+  chain-broken h n = sym (chain-rest h ∙ rw (ne-eqb (rowStart xs i) end n))
 
   pub chain-end : count ≤ i → eqb end total ≡ rowsChain count 0 xs total
   chain-end h = let z : count - i ≡ 0 = omega arith in rw z at (inv .rest-is)

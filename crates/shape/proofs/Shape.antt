@@ -30,22 +30,21 @@ pub shape-refused :
 unfolding shapeRefusal
 shape-refused t h = rw h
 
--- What is settled before the rows: sizes and lengths; `n` and `p` are R and P as read.
-pub record Sized (b : Built) (cs ns ps : List ℕ) (n p : ℕ) : Type 0 where
+-- What is settled before the rows: sizes and lengths; `p` is P as read.
+pub record Sized (b : Built) (cs ns ps : List ℕ) (p : ℕ) : Type 0 where
   pub sizes : builtSizesOk b ≡ true
   pub long : longEnough (tables b cs ns ps) ≡ true
-  pub count-is : n ≡ b .rows
   pub total-is : p ≡ b .total
 
 -- And before the codes: the rows are in a chain; `m` is N.
-pub record Linked (b : Built) (cs ns ps : List ℕ) (n p m : ℕ) : Type 0 where
-  pub sized : Sized b cs ns ps n p
-  pub chain : rowsChain n 0 ns p ≡ true
+pub record Linked (b : Built) (cs ns ps : List ℕ) (p m : ℕ) : Type 0 where
+  pub sized : Sized b cs ns ps p
+  pub chain : rowsChain (b .rows) 0 ns p ≡ true
   pub pairs-are : m ≡ builtPairs b
 
 -- And before the cells: the codes are below N; `k` is the number of cells.
-pub record Coded (b : Built) (cs ns ps : List ℕ) (n p m k : ℕ) : Type 0 where
-  pub linked : Linked b cs ns ps n p m
+pub record Coded (b : Built) (cs ns ps : List ℕ) (p m k : ℕ) : Type 0 where
+  pub linked : Linked b cs ns ps p m
   pub codes : allBelow m (take p ps) ≡ true
   pub need-is : k ≡ cellNeed b
 
@@ -65,7 +64,6 @@ ranges b h =
 
 record Long (b : Built) (cs ns ps : List ℕ) : Type 0 where
   cells-long : cellNeed b ≤ length cs
-  rows-long : rowWidth * b .rows ≤ length ns
   pool-long : b .total ≤ length ps
 
 long-of : (b : Built) (cs ns ps : List ℕ) → longEnough (tables b cs ns ps) ≡ true → Long b cs ns ps
@@ -76,7 +74,6 @@ long-of b cs ns ps h =
     let two = and-left (cells && rows) pool h in
     record {
       cells-long = leb-true _ _ (and-left cells rows two);
-      rows-long = leb-true _ _ (and-right cells rows two);
       pool-long = leb-true _ _ (and-right (cells && rows) pool h);
     }
 
@@ -96,26 +93,23 @@ unfolding inShape
 too-short t s h = rw (s, h)
 
 module _ {b : Built} {cs ns ps : List ℕ} where
-  module _ {n p : ℕ} (s : Sized b cs ns ps n p) where
-    pub rows-reach : 2 * n ≤ length ns
-    rows-reach = rw (s .count-is) (long-of b cs ns ps (s .long) .rows-long)
-
+  module _ {p : ℕ} (s : Sized b cs ns ps p) where
     pub pool-part : p ≡ length (take p ps)
     pool-part = sym (length-take-le p ps (rw (s .total-is) (long-of b cs ns ps (s .long) .pool-long)))
 
-    pub chain-out : rowsChain n 0 ns p ≡ false → false ≡ inShape (tables b cs ns ps)
+    pub chain-out : rowsChain (b .rows) 0 ns p ≡ false → false ≡ inShape (tables b cs ns ps)
     unfolding inShape
-    chain-out h = rw (s .sizes, s .long, rw (s .count-is, s .total-is) at h)
+    chain-out h = rw (s .sizes, s .long, rw (s .total-is) at h)
 
-  module _ {n p m : ℕ} (l : Linked b cs ns ps n p m) where
+  module _ {p m : ℕ} (l : Linked b cs ns ps p m) where
     chain-in : rowsChain (b .rows) 0 ns (b .total) ≡ true
-    chain-in = rw (l .sized .count-is, l .sized .total-is) at (l .chain)
+    chain-in = rw (l .sized .total-is) at (l .chain)
 
     pub code-out : allBelow m (take p ps) ≡ false → false ≡ inShape (tables b cs ns ps)
     unfolding inShape
     code-out h = rw (l .sized .sizes, l .sized .long, chain-in, rw (l .pairs-are, l .sized .total-is) at h)
 
-  module _ {n p m k : ℕ} (d : Coded b cs ns ps n p m k) where
+  module _ {p m k : ℕ} (d : Coded b cs ns ps p m k) where
     pub rows-most : b .rows ≤ mostRows
     rows-most =
         let first = sizesInRange b && leb (builtPairs b) mostPairs in

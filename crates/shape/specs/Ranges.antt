@@ -5,17 +5,17 @@ use Prim.Native.Nat.{ℕ, suc, _%_, _≤_}
 use lib.Dec.{eqb, leb}
 use Rattle.model.specs.declared.Built.{Built}
 use Rattle.model.specs.Basics.{within}
-use Rattle.model.specs.Rules.{mostPairs, sizesOk}
+use Rattle.model.specs.Rules.{mostClocks, mostConstant, mostLocations, mostPairs, mostSymbols, sizesOk}
 use Rattle.model.specs.Construction.{mostRows}
 
 abbrev pub sizesInRange : Built → Bool
-sizesInRange b = sizesOk (b .locations) (b .symbols) (b .clocks) && leb (b .top) 30
+sizesInRange b = sizesOk (b .locations) (b .symbols) (b .clocks) && leb (b .top) mostConstant
 
 pub record InRange (b : Built) : Type 0 where
-  pub locations-most : b .locations ≤ 32
-  pub symbols-most : b .symbols ≤ 16
-  pub clocks-most : b .clocks ≤ 4
-  pub top-most : b .top ≤ 30
+  pub locations-most : b .locations ≤ mostLocations
+  pub symbols-most : b .symbols ≤ mostSymbols
+  pub clocks-most : b .clocks ≤ mostClocks
+  pub top-most : b .top ≤ mostConstant
 
 -- N and R
 abbrev pub countsOk : ℕ → ℕ → Bool

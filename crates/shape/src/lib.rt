@@ -1,17 +1,60 @@
 // The check of a built record and its tables: every condition of 25, over tables that may hold any numbers.
+// And what the codes of a row say: whether one stands at a final location.
 ghost use mathlib.Core.Path.{_≡_};
-ghost use Prim.Native.Nat.{ℕ, _*_, _^_, _≤_, _<_};
-ghost use lib.ListN.{length};
+ghost use Prim.Native.Nat.{ℕ, _≤_};
 ghost use Rattle.model.specs.Basics.{within, allBelow};
-ghost use Rattle.model.specs.Construction.{intervalCount};
+ghost use Rattle.model.specs.Construction.{intervalCount, mostRows};
 ghost use Rattle.model.specs.Tables.{tables};
-ghost use Rattle.model.specs.Walks.{builtPairs, cellNeed, longEnough, rowsChain, cellsOk, inShape};
+ghost use Rattle.model.specs.Walks.{locationWeight, builtPairs, cellNeed, longEnough, rowsChain, cellsOk, inShape};
+ghost use Rattle.model.specs.Walks.{anyFinal};
 ghost use Rattle.model.specs.Promises.{ChecksTable};
 ghost use Rattle.shape.specs.Ranges.{InRange, sizesInRange, countsOk, resetsOk};
+ghost use Rattle.shape.specs.Weights.{DividesAs};
 use edges::power;
-use edges::wide32;
+use edges::sizes_ok;
 use model::Answer;
 use model::Built;
+use model::MOST_CONSTANT;
+use model::MOST_PAIRS;
+use model::MOST_ROWS;
+use model::ROW_WIDTH;
+use numbers::has_bit;
+use numbers::wide32;
+use tables::row_length;
+use tables::row_start;
+
+// (cm + 2) ^ K, or, where that has more than 32 bits, a lower power that has more too: no code reaches either.
+pub(crate) fn location_weight(built: Built) -> usize
+    ensures { λ r. ⌜ DividesAs (locationWeight built) r ⌝ }
+{
+    let base = wide32(built.top) + 2;
+    let clocks = wide32(built.clocks);
+    let mut weight: usize = 1;
+    let mut k: usize = 0;
+    while k < clocks {
+        if 4294967295 < weight {
+            return weight;
+        }
+        weight = weight * base;
+        k += 1;
+    }
+    weight
+}
+
+// Does some code stand at a final location?
+pub fn any_final(built: Built, codes: &[u32]) -> bool
+    ensures { λ r. ⌜ r ≡ anyFinal built (now (codes .entry)) ⌝ }
+{
+    let weight = location_weight(built);
+    let mut i: usize = 0;
+    while i < codes.len() {
+        if has_bit(wide32(built.ends), wide32(codes[i]) / weight) {
+            return true;
+        }
+        i += 1;
+    }
+    false
+}
 
 pub(crate) fn within(least: u32, most: u32, x: u32) -> bool
     ensures { λ r. ⌜ r ≡ within least most x ⌝ }
@@ -32,17 +75,18 @@ pub(crate) fn pair_count(built: Built) -> u32
 pub(crate) fn in_range(built: Built) -> bool
     ensures { λ r. ⌜ r ≡ sizesInRange built ⌝ }
 {
-    within(1, 32, built.locations)
-        && within(1, 16, built.symbols)
-        && within(1, 4, built.clocks)
-        && built.top <= 30
+    let locations = wide32(built.locations);
+    let symbols = wide32(built.symbols);
+    let clocks = wide32(built.clocks);
+    let top = wide32(built.top);
+    sizes_ok(locations, symbols, clocks) && top <= MOST_CONSTANT
 }
 
 // N at most 65,536, R from 1 to 4,096.
 pub(crate) fn counts_ok(pairs: u32, rows: u32) -> bool
     ensures { λ r. ⌜ r ≡ countsOk pairs rows ⌝ }
 {
-    pairs <= 65536 && within(1, 4096, rows)
+    pairs <= MOST_PAIRS as u32 && within(1, MOST_ROWS as u32, rows)
 }
 
 // R · S · W, the cells that the rows need.
@@ -59,23 +103,22 @@ pub(crate) fn long_enough(built: Built, cells: &[u32], rows: &[u32], pool: &[u32
     ensures { λ r. ⌜ r ≡ longEnough (tables built (now (cells .entry)) (now (rows .entry)) (now (pool .entry))) ⌝ }
 {
     cell_need(built) <= cells.len()
-        && 2 * wide32(built.rows) <= rows.len()
+        && ROW_WIDTH * wide32(built.rows) <= rows.len()
         && wide32(built.total) <= pool.len()
 }
 
 // A row starts where the one before it ends, row 0 at 0; the lengths add up to P.
-pub(crate) fn rows_chain(count: usize, total: usize, rows: &[u32]) -> bool
-    requires { ⌜ (count < 2 ^ 32) × (2 * count ≤ length (now rows)) ⌝ }
+pub(crate) fn rows_chain(count: u32, total: usize, rows: &[u32]) -> bool
     ensures { λ r. ⌜ r ≡ rowsChain count 0 (now (rows .entry)) total ⌝ }
 {
     let mut end: usize = 0;
-    let mut i: usize = 0;
+    let mut i: u32 = 0;
     while i < count {
-        let start = wide32(rows[2 * i]);
+        let start = row_start(rows, i);
         if start != end {
             return false;
         }
-        end += wide32(rows[2 * i + 1]);
+        end += row_length(rows, i);
         i += 1;
     }
     end == total
@@ -113,7 +156,7 @@ pub(crate) fn resets_ok(cells: &[u32]) -> bool
 
 // Every cell's row below R, no timer reset at an odd interval number.
 pub(crate) fn cells_ok(rows: u32, cells: &[u32]) -> bool
-    requires { ⌜ rows ≤ 4096 ⌝ }
+    requires { ⌜ rows ≤ mostRows ⌝ }
     ensures { λ r. ⌜ ((cm : ℕ) → r ≡ cellsOk 0 (intervalCount cm) rows (now (cells .entry))) ⌝ }
 {
     codes_below(2 * rows, cells) && resets_ok(cells)
@@ -134,7 +177,7 @@ pub fn in_shape(built: Built, cells: &[u32], rows: &[u32], pool: &[u32]) -> bool
         return false;
     }
     let total = wide32(built.total);
-    if !rows_chain(wide32(built.rows), total, rows) {
+    if !rows_chain(built.rows, total, rows) {
         return false;
     }
     if !codes_below(pairs, &pool[..total]) {

@@ -3,13 +3,14 @@ use mathlib.Core.Path.{_≡_, refl, _∙_, ap}
 use mathlib.Core.Bool.{Bool}
 use mathlib.Core.List.{List, [], _∷_}
 use Prim.Native.Nat.{ℕ}
+use lib.ListN.{take, drop}
 use Rattle.model.specs.declared.Answer.{Answer}
 use Rattle.model.specs.declared.Built.{Built}
 use Rattle.model.specs.declared.Follower.{Follower}
 use Rattle.model.specs.Basics.{oneIf, Refusal, _⨾_}
 use Rattle.model.specs.Words.{Event, eventsOf, mostEvents, wordRefusal}
-use Rattle.model.specs.Tables.{tables}
-use Rattle.model.specs.Walks.{shapeRefusal, startAt, step, stepAll, verdict, tableAccepts}
+use Rattle.model.specs.Tables.{tables, rowStart, rowLength}
+use Rattle.model.specs.Walks.{shapeRefusal, startAt, step, stepAll, anyFinal, verdict, tableAccepts}
 use Rattle.model.specs.Promises.{answerOf, runRefusal}
 use Rattle.model.proofs.Refusals.{both-fine}
 use Rattle.model.proofs.Answers.{first-refuses, second-refuses, answers}
@@ -36,6 +37,16 @@ pub verdict-any :
     (b : Built) (cs ns ps : List ℕ) (n : ℕ) → verdict (tables b [] ns ps) n ≡ verdict (tables b cs ns ps) n
 unfolding verdict
 verdict-any b cs ns ps n = refl
+
+-- the verdict of a row from its start and its length as read
+pub verdict-is :
+    (b : Built) (ns ps : List ℕ) (n : ℕ) {start count : ℕ} {codes : List ℕ} {said : Bool} → start ≡ rowStart ns n
+    → count ≡ rowLength ns n
+    → codes ≡ take count (drop start ps)
+    → said ≡ anyFinal b codes
+    → said ≡ verdict (tables b [] ns ps) n
+unfolding verdict
+verdict-is b ns ps n s l c e = e ∙ rw (c, s, l)
 
 module _ (b : Built) (cs ns ps : List ℕ) (d : ℕ) (xs ts : List ℕ) where
   abbrev word : Refusal

@@ -1,11 +1,10 @@
--- What the step of a walk promises, by the follower's definition; a weight that does for every code.
+-- What the step of a walk promises, by the follower's definition.
 use mathlib.Core.Path.{_≡_}
 use mathlib.Core.List.{List, []}
-use Prim.Native.Nat.{ℕ, _<_}
+use Prim.Native.Nat.{ℕ}
 use Rattle.model.specs.declared.Stamp.{Stamp}
 use Rattle.model.specs.declared.Built.{Built}
 use Rattle.model.specs.declared.Follower.{Follower}
-use Rattle.model.specs.Basics.{quotient}
 use Rattle.model.specs.Words.{Event}
 use Rattle.model.specs.Tables.{tables}
 use Rattle.model.specs.Walks.{stamp, startAt, step, stepAll}
@@ -25,8 +24,3 @@ pub record Steps
 -- the row after all events, from the start
 abbrev pub rowAfter : Built → List ℕ → ℕ → List Event → ℕ
 rowAfter built cells d vs = stepAll (tables built cells [] []) (startAt d) vs .row
-
--- a weight that divides every 32-bit code as this one does
-pub record DividesAs (weight w : ℕ) : Type 0 where
-  pub some : 0 < w
-  pub quotients-are : (x : ℕ) → x < 4294967296 → quotient x w ≡ quotient x weight

@@ -4,35 +4,31 @@ ghost use mathlib.Core.Path.{_≡_};
 ghost use mathlib.Core.List.{[]};
 ghost use Prim.Native.Nat.{_≤_};
 ghost use lib.ListN.{length, getD};
-ghost use Rattle.model.specs.Basics.{bit};
 ghost use Rattle.model.specs.Words.{eventsOf};
 ghost use Rattle.model.specs.Construction.{topInterval};
 ghost use Rattle.model.specs.Tables.{tables};
-ghost use Rattle.model.specs.Walks.{locationWeight, anyFinal, verdict, cellPlace};
+ghost use Rattle.model.specs.Walks.{verdict, cellPlace};
 ghost use Rattle.model.specs.Promises.{RunsTable};
-ghost use Rattle.walk.specs.Steps.{Steps, DividesAs, rowAfter};
-use edges::wide16;
-use edges::wide32;
+ghost use Rattle.walk.specs.Steps.{Steps, rowAfter};
 use interval::Interval;
 use model::Answer;
 use model::Built;
+use model::MOST_EVENTS;
 use model::Stamp;
+use numbers::entry_at;
+use numbers::part_of;
+use numbers::wide16;
+use numbers::wide32;
+use shape::any_final;
 use shape::check_table;
+use tables::row_length;
+use tables::row_start;
 use word::check_word;
 
 // Where a walk stands: its row, and the stamp of the last timer reset.
 pub struct Walk {
     pub row: u32,
     pub reset: Stamp,
-}
-
-pub(crate) fn entry_at(table: &[u32], at: usize) -> u32
-    ensures { λ r. ⌜ r ≡ getD (now (table .entry)) at 0 ⌝ }
-{
-    if table.len() <= at {
-        return 0;
-    }
-    table[at]
 }
 
 // The cell of a row at a symbol and an interval. A row has a line of W cells for each symbol.
@@ -65,63 +61,14 @@ impl Walk {
     }
 }
 
-// (cm + 2) ^ K, or, where that has more than 32 bits, a lower power that has more too: no code reaches either.
-pub(crate) fn location_weight(built: Built) -> usize
-    ensures { λ r. ⌜ DividesAs (locationWeight built) r ⌝ }
-{
-    let base = wide32(built.top) + 2;
-    let clocks = wide32(built.clocks);
-    let mut weight: usize = 1;
-    let mut k: usize = 0;
-    while k < clocks {
-        if 4294967295 < weight {
-            return weight;
-        }
-        weight = weight * base;
-        k += 1;
-    }
-    weight
-}
-
-pub(crate) fn is_final(ends: u32, location: usize) -> bool
-    ensures { λ r. ⌜ r ≡ bit location ends ⌝ }
-{
-    if 31 < location {
-        return false;
-    }
-    (ends >> location) % 2 == 1
-}
-
-// Does some code stand at a final location?
-pub(crate) fn any_final(built: Built, codes: &[u32]) -> bool
-    ensures { λ r. ⌜ r ≡ anyFinal built (now (codes .entry)) ⌝ }
-{
-    let weight = location_weight(built);
-    let mut i: usize = 0;
-    while i < codes.len() {
-        if is_final(built.ends, wide32(codes[i]) / weight) {
-            return true;
-        }
-        i += 1;
-    }
-    false
-}
-
 // A row's verdict: yes if it holds a final location.
 pub fn verdict(built: Built, rows: &[u32], pool: &[u32], row: u32) -> bool
     ensures { λ r. ⌜ r ≡ verdict (tables built [] (now (rows .entry)) (now (pool .entry))) row ⌝ }
 {
-    let at = 2 * wide32(row);
-    let start = wide32(entry_at(rows, at));
-    let count = wide32(entry_at(rows, at + 1));
-    if pool.len() <= start {
-        return false;
-    }
-    let mut end = pool.len();
-    if count < end - start {
-        end = start + count;
-    }
-    any_final(built, &pool[start..end])
+    let start = row_start(rows, row);
+    let count = row_length(rows, row);
+    let codes = part_of(pool, start, count);
+    any_final(built, codes)
 }
 
 // The row after all events.
@@ -165,7 +112,7 @@ pub fn run_table(
     if shape.number != 0 {
         return shape;
     }
-    let word = check_word(built.symbols, grain, 4096, symbols, stamps);
+    let word = check_word(built.symbols, grain, MOST_EVENTS as u32, symbols, stamps);
     if word.number != 0 {
         return word;
     }

@@ -10,7 +10,7 @@ use lib.ListN.{length, getD, drop}
 use borrow.Author.Tests.{lt-ltb, le-ltb, le-leb, lt-leb, eq-eqb, ne-eqb}
 use Rattle.model.specs.declared.Answer.{Answer}
 use Rattle.model.specs.Basics.{refusal}
-use Rattle.model.specs.Words.{Event, eventsOf, grainOk, eventsRefusal, wordRefusal}
+use Rattle.model.specs.Words.{Event, eventsOf, mostGrain, grainOk, eventsRefusal, wordRefusal}
 use Rattle.model.specs.Promises.{answerOf}
 use Rattle.word.specs.Answers.{eventsAnswer, Passed, StopsAt}
 use Rattle.model.proofs.Logic.{or-right}
@@ -23,7 +23,7 @@ refused n p = record { number = n; place = p; value = 0 }
 pub grain-low : (d : ℕ) → d < 1 → leb 1 d ≡ grainOk d
 grain-low d h = rw (lt-leb 1 d h)
 
-pub grain-rest : (d : ℕ) → 1 ≤ d → leb d 1000 ≡ grainOk d
+pub grain-rest : (d : ℕ) → 1 ≤ d → leb d mostGrain ≡ grainOk d
 grain-rest d h = rw (le-leb 1 d h)
 
 -- one event: taken, or refused by its symbol or its stamp

@@ -4,7 +4,7 @@ use mathlib.Core.Bool.{true}
 use Prim.Native.Nat.{suc, _+_}
 use native.Mathlib.Numerals.{add-one}
 use borrow.Author.Needs.{needs}
-use Rattle.model.specs.Words.{grainOk}
+use Rattle.model.specs.Words.{mostGrain, grainOk}
 use Rattle.model.specs.Promises.{event}
 use Rattle.model.proofs.Logic.{within-least}
 use Rattle.model.proofs.Flags.{is-false, is-true}
@@ -12,13 +12,20 @@ use Rattle.follower.proofs.Checks.{Sound, Numbered, no-grain, stray, fu
 use Rattle.follower.proofs.check_event.Statement.{statement}
 use Rattle.follower.proofs.check_event.Tie as tie
 
+-- where the follower has not strayed: what was given; where the stamps are compared: the event's number as read
+abbrev given : tie.Else2 → tie.Start
+given c = c .before .before .before .before
+
+abbrev counted : tie.After-struct-known3 → tie.After-wide32
+counted c = c .before .before .before .before .before
+
 -- D is in range; then the follower has not strayed
 grain-at : (c : tie.Else1) → grainOk (c .before .before .args .follower .grain) ≡ true
 grain-at c = is-true (c .before .grain-ok .ensures) (c .if1 .left)
 
 sound-at :
     (c : tie.Else2)
-    → let a = c .before .before .before .before .args in
+    → let a = given c .args in
     Sound (a .built) (a .follower) (event (a .symbol) (a .stamp))
 sound-at c = record {
   grain = grain-at (c .before .before);
@@ -28,7 +35,7 @@ sound-at c = record {
 -- the count has room for the event, whose number is read
 numbered-at :
     (c : tie.After-wide32)
-    → let a = c .before .before .before .before .before .before .before .args in
+    → let a = given (c .before .before .before) .args in
     Numbered (a .built) (a .follower) (event (a .symbol) (a .stamp)) (c .wide32 .result + 1)
 numbered-at c = record {
   sound = sound-at (c .before .before .before);
@@ -49,7 +56,7 @@ returns c =
     c .answered .ensures ∙ no-grain (a .built) (a .follower) (event (a .symbol) (a .stamp)) grain
 
 strayed-requires : tie.Need-strayed-requires
-strayed-requires c κs = within-least 1 1000 _ (grain-at c)
+strayed-requires c κs = within-least 1 mostGrain _ (grain-at c)
 
 answered-requires-2 : tie.Need-answered-requires-2
 answered-requires-2 c κs = search needs
@@ -60,6 +67,9 @@ returns-2 c =
     c .answered2 .ensures
     ∙ stray (a .built) (a .follower) (event (a .symbol) (a .stamp)) (grain-at (c .before .before .before))
     (sym (c .before .before .strayed .ensures) ∙ c .before .if2 .taken)
+
+cast-if3 : tie.Need-cast-if3
+cast-if3 c = search needs
 
 answered-requires-3 : tie.Need-answered-requires-3
 answered-requires-3 c κs = search needs
@@ -90,7 +100,7 @@ answered-requires-5 c κs = search needs
 
 returns-5 : tie.Need-returns-5
 returns-5 c =
-    let n = numbered-at (c .before .before .before .before .before .before .before) in
+    let n = numbered-at (counted (c .before .before)) in
     c .answered5 .ensures ∙ stamp-falls n (search needs) (c .before .if5 .taken)
 
 answered-requires-6 : tie.Need-answered-requires-6
@@ -98,7 +108,7 @@ answered-requires-6 c κs = search needs
 
 returns-6 : tie.Need-returns-6
 returns-6 c =
-    let n = numbered-at (c .before .before .before .before .before .before .before) in
+    let n = numbered-at (counted (c .before .before)) in
     c .answered6 .ensures ∙ passes-all n (search needs) (c .before .if5 .left)
 
 pub check-event-spec : {M : Type 1} → statement M
@@ -111,6 +121,7 @@ check-event-spec =
     strayed-requires
     answered-requires-2
     returns-2
+    cast-if3
     answered-requires-3
     returns-3
     wide32-requires

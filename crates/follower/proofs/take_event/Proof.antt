@@ -9,10 +9,14 @@ use Rattle.follower.proofs.Moves.{checks-leave, goes-on}
 use Rattle.follower.proofs.take_event.Statement.{statement}
 use Rattle.follower.proofs.take_event.Tie as tie
 
+-- where the event was checked: what was lent
+abbrev lent : tie.After-check-event → tie.Start
+lent c = c .before .before .before .before
+
 -- the event passes its checks
 passed :
     (c : tie.Else1)
-    → let a = c .before .before .before .before .before .before .args in
+    → let a = lent (c .before .before) .args in
     eventChecks (a .built) (a .follower) (event (a .symbol) (a .stamp)) .number ≡ 0
 passed c = sym (number-is _ 0 (c .before .before .check-event .ensures)) ∙ c .if1 .left
 
@@ -25,7 +29,7 @@ kept-requires c κs = search needs
 returns : tie.Need-returns
 returns c =
     let k = c .before .before .before in
-    let a = k .before .before .before .before .args in
+    let a = lent k .args in
     c .kept .ensures
     ∙ checks-leave (a .built) (a .cells .now) (a .rows .now) (a .pool .now) (a .follower)
     (event (a .symbol) (a .stamp))
@@ -34,7 +38,7 @@ returns c =
 
 moved-requires : tie.Need-moved-requires
 moved-requires c κs =
-    let a = c .before .before .before .before .before .before .args in
+    let a = lent (c .before .before) .args in
     count-below (a .built) (a .follower) (event (a .symbol) (a .stamp)) (passed c)
 
 verdict-requires : tie.Need-verdict-requires

@@ -1,48 +1,57 @@
--- `shape::in_range` meets its contract, test by test.
-use mathlib.Core.Path.{_≡_, refl}
-use mathlib.Core.Bool.{_&&_}
-use mathlib.Core.Logic.{⊎-elim}
+-- `shape::in_range` meets its contract: L, S and K, then cm.
+use mathlib.Core.Path.{_≡_, refl, ap}
+use Prim.Native.Nat.{ℕ}
+use lib.Dec.{leb}
 use borrow.Author.Needs.{needs}
-use Rattle.model.specs.Basics.{within}
-use Rattle.model.specs.Rules.{sizesOk}
+use Rattle.model.specs.Rules.{mostConstant, sizesOk}
 use Rattle.model.proofs.Flags.{held, failed}
+use Rattle.shape.proofs.Sizes.{sizes-are}
 use Rattle.shape.proofs.in_range.Statement.{statement}
 use Rattle.shape.proofs.in_range.Tie as tie
 
-within-requires : tie.Need-within-requires
-within-requires c κs = search needs
+wide32-requires : tie.Need-wide32-requires
+wide32-requires c κs = search needs
 
-within-requires-2 : tie.Need-within-requires-2
-within-requires-2 c κs = search needs
+wide32-requires-2 : tie.Need-wide32-requires-2
+wide32-requires-2 c κs = search needs
 
-within-requires-3 : tie.Need-within-requires-3
-within-requires-3 c κs = search needs
+wide32-requires-3 : tie.Need-wide32-requires-3
+wide32-requires-3 c κs = search needs
 
--- the flags where the tests of L and S, and then of K, have met
-two-met :
-    (c : tie.Joined1)
-    → let b = c .before .before .args .built in
-    c .if1 .if2 ≡ (within 1 32 (b .locations) && within 1 16 (b .symbols))
-two-met c =
-    let first = c .before .within .ensures in
-    ⊎-elim (λ w. held first (w .0 .taken) (w .1 .ensures) (w .2)) (λ w. failed _ first (w .0 .left) (w .1))
-    (c .if1 .came)
+wide32-requires-4 : tie.Need-wide32-requires-4
+wide32-requires-4 c κs = search needs
 
-three-met :
-    (c : tie.Joined2)
-    → let b = c .before .before .before .args .built in
-    c .if2 .if3 ≡ sizesOk (b .locations) (b .symbols) (b .clocks)
-three-met c =
-    let two = two-met (c .before) in
-    ⊎-elim (λ w. held two (w .0 .taken) (w .1 .ensures) (w .2)) (λ w. failed _ two (w .0 .left) (w .1))
-    (c .if2 .came)
+sizes-ok-requires : tie.Need-sizes-ok-requires
+sizes-ok-requires c κs = search needs
+
+-- L, S and K as read, then their test
+sizes-at :
+    (c : tie.After-sizes-ok)
+    → let b = c .before .before .before .before .before .args .built in
+    c .sizes-ok .result ≡ sizesOk (b .locations) (b .symbols) (b .clocks)
+sizes-at c =
+    let clocks = c .before .before in
+    let b = clocks .before .before .before .args .built in
+    sizes-are b _ _ _ (clocks .before .before .wide32 .ensures .0) (clocks .before .wide322 .ensures .0)
+    (clocks .wide323 .ensures .0)
+    (c .sizes-ok .ensures)
 
 returns : tie.Need-returns
-returns c = held (three-met (c .before .before)) (c .before .if3 .taken) refl refl
+returns c =
+    let top = ap (λ (n : ℕ). leb n mostConstant) (c .before .before .wide324 .ensures .0) in
+    held (sizes-at (c .before)) (c .if1 .taken) top refl
 
 returns-2 : tie.Need-returns-2
-returns-2 c = failed _ (three-met (c .before)) (c .if3 .left) refl
+returns-2 c = failed _ (sizes-at (c .before)) (c .if1 .left) refl
 
 pub in-range-spec : {M : Type 1} → statement M
 in-range-spec =
-    tie.close (tie.spec within-requires within-requires-2 within-requires-3 returns returns-2)
+    tie.close
+    (tie.spec
+    wide32-requires
+    wide32-requires-2
+    wide32-requires-3
+    wide32-requires-4
+    sizes-ok-requires
+    returns
+    returns-2)

@@ -7,57 +7,62 @@ use Rattle.model.proofs.Flags.{is-false, is-true}
 use Rattle.shape.specs.Ranges.{sizesInRange}
 use Rattle.shape.proofs.Sizes.{in-range}
 use Rattle.shape.proofs.Shape.{Sized, Linked, Coded, sizes-hold, ranges, rows-most, sizes-out, counts-out}
-use Rattle.shape.proofs.Shape.{too-short, rows-reach, pool-part, chain-out, code-out, cells-part}
-use Rattle.shape.proofs.Shape.{all-but-cells}
+use Rattle.shape.proofs.Shape.{too-short, pool-part, chain-out, code-out, cells-part, all-but-cells}
 use Rattle.shape.proofs.in_shape.Statement.{statement}
 use Rattle.shape.proofs.in_shape.Tie as tie
 
--- what is settled where the ranges and the counts are in order, where the rows and P are read, and after the rows
--- and the codes
-ranged-at : (c : tie.Else1) → sizesInRange (c .before .before .before .before .before .args .built) ≡ true
+-- where the ranges are in order, what was lent; where the counts are, N as counted; where P is read, the lengths;
+-- where the codes are looked at, P
+abbrev lent : tie.Else1 → tie.Start
+lent c = c .before .before .before .before .before
+
+abbrev counted : tie.Else2 → tie.After-pair-count
+counted c = c .before .before
+
+abbrev measured : tie.After-wide32 → tie.Else2
+measured c = c .before .before .before
+
+abbrev chained : tie.Else4 → tie.After-wide32
+chained c = c .before .before
+
+-- what is settled there
+ranged-at : (c : tie.Else1) → sizesInRange (lent c .args .built) ≡ true
 ranged-at c = is-true (c .before .in-range .ensures) (c .if1 .left)
 
-sized-at :
-    (c : tie.Else2)
-    → builtSizesOk (c .before .before .before .before .before .before .before .before .args .built) ≡ true
+sized-at : (c : tie.Else2) → builtSizesOk (lent (counted c .before) .args .built) ≡ true
 sized-at c =
-    let k = c .before .before in
+    let b = lent (counted c .before) .args .built in
     let counts = is-true (c .before .counts-ok .ensures) (c .if2 .left) in
-    sizes-hold (k .before .before .before .before .before .before .args .built) _ (ranged-at (k .before))
-    (k .pair-count .ensures)
-    counts
+    sizes-hold b _ (ranged-at (counted c .before)) (counted c .pair-count .ensures) counts
 
-counted-at :
-    (c : tie.After-wide322)
-    → let a = c .before .before .before .before .before .before .before .before .before .before .before .before .args in
-    Sized (a .built) (a .cells .now) (a .rows .now) (a .pool .now) (c .wide322 .result) (c .before .wide32 .result)
-counted-at c =
-    let k = c .before .before in
-    record {
-      sizes = sized-at (k .before .before);
-      long = is-true (k .before .long-enough .ensures) (k .if3 .left);
-      count-is = c .wide322 .ensures .0;
-      total-is = c .before .wide32 .ensures .0;
-    }
+measured-at :
+    (c : tie.After-wide32)
+    → let a = lent (counted (measured c) .before) .args in
+    Sized (a .built) (a .cells .now) (a .rows .now) (a .pool .now) (c .wide32 .result)
+measured-at c = record {
+  sizes = sized-at (measured c);
+  long = is-true (c .before .before .long-enough .ensures) (c .before .if3 .left);
+  total-is = c .wide32 .ensures .0;
+}
 
 linked-at :
     (c : tie.Else4)
-    → let k = c .before .before in
-    let a = k .before .before .before .before .before .before .before .before .before .before .before .before .args in
-    Linked (a .built) (a .cells .now) (a .rows .now) (a .pool .now) (k .wide322 .result) (k .before .wide32 .result)
-    (k .before .before .before .before .before .before .pair-count .result)
+    → let pairs = counted (measured (chained c)) in
+    let a = lent (pairs .before) .args in
+    Linked (a .built) (a .cells .now) (a .rows .now) (a .pool .now) (chained c .wide32 .result)
+    (pairs .pair-count .result)
 linked-at c = record {
-  sized = counted-at (c .before .before);
+  sized = measured-at (chained c);
   chain = is-true (c .before .rows-chain .ensures) (c .if4 .left);
-  pairs-are = c .before .before .before .before .before .before .before .before .pair-count .ensures;
+  pairs-are = counted (measured (chained c)) .pair-count .ensures;
 }
 
 coded-at :
     (c : tie.After-cell-need)
-    → let k = c .before .before .before .before .before .before in
-    let a = k .before .before .before .before .before .before .before .before .before .before .before .before .args in
-    Coded (a .built) (a .cells .now) (a .rows .now) (a .pool .now) (k .wide322 .result) (k .before .wide32 .result)
-    (k .before .before .before .before .before .before .pair-count .result)
+    → let k = chained (c .before .before .before .before) in
+    let pairs = counted (measured k) in
+    let a = lent (pairs .before) .args in
+    Coded (a .built) (a .cells .now) (a .rows .now) (a .pool .now) (k .wide32 .result) (pairs .pair-count .result)
     (c .cell-need .result)
 coded-at c = record {
   linked = linked-at (c .before .before .before .before);
@@ -79,8 +84,8 @@ counts-ok-requires c κs = search needs
 
 returns-2 : tie.Need-returns-2
 returns-2 c =
-    let k = c .before .before in
-    counts-out _ _ (ranged-at (k .before)) (k .pair-count .ensures)
+    let pairs = c .before .before in
+    counts-out _ _ (ranged-at (pairs .before)) (pairs .pair-count .ensures)
     (is-false (c .before .counts-ok .ensures) (c .if2 .taken))
 
 long-enough-requires : tie.Need-long-enough-requires
@@ -92,17 +97,14 @@ returns-3 c = too-short _ (sized-at (c .before .before)) (is-false (c .before .l
 wide32-requires : tie.Need-wide32-requires
 wide32-requires c κs = search needs
 
-wide32-requires-2 : tie.Need-wide32-requires-2
-wide32-requires-2 c κs = search needs
-
 rows-chain-requires : tie.Need-rows-chain-requires
-rows-chain-requires c κs = (search needs, rows-reach (counted-at c))
+rows-chain-requires c κs = search needs
 
 returns-4 : tie.Need-returns-4
-returns-4 c = chain-out (counted-at (c .before .before)) (is-false (c .before .rows-chain .ensures) (c .if4 .taken))
+returns-4 c = chain-out (measured-at (c .before .before)) (is-false (c .before .rows-chain .ensures) (c .if4 .taken))
 
 slice-aggregate-codes-below : tie.Need-slice-aggregate-codes-below
-slice-aggregate-codes-below c = pool-part (linked-at (c .before) .sized)
+slice-aggregate-codes-below c = pool-part (measured-at (chained (c .before)))
 
 codes-below-requires : tie.Need-codes-below-requires
 codes-below-requires c κs = search needs
@@ -112,7 +114,7 @@ returns-5 c =
     code-out (linked-at (c .before .before .before)) (is-false (c .before .codes-below .ensures) (c .if5 .taken))
 
 cell-need-requires : tie.Need-cell-need-requires
-cell-need-requires c κs = ranges _ (linked-at (c .before .before .before) .sized .sizes)
+cell-need-requires c κs = ranges _ (measured-at (chained (c .before .before .before)) .sizes)
 
 slice-aggregate-cells-ok : tie.Need-slice-aggregate-cells-ok
 slice-aggregate-cells-ok c = cells-part (coded-at (c .before))
@@ -135,7 +137,6 @@ in-shape-spec =
     long-enough-requires
     returns-3
     wide32-requires
-    wide32-requires-2
     rows-chain-requires
     returns-4
     slice-aggregate-codes-below

@@ -25,14 +25,18 @@ mul-if2 c = search needs
 wide32-requires-2 : tie.Need-wide32-requires-2
 wide32-requires-2 c κs = search needs
 
+-- where the cells' number is known: what was lent
+abbrev lent : tie.After-cell-need → tie.Start
+lent c = c .before .before .before .before
+
 -- the flag where the tests of the cells and of the rows have met
 rows-met :
     (c : tie.Joined1)
-    → let a = c .before .before .before .before .before .args in
+    → let a = lent (c .before) .args in
     c .if1 .if2
     ≡ (leb (cellNeed (a .built)) (length (a .cells .now)) && leb (rowWidth * a .built .rows) (length (a .rows .now)))
 rows-met c =
-    let a = c .before .before .before .before .before .args in
+    let a = lent (c .before) .args in
     let first = ap (λ (n : ℕ). leb n (length (a .cells .now))) (c .before .cell-need .ensures) in
     let second : ℕ → Bool = λ n. leb (rowWidth * n) (length (a .rows .now)) in
     ⊎-elim (λ w. held first (le-leb _ _ (w .0 .taken)) (ap second (w .1 .ensures .0)) (w .2))
@@ -41,7 +45,7 @@ rows-met c =
 
 returns : tie.Need-returns
 returns c =
-    let pool = c .before .before .before .before .before .before .before .args .pool .now in
+    let pool = lent (c .before .before .before) .args .pool .now in
     let third = ap (λ (n : ℕ). leb n (length pool)) (c .wide322 .ensures .0) in
     held (rows-met (c .before .before)) (c .before .if2 .taken) third refl
 

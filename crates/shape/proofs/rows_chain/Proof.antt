@@ -12,39 +12,21 @@ Inv-loop count total rows end₀ i₀ end i = Chained count total rows end i
 abbrev μ-loop : tie.MeasureT-loop
 μ-loop count total rows end₀ i₀ end i = count - i
 
+-- the row of this turn, as seen where its start is read
+abbrev turn : tie.After-row-start Inv-loop μ-loop → tie.At-loop Inv-loop μ-loop
+turn c = c .before .before
+
 loop-holds : tie.Need-loop-holds Inv-loop μ-loop
 loop-holds c = chain-start _ _ _
 
-mul-wide32 : tie.Need-mul-wide32 Inv-loop μ-loop
-mul-wide32 c = search needs
-
-mul-wide32-2 : tie.Need-mul-wide32-2 Inv-loop μ-loop
-mul-wide32-2 c = search needs
-
-shared-slice-read-wide32 : tie.Need-shared-slice-read-wide32 Inv-loop μ-loop
-shared-slice-read-wide32 c = search needs
-
-wide32-requires : tie.Need-wide32-requires Inv-loop μ-loop
-wide32-requires c κs = search needs
+row-start-requires : tie.Need-row-start-requires Inv-loop μ-loop
+row-start-requires c κs = search needs
 
 returns : tie.Need-returns Inv-loop μ-loop
-returns c =
-    chain-broken (c .before .before .before .before .loop .inv) (search needs) (λ e. omega (arith, c .if1 .taken))
+returns c = chain-broken (turn (c .before) .loop .inv) (search needs) (λ e. omega (arith, c .if1 .taken))
 
-mul-wide32-3 : tie.Need-mul-wide32-3 Inv-loop μ-loop
-mul-wide32-3 c = search needs
-
-add-wide32 : tie.Need-add-wide32 Inv-loop μ-loop
-add-wide32 c = search needs
-
-mul-wide32-4 : tie.Need-mul-wide32-4 Inv-loop μ-loop
-mul-wide32-4 c = search needs
-
-shared-slice-read-wide32-2 : tie.Need-shared-slice-read-wide32-2 Inv-loop μ-loop
-shared-slice-read-wide32-2 c = search needs
-
-wide32-requires-2 : tie.Need-wide32-requires-2 Inv-loop μ-loop
-wide32-requires-2 c κs = search needs
+row-length-requires : tie.Need-row-length-requires Inv-loop μ-loop
+row-length-requires c κs = search needs
 
 add-end : tie.Need-add-end Inv-loop μ-loop
 add-end c = search needs
@@ -57,8 +39,8 @@ loop-less c = search needs
 
 loop-again : tie.Need-loop-again Inv-loop μ-loop
 loop-again c =
-    let l = c .before .before .before .before .before .before .loop in
-    chain-next (l .inv) _ (search needs) (search needs) (c .wide322 .ensures .0) (c .wide322 .ensures .1)
+    let read = c .row-length .ensures in
+    chain-next (turn (c .before .before) .loop .inv) _ (search needs) (search needs) (read .0) (read .1)
 
 returns-2 : tie.Need-returns-2 Inv-loop μ-loop
 returns-2 c = chain-end (c .before .loop .inv) (search needs)
@@ -70,16 +52,9 @@ rows-chain-spec =
     Inv-loop
     μ-loop
     loop-holds
-    mul-wide32
-    mul-wide32-2
-    shared-slice-read-wide32
-    wide32-requires
+    row-start-requires
     returns
-    mul-wide32-3
-    add-wide32
-    mul-wide32-4
-    shared-slice-read-wide32-2
-    wide32-requires-2
+    row-length-requires
     add-end
     add-i
     loop-less

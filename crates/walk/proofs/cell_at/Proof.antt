@@ -6,11 +6,14 @@ use Rattle.walk.proofs.Cells.{Read, lines-most, past-end, in-table, ent
 use Rattle.walk.proofs.cell_at.Statement.{statement}
 use Rattle.walk.proofs.cell_at.Tie as tie
 
--- the four numbers of the place, as read
+-- where the four numbers of the place are read: what was given; the numbers as read
+abbrev given : tie.After-wide16 → tie.Start
+given c = c .before .before .before .before .before
+
 read-at :
     (c : tie.After-wide16)
     → let k = c .before .before in
-    let a = k .before .before .before .args in
+    let a = given c .args in
     Read (a .built) (a .row) (a .symbol) (k .before .wide32 .result) (k .wide322 .result) (c .before .wide323 .result)
     (c .wide16 .result)
 read-at c = record {
@@ -50,7 +53,7 @@ div-if1 c = search needs
 
 returns : tie.Need-returns
 returns c =
-    let a = c .before .before .before .before .before .before .args in
+    let a = given (c .before) .args in
     past-end (read-at (c .before)) (a .cells .now) (a .interval .0) (c .if1 .taken)
 
 mul-entry-at : tie.Need-mul-entry-at
@@ -64,7 +67,7 @@ entry-at-requires c κs = search needs
 
 returns-2 : tie.Need-returns-2
 returns-2 c =
-    let a = c .before .before .before .before .before .before .before .args in
+    let a = given (c .before .before) .args in
     c .entry-at .ensures ∙ entry-is (read-at (c .before .before)) (a .cells .now) (a .interval .0)
 
 pub cell-at-spec : {M : Type 1} → statement M

@@ -6,12 +6,14 @@ use Rattle.word.proofs.check_events.Statement.{statement}
 use Rattle.word.proofs.check_events.Tie as tie
 
 -- where the good events end, as seen where the next one's symbol is read
+abbrev good : tie.After-wide16 → tie.After-good-events
+good c = c .before .before .before .before
+
 stopped :
     (c : tie.After-wide16)
-    → let k = c .before .before .before .before in
-    let a = k .before .before .before .args in
-    StopsAt (a .symbol-count) (a .symbols .now) (a .stamps .now) (k .good-events .result)
-stopped c = c .before .before .before .before .good-events .ensures
+    → let a = good c .before .before .before .args in
+    StopsAt (a .symbol-count) (a .symbols .now) (a .stamps .now) (good c .good-events .result)
+stopped c = good c .good-events .ensures
 
 good-events-requires : tie.Need-good-events-requires
 good-events-requires c κs = search needs

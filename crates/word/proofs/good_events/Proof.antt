@@ -15,6 +15,10 @@ Inv-loop symbol-count symbols stamps known last₀ i₀ last i =
 abbrev μ-loop : tie.MeasureT-loop
 μ-loop symbol-count symbols stamps known last₀ i₀ last i = length symbols - i
 
+-- the turn that an event is looked at in, as seen where its stamp is compared
+abbrev turn : tie.After-struct-known2 Inv-loop μ-loop → tie.At-loop Inv-loop μ-loop
+turn c = c .before .before .before .before .before .before .before
+
 wide32-requires : tie.Need-wide32-requires Inv-loop μ-loop
 wide32-requires c κs = search needs
 
@@ -40,9 +44,7 @@ shared-slice-read-t14 : tie.Need-shared-slice-read-t14 Inv-loop μ-loop
 shared-slice-read-t14 c = search needs
 
 returns-2 : tie.Need-returns-2 Inv-loop μ-loop
-returns-2 c =
-    let l = c .before .before .before .before .before .before .before .before .loop in
-    stops-stamp (l .inv .1) (search needs)
+returns-2 c = stops-stamp (turn (c .before) .loop .inv .1) (search needs)
 
 add-i : tie.Need-add-i Inv-loop μ-loop
 add-i c = search needs
@@ -52,8 +54,8 @@ loop-less c = search needs
 
 loop-again : tie.Need-loop-again Inv-loop μ-loop
 loop-again c =
-    let l = c .before .before .before .before .before .before .before .before .loop in
-    (search needs, passed-next (l .inv .1) (search needs) (search needs) (search needs) (search needs))
+    let passed = turn (c .before) .loop .inv .1 in
+    (search needs, passed-next passed (search needs) (search needs) (search needs) (search needs))
 
 returns-3 : tie.Need-returns-3 Inv-loop μ-loop
 returns-3 c = stops-end (c .before .loop .inv .1) (search needs)

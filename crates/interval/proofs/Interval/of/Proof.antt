@@ -1,5 +1,6 @@
 -- `interval::Interval::of` meets its contract, case by case.
 use mathlib.Core.Path.{_∙_}
+use Prim.Native.Nat.{_/_, _≤_}
 use native.Mathlib.Nat.{div-le-self}
 use native.Mathlib.Omega.{arith}
 use borrow.Author.Needs.{needs}
@@ -28,23 +29,21 @@ div-whole c = grain-counts _ _ _ (c .before .if1 .left) (c .if2 .left)
 rem-if3 : tie.Need-rem-if3
 rem-if3 c = grain-counts _ _ _ (c .before .if1 .left) (c .if2 .left)
 
+-- where the age is neither 0 nor above cm: its whole seconds fit as it does
+whole-most : (c : tie.Else2) → let a = c .before .before .before .args in a .age .0 / a .grain ≤ a .age .0
+whole-most c = div-le-self _ _
+
 mul-t10 : tie.Need-mul-t10
-mul-t10 c =
-    let a = c .before .before .before .before .args in
-    omega (arith, div-le-self (a .age .0) (a .grain))
+mul-t10 c = omega (arith, whole-most (c .before))
 
 returns-3 : tie.Need-returns-3
 returns-3 c = at-whole _ _ _ (c .before .before .if1 .left) (c .before .if2 .left) (c .if3 .taken)
 
 mul-t9 : tie.Need-mul-t9
-mul-t9 c =
-    let a = c .before .before .before .before .args in
-    omega (arith, div-le-self (a .age .0) (a .grain))
+mul-t9 c = omega (arith, whole-most (c .before))
 
 add-t8 : tie.Need-add-t8
-add-t8 c =
-    let a = c .before .before .before .before .args in
-    omega (arith, div-le-self (a .age .0) (a .grain))
+add-t8 c = omega (arith, whole-most (c .before))
 
 returns-4 : tie.Need-returns-4
 returns-4 c = between _ _ _ (c .before .before .if1 .left) (c .before .if2 .left) (c .if3 .left)

@@ -1,9 +1,9 @@
--- `walk::location_weight` meets its contract: after k turns the weight is the k-th power of cm + 2.
+-- `shape::location_weight` meets its contract: after k turns the weight is the k-th power of cm + 2.
 use Prim.Native.Nat.{_-_}
 use borrow.Author.Needs.{needs}
-use Rattle.walk.proofs.Verdicts.{Weighed, weight-start, weight-next, weight-fits, weight-whole, weight-past}
-use Rattle.walk.proofs.location_weight.Statement.{statement}
-use Rattle.walk.proofs.location_weight.Tie as tie
+use Rattle.shape.proofs.Finals.{Weighed, weight-start, weight-next, weight-fits, weight-whole, weight-past}
+use Rattle.shape.proofs.location_weight.Statement.{statement}
+use Rattle.shape.proofs.location_weight.Tie as tie
 
 abbrev Inv-loop : tie.InvT-loop
 Inv-loop base clocks weight₀ k₀ weight k = Weighed base clocks weight k

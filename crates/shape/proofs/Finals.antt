@@ -1,19 +1,18 @@
--- A row's verdict: the weight of a location, a final location's bit, and the loop over the codes.
+-- What the codes of a row say: the weight of a location, and the loop over the codes.
 use mathlib.Core.Path.{_≡_, refl, sym, _∙_, ap}
 use mathlib.Core.Bool.{true, false, _||_}
 use mathlib.Core.List.{List}
-use Prim.Native.Nat.{ℕ, _+_, _-_, _*_, _/_, _^_, _≤_, _<_}
+use Prim.Native.Nat.{ℕ, _+_, _*_, _/_, _^_, _≤_, _<_}
 use native.Mathlib.Omega.{arith}
 use native.Mathlib.Numerals.{add-one}
 use native.Mathlib.Nat.{pow-zero, pow-suc, pow-le-pow-right, one-le-pow, div-eq-of-lt, mul-le-mul}
-use lib.Pow.{pow-mono}
 use lib.ListN.{length, getD, drop, drop-of-length-le}
 use lib.Seq.{drop-cons}
 use Rattle.model.specs.declared.Built.{Built}
 use Rattle.model.specs.Basics.{quotient, bit}
 use Rattle.model.specs.Walks.{locationWeight, anyFinal}
 use Rattle.model.proofs.Logic.{quotient-is}
-use Rattle.walk.specs.Steps.{DividesAs}
+use Rattle.shape.specs.Weights.{DividesAs}
 
 -- The weight: after k turns the k-th power of the base, which is cm + 2; `n` is K as read.
 pub record Weighed (base n weight k : ℕ) : Type 0 where
@@ -53,12 +52,6 @@ module _ {base n weight k : ℕ} (inv : Weighed base n weight k) where
 pub weight-fits : (weight base : ℕ) → weight ≤ 4294967295 → base ≤ 4294967297 → weight * base < 2 ^ 64
 weight-fits weight base h g = omega (arith, mul-le-mul h g)
 
--- a mask of 32 bits has no bit past them
-pub bit-past : (l mask : ℕ) → mask < 2 ^ 32 → 31 < l → false ≡ bit l mask
-bit-past l mask f h =
-    let none : mask / 2 ^ l ≡ 0 = div-eq-of-lt (omega (arith, pow-mono {i = 32} {j = l} (omega arith))) in
-    rw none
-
 -- The loop over the codes: what is found among those to come is what is found in all.
 pub record Sought (b : Built) (xs : List ℕ) (i : ℕ) : Type 0 where
   pub turns : i ≤ length xs
@@ -67,22 +60,27 @@ pub record Sought (b : Built) (xs : List ℕ) (i : ℕ) : Type 0 where
 pub sought-start : (b : Built) (xs : List ℕ) → Sought b xs 0
 sought-start b xs = record { turns = omega arith; rest-is = refl }
 
-module _ {b : Built} {xs : List ℕ} {i : ℕ} (inv : Sought b xs i) where
-  pub sought-end : length xs ≤ i → false ≡ anyFinal b xs
-  sought-end h = ap (anyFinal b) (sym (drop-of-length-le xs h)) ∙ inv .rest-is
+pub sought-end : {b : Built} {xs : List ℕ} {i : ℕ} → Sought b xs i → length xs ≤ i → false ≡ anyFinal b xs
+sought-end {b} {xs} inv h = ap (anyFinal b) (sym (drop-of-length-le xs h)) ∙ inv .rest-is
 
-  -- `x` is the code as read, `w` the weight
-  module _
-      (h : i < length xs) (x w : ℕ) (x-is : x ≡ getD xs i 0) (x-fits : x < 2 ^ 32)
-      (w-is : DividesAs (locationWeight b) w) where
-    sought-rest : anyFinal b xs ≡ (bit (x / w) (b .ends) || anyFinal b (drop (i + 1) xs))
-    sought-rest =
-        let q : quotient x (locationWeight b) ≡ x / w =
-        sym (w-is .quotients-are x x-fits) ∙ quotient-is x w (w-is .some) in
-        sym (inv .rest-is) ∙ rw (drop-cons xs i 0 h, ← x-is, q, add-one i)
+-- a turn of it: `x` is the code as read, `w` the weight, `m` the final locations
+pub record Looked (b : Built) (xs : List ℕ) (i x w m : ℕ) : Type 0 where
+  pub sought : Sought b xs i
+  pub more : i < length xs
+  pub code-is : x ≡ getD xs i 0
+  pub code-fits : x < 2 ^ 32
+  pub weight-is : DividesAs (locationWeight b) w
+  pub ends-are : m ≡ b .ends
 
-    pub final-found : bit (x / w) (b .ends) ≡ true → true ≡ anyFinal b xs
-    final-found e = sym (sought-rest ∙ rw e)
+module _ {b : Built} {xs : List ℕ} {i x w m : ℕ} (l : Looked b xs i x w m) where
+  sought-rest : anyFinal b xs ≡ (bit (x / w) m || anyFinal b (drop (i + 1) xs))
+  sought-rest =
+      let q : quotient x (locationWeight b) ≡ x / w =
+      sym (l .weight-is .quotients-are x (l .code-fits)) ∙ quotient-is x w (l .weight-is .some) in
+      sym (l .sought .rest-is) ∙ rw (drop-cons xs i 0 (l .more), ← l .code-is, q, l .ends-are, add-one i)
 
-    pub sought-next : bit (x / w) (b .ends) ≡ false → Sought b xs (i + 1)
-    sought-next e = record { turns = omega arith; rest-is = sym (sought-rest ∙ rw e) }
+  pub final-found : bit (x / w) m ≡ true → true ≡ anyFinal b xs
+  final-found e = sym (sought-rest ∙ rw e)
+
+  pub sought-next : bit (x / w) m ≡ false → Sought b xs (i + 1)
+  sought-next e = record { turns = omega (arith, l .more); rest-is = sym (sought-rest ∙ rw e) }
