@@ -7,7 +7,8 @@ use Rattle.list_table.proofs.print_cells.Statement.{statement}
 use Rattle.list_table.proofs.print_cells.Tie as tie
 
 abbrev Inv-loop : tie.InvT-loop
-Inv-loop line₀ built cells at width next₀ symbol₀ line next symbol = (symbol ≤ built .symbols) × (width ≤ 2 ^ 34) × (length line ≡ length line₀)
+Inv-loop line₀ built cells at width next₀ symbol₀ line next symbol =
+    (symbol ≤ built .symbols) × (width ≤ 2 ^ 34) × (length line ≡ length line₀)
 
 abbrev μ-loop : tie.MeasureT-loop
 μ-loop line₀ built cells at width next₀ symbol₀ line next symbol = built .symbols - symbol
