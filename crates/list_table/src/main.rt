@@ -1,9 +1,12 @@
 // The listing program: a rule file from standard input, its table on standard output.
 use construct::build_table;
-use edges::wide32;
 use libc::STDOUT_FILENO;
 use model::Built;
+use numbers::part_of;
+use numbers::wide32;
 use reader::read_rule;
+use tables::row_length;
+use tables::row_start;
 use walk::verdict;
 
 // Where the next byte of a line goes, after `used` others. A full buffer is written and begun anew, so that a line of
@@ -75,30 +78,9 @@ fn print_refusal(line: &mut [u8], number: u8, place: usize) {
     print_line(line, at);
 }
 
-// The part of a table from a place on, as far as there is one.
-fn part_of(table: &[u32], start: usize, count: usize) -> &[u32] {
-    if table.len() <= start {
-        return &table[0..0];
-    }
-    if table.len() - start < count {
-        return &table[start..];
-    }
-    let end = start + count;
-    &table[start..end]
-}
-
-// The codes of a row.
-fn codes_of<'a>(rows: &[u32], pool: &'a [u32], row: u32) -> &'a [u32] {
-    let entry = part_of(rows, 2 * wide32(row), 2);
-    if entry.len() != 2 {
-        return &pool[0..0];
-    }
-    part_of(pool, wide32(entry[0]), wide32(entry[1]))
-}
-
 // A row: its number, its verdict, its codes.
 fn print_head(line: &mut [u8], built: Built, rows: &[u32], pool: &[u32], row: u32) {
-    let codes = codes_of(rows, pool, row);
+    let codes = part_of(pool, row_start(rows, row), row_length(rows, row));
     let mut at = put_number(line, 0, wide32(row));
     at = put(line, at, 32);
     at = put_number(line, at, verdict(built, rows, pool, row) as usize);
