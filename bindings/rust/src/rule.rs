@@ -103,6 +103,8 @@ impl Rule {
     }
 
     /// The accepting run that is least by start, then edge by edge, for at most 12 events: 30 to 33.
+    ///
+    /// It can take edges to the power of events. For rules of strangers there is [`Rule::accepts`].
     pub fn least_run(&self, word: &Word) -> Result<Option<Run>, Refusal> {
         let mut taken = [0; BRANCH_EVENTS];
         let (grain, symbols, stamps) = (word.grain(), word.symbols(), word.stamps());
