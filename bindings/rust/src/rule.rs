@@ -8,6 +8,9 @@ pub const EDGE_TABLE: usize = 7_424;
 /// The longest legal file, in bytes.
 pub const LONGEST_FILE: usize = 15_760;
 
+/// For how many configurations `Rule::accepts` first takes memory.
+const FIRST_ROOM: usize = 64;
+
 /// A rule that was read or checked: its head record and its edge table.
 #[derive(Clone, Debug, PartialEq, Eq)]
 pub struct Rule {
@@ -68,19 +71,62 @@ impl Rule {
     }
 
     /// Whether the rule accepts the word, with room for so many configurations at a time: 30 to 33, 26.
+    ///
+    /// Any room may be asked for: memory is taken as it turns out to be needed, twice as much each time.
+    /// Where there is no memory for more, the answer is the 26 of the room that there was.
     pub fn accepts(&self, word: &Word, configurations: usize) -> Result<bool, Refusal> {
-        let mut scratch = vec![0; configurations * 2 * (self.head.clocks as usize + 1)];
         let (grain, symbols, stamps) = (word.grain(), word.symbols(), word.stamps());
-        let answer = raw::run_exact(self.head, &self.edges, grain, symbols, stamps, &mut scratch);
-        Refusal::unless_none(answer.number, answer.place, answer.value == 1)
+        let mut scratch = Vec::new();
+        let mut room = configurations.min(FIRST_ROOM);
+        let mut lent = self.widen(&mut scratch, room);
+        loop {
+            let answer = raw::run_exact(self.head, &self.edges, grain, symbols, stamps, &mut scratch);
+            if answer.number != 26 || room == configurations || !lent {
+                return Refusal::unless_none(answer.number, answer.place, answer.value == 1);
+            }
+            room = room.saturating_mul(2).min(configurations);
+            lent = self.widen(&mut scratch, room);
+        }
+    }
+
+    /// Brings the scratch to the length of so many configurations; if there is no memory for that, leaves it.
+    fn widen(&self, scratch: &mut Vec<u32>, configurations: usize) -> bool {
+        let Some(length) = configurations.checked_mul(2 * (self.head.clocks as usize + 1)) else {
+            return false;
+        };
+        let more = length.saturating_sub(scratch.len());
+        if scratch.try_reserve_exact(more).is_err() {
+            return false;
+        }
+        scratch.resize(length, 0);
+        true
     }
 
     /// The accepting run that is least by start, then edge by edge, for at most 12 events: 30 to 33.
+    ///
+    /// It can take edges to the power of events. For rules of strangers there is [`Rule::accepts`].
     pub fn least_run(&self, word: &Word) -> Result<Option<Run>, Refusal> {
         let mut taken = [0; BRANCH_EVENTS];
         let (grain, symbols, stamps) = (word.grain(), word.symbols(), word.stamps());
         let answer = raw::run_branches(self.head, &self.edges, grain, symbols, stamps, &mut taken);
         Refusal::unless_none(answer.number, answer.place, ())?;
         Ok(answer.found.then(|| Run { start: answer.start, edges: taken[..word.len()].to_vec() }))
+    }
+}
+
+#[cfg(test)]
+mod tests {
+    use super::*;
+
+    #[test]
+    fn room_without_memory_leaves_the_scratch() {
+        let rule = Rule { head: Head { clocks: 4, ..Head::default() }, edges: Vec::new() };
+        let mut scratch = vec![7; 10];
+        for configurations in [usize::MAX, usize::MAX / 10, usize::MAX / 40, usize::MAX / 80] {
+            assert!(!rule.widen(&mut scratch, configurations));
+            assert_eq!(scratch, [7; 10]);
+        }
+        assert!(rule.widen(&mut scratch, 2));
+        assert_eq!(scratch.len(), 20);
     }
 }

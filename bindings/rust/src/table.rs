@@ -3,7 +3,8 @@
 use crate::raw::{self, Built, Head};
 use crate::{Follower, Refusal, Word, EDGE_TABLE};
 
-/// How many numbers a builder is lent.
+/// How many numbers a builder is lent. They are allocated as asked; without memory for them the program
+/// ends, as with every `Vec`.
 #[derive(Clone, Copy, Debug, PartialEq, Eq)]
 pub struct Room {
     /// For the scratch: N, at most 65,536.

@@ -90,6 +90,26 @@ fn the_caller_26_and_34() {
     assert_eq!(event(raw::Follower { grain: 1001, ..record }), refused(30, 0));
 }
 
+/// 32 locations, all initial and final; an event stays, and at age 1 may also reset the clock. Two events
+/// on whole seconds leave ages 0, 1 and 2 in each location: 96 configurations.
+fn spreading() -> Rule {
+    let locations = |kind| (0..32).flat_map(move |l| record(kind, &[l])).collect();
+    let edges = (0..32).flat_map(|l| [record(5, &[l, l, 0, 0]), record(5, &[l, l, 0, 1, 0, 2, 1])].concat());
+    read(&[record(1, &[32, 1, 1]), locations(2), locations(3), edges.collect()]).unwrap()
+}
+
+#[test]
+fn any_room_may_be_asked_for() {
+    let (rule, word) = (spreading(), word(1, &[(0, 1), (0, 2)]));
+    assert_eq!(rule.accepts(&word, 31), refused(26, 0));
+    assert_eq!(rule.accepts(&word, 63), refused(26, 1));
+    assert_eq!(rule.accepts(&word, 95), refused(26, 2));
+    for room in [96, 97, 1000, usize::MAX / 8, usize::MAX / 4, usize::MAX / 4 + 1, usize::MAX] {
+        assert_eq!(rule.accepts(&word, room), Ok(true), "{room}");
+    }
+    assert_eq!(worked_rule().accepts(&Word::new(1), usize::MAX), Ok(true));
+}
+
 #[test]
 fn the_sender_30_to_33() {
     let (rule, table) = (worked_rule(), worked_table());

@@ -1,90 +1,114 @@
 // The listing program: a rule file from standard input, its table on standard output.
-ghost use Prim.Native.Nat.{_-_, _≤_};
-ghost use lib.ListN.{length};
 use construct::build_table;
-use edges::wide32;
 use libc::STDOUT_FILENO;
 use model::Built;
+use numbers::part_of;
+use numbers::wide32;
 use reader::read_rule;
+use tables::row_length;
+use tables::row_start;
 use walk::verdict;
 
-fn print_number(n: usize) {
-    io::print_decimal(STDOUT_FILENO, n as u64);
+// Where the next byte of a line goes, after `used` others. A full buffer is written and begun anew, so that a line of
+// any length comes out whole.
+fn place_in(line: &[u8], used: usize) -> usize {
+    if used < line.len() {
+        return used;
+    }
+    io::write_all(STDOUT_FILENO, line);
+    0
 }
 
-fn print_blank() {
-    io::write_all(STDOUT_FILENO, b" ");
+fn put(line: &mut [u8], used: usize, byte: u8) -> usize {
+    let at = place_in(line, used);
+    if line.len() <= at {
+        return 0;
+    }
+    line[at] = byte;
+    at + 1
 }
 
-fn end_line() {
-    io::write_all(STDOUT_FILENO, b"\n");
+fn put_text(line: &mut [u8], used: usize, text: &[u8]) -> usize {
+    let mut at = used;
+    let mut i: usize = 0;
+    while i < text.len() {
+        at = put(line, at, text[i]);
+        i += 1;
+    }
+    at
 }
 
-fn print_refusal(number: u8, place: usize) {
-    io::write_all(STDOUT_FILENO, b"no ");
-    print_number(number as usize);
-    print_blank();
-    print_number(place);
-    end_line();
+fn put_number(line: &mut [u8], used: usize, n: usize) -> usize {
+    let mut text = [0u8; 20];
+    let count = io::decimal(n as u64, &mut text);
+    put_text(line, used, &text[..count])
 }
 
 // The numbers of a part of a table, each after a blank.
-fn print_after_blanks(part: &[u32]) {
+fn put_after_blanks(line: &mut [u8], used: usize, part: &[u32]) -> usize {
+    let mut at = used;
     let mut i: usize = 0;
     while i < part.len() {
-        print_blank();
-        print_number(wide32(part[i]));
+        at = put(line, at, 32);
+        at = put_number(line, at, wide32(part[i]));
         i += 1;
     }
+    at
 }
 
-// A line of cells.
-fn print_line(part: &[u32]) {
-    if 0 < part.len() {
-        print_number(wide32(part[0]));
-        print_after_blanks(&part[1..]);
+// The first bytes of a line, as far as there are so many.
+fn front(line: &[u8], count: usize) -> &[u8] {
+    if line.len() <= count {
+        return line;
     }
-    end_line();
+    &line[0..count]
 }
 
-// The part of a table from a place on, as far as there is one.
-fn part_of(table: &[u32], start: usize, count: usize) -> &[u32]
-    ensures { λ r. ⌜ length (now r) ≤ length (now (table .entry)) - start ⌝ }
-{
-    if table.len() <= start {
-        return &table[0..0];
-    }
-    if table.len() - start < count {
-        return &table[start..];
-    }
-    let end = start + count;
-    &table[start..end]
+// Ends the line and writes it.
+fn print_line(line: &mut [u8], used: usize) {
+    let end = put(line, used, 10);
+    io::write_all(STDOUT_FILENO, front(line, end));
+}
+
+fn print_refusal(line: &mut [u8], number: u8, place: usize) {
+    let mut at = put_text(line, 0, b"no ");
+    at = put_number(line, at, number as usize);
+    at = put(line, at, 32);
+    at = put_number(line, at, place);
+    print_line(line, at);
 }
 
 // A row: its number, its verdict, its codes.
-fn print_head(built: Built, rows: &[u32], pool: &[u32], row: u32) {
-    let entry = part_of(rows, 2 * wide32(row), 2);
-    print_number(wide32(row));
-    print_blank();
-    print_number(verdict(built, rows, pool, row) as usize);
-    if entry.len() == 2 {
-        let codes = part_of(pool, wide32(entry[0]), wide32(entry[1]));
-        print_blank();
-        print_number(codes.len());
-        print_after_blanks(codes);
+fn print_head(line: &mut [u8], built: Built, rows: &[u32], pool: &[u32], row: u32) {
+    let codes = part_of(pool, row_start(rows, row), row_length(rows, row));
+    let mut at = put_number(line, 0, wide32(row));
+    at = put(line, at, 32);
+    at = put_number(line, at, verdict(built, rows, pool, row) as usize);
+    at = put(line, at, 32);
+    at = put_number(line, at, codes.len());
+    at = put_after_blanks(line, at, codes);
+    print_line(line, at);
+}
+
+// A line of cells.
+fn print_part(line: &mut [u8], part: &[u32]) {
+    if part.len() == 0 {
+        print_line(line, 0);
+        return;
     }
-    end_line();
+    let at = put_number(line, 0, wide32(part[0]));
+    let end = put_after_blanks(line, at, &part[1..]);
+    print_line(line, end);
 }
 
 // A line of cells for each symbol, from a place on; the next row's cells start at the answer.
-fn print_cells(built: Built, cells: &[u32], at: usize) -> usize {
+fn print_cells(line: &mut [u8], built: Built, cells: &[u32], at: usize) -> usize {
     let width = 2 * wide32(built.top) + 2;
     let mut next = at;
     let mut symbol: u32 = 0;
     while symbol < built.symbols {
-        let line = part_of(cells, next, width);
-        print_line(line);
-        if line.len() == width {
+        print_part(line, part_of(cells, next, width));
+        if next < cells.len() {
             next = next + width;
         }
         symbol += 1;
@@ -92,31 +116,37 @@ fn print_cells(built: Built, cells: &[u32], at: usize) -> usize {
     next
 }
 
-fn print_table(built: Built, cells: &[u32], rows: &[u32], pool: &[u32]) {
-    print_number(wide32(built.rows));
-    print_blank();
-    print_number(wide32(built.total));
-    print_blank();
-    print_number(wide32(built.symbols));
-    print_blank();
-    print_number(2 * wide32(built.top) + 2);
-    end_line();
+// R, P, S and W.
+fn print_sizes(line: &mut [u8], built: Built) {
+    let mut at = put_number(line, 0, wide32(built.rows));
+    at = put(line, at, 32);
+    at = put_number(line, at, wide32(built.total));
+    at = put(line, at, 32);
+    at = put_number(line, at, wide32(built.symbols));
+    at = put(line, at, 32);
+    at = put_number(line, at, 2 * wide32(built.top) + 2);
+    print_line(line, at);
+}
+
+fn print_table(line: &mut [u8], built: Built, cells: &[u32], rows: &[u32], pool: &[u32]) {
+    print_sizes(line, built);
     let mut at: usize = 0;
     let mut row: u32 = 0;
     while row < built.rows {
-        print_head(built, rows, pool, row);
-        at = print_cells(built, cells, at);
+        print_head(line, built, rows, pool, row);
+        at = print_cells(line, built, cells, at);
         row += 1;
     }
 }
 
 fn main() {
+    let mut line = [0u8; 4096];
     let mut file = [0u8; 16384];
     let size = io::read_full(0, &mut file);
     let mut edges = [0u16; 7424];
     let reading = read_rule(&file[..size], &mut edges);
     if reading.number != 0 {
-        print_refusal(reading.number, reading.place);
+        print_refusal(&mut line, reading.number, reading.place);
         return;
     }
     let mut scratch = [0u32; 16384];
@@ -126,9 +156,9 @@ fn main() {
     let head = reading.head;
     let building = build_table(head, &edges, &mut scratch, &mut cells, &mut rows, &mut pool);
     if building.number != 0 {
-        print_refusal(building.number, building.place);
+        print_refusal(&mut line, building.number, building.place);
         return;
     }
     let built = building.built;
-    print_table(built, &cells, &rows, &pool);
+    print_table(&mut line, built, &cells, &rows, &pool);
 }
