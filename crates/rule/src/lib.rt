@@ -12,10 +12,10 @@ ghost use Rattle.rule.specs.Checks.{allZero, headGood, fieldsGood, edgeG
 use edges::mask_ok;
 use edges::pairs_of;
 use edges::sizes_ok;
-use edges::wide16;
-use edges::wide32;
 use model::Answer;
 use model::Head;
+use numbers::wide16;
+use numbers::wide32;
 
 // Refusal 20 or 21, or none.
 pub fn check_rule(head: Head, edges: &[u16]) -> Answer

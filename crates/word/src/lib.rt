@@ -4,10 +4,10 @@ ghost use lib.ListN.{length};
 ghost use Rattle.model.specs.Words.{grainOk};
 ghost use Rattle.model.specs.Promises.{ChecksWord};
 ghost use Rattle.word.specs.Answers.{eventsAnswer, StopsAt};
-use edges::wide16;
-use edges::wide32;
 use model::Answer;
 use model::Stamp;
+use numbers::wide16;
+use numbers::wide32;
 
 // Is D from 1 to 1,000?
 pub fn grain_ok(grain: u32) -> bool
