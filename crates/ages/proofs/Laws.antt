@@ -82,7 +82,9 @@ pub past-clocks : (k clock : ℕ) (ages : Ages) → k ≤ clock → 0 ≡ getD (
 past-clocks k clock ages h =
     sym (List·getD-eq-default (agesOf k ages) 0 (rw (length-take k (numbersOf (ages .of))) (omega arith)))
 
-pub past-four : (k clock : ℕ) (ages : Ages) → length (ages .of) ≡ mostClocks → mostClocks ≤ clock → 0 ≡ getD (agesOf k ages) clock 0
+pub past-four :
+    (k clock : ℕ) (ages : Ages) → length (ages .of) ≡ mostClocks → mostClocks ≤ clock
+    → 0 ≡ getD (agesOf k ages) clock 0
 past-four k clock ages n h =
     sym
     (List·getD-eq-default (agesOf k ages) 0
@@ -96,7 +98,8 @@ pub location-past : (mask w l : ℕ) → mostLocations ≤ w → w ≡ l → fal
 location-past mask w l h e = sym (bits-high mostLocations 0 mask l (omega arith))
 
 pub location-bit :
-    (mask set w l : ℕ) (r : Bool) → w < mostLocations → mask ≡ set → w ≡ l → r ≡ bit w mask → r ≡ isIn l (locationsIn set)
+    (mask set w l : ℕ) (r : Bool) → w < mostLocations → mask ≡ set → w ≡ l → r ≡ bit w mask
+    → r ≡ isIn l (locationsIn set)
 location-bit mask set w l r h e f b = b ∙ rw (e, f) (sym (bits-in mostLocations 0 set l (omega arith) (omega arith)))
 
 -- constant · D fits
@@ -194,7 +197,8 @@ pub symbol-decides :
     → eqb m m′ ≡ leavesOn l symbol e
 symbol-decides l symbol e n n′ m m′ a b c f g = rw (eq-eqb (e .source) l (sym a ∙ (c ∙ b)), f, g)
 
-module _ (d k symbol : ℕ) (from : Configuration) (e : Edge) (r : Bool) (t : r ≡ leavesOn (from .location) symbol e) where
+module _ (d k symbol : ℕ) (from : Configuration) (e : Edge) (r : Bool)
+    (t : r ≡ leavesOn (from .location) symbol e) where
   pub not-leaving : r ≡ false → r ≡ takes d k symbol from e
   not-leaving f = f ∙ rw (sym t ∙ f)
 

@@ -49,5 +49,6 @@ pub moved-ages :
     → agesOf k (to .ages) ≡ zeroed (e .resets) (agesOf k (from .ages))
 moved-ages k {e} {from} {to} m = ap (take k) (m .ages-are) ∙ take-zeroed k 0 (e .resets) (numbersOf (from .ages .of))
 
-pub start-ages : (k : ℕ) (ages : Ages) → numbersOf (ages .of) ≡ zeros mostClocks → k ≤ mostClocks → agesOf k ages ≡ zeros k
+pub start-ages :
+    (k : ℕ) (ages : Ages) → numbersOf (ages .of) ≡ zeros mostClocks → k ≤ mostClocks → agesOf k ages ≡ zeros k
 start-ages k ages e h = ap (take k) e ∙ take-zeros k mostClocks h

@@ -69,10 +69,12 @@ take-numbers (suc k) zero at s h = absurd (omega arith)
 take-numbers (suc k) (suc n) at s h = ap (λ (l : List ℕ). getD s at 0 ∷ l) (take-numbers k n (suc at) s (omega arith))
 
 -- what was read at a place is the configuration there
-pub loaded-is : (k at : ℕ) (s : List ℕ) (c : Configuration) → Loaded at s c → k ≤ mostClocks → configOf k c ≡ configAt k at s
+pub loaded-is :
+    (k at : ℕ) (s : List ℕ) (c : Configuration) → Loaded at s c → k ≤ mostClocks → configOf k c ≡ configAt k at s
 loaded-is k at s c l h =
     ap₂ config (l .location-is)
-    (ap (take k) (l .ages-are) ∙ (take-numbers k mostClocks (at + 1) s h ∙ ap (λ (p : ℕ). numbersAt k p s) (add-one at)))
+    (ap (take k) (l .ages-are)
+    ∙ (take-numbers k mostClocks (at + 1) s h ∙ ap (λ (p : ℕ). numbersAt k p s) (add-one at)))
 
 -- A run of stores: what lies before it is as it was, and it stands where it was stored.
 sets-before :

@@ -63,7 +63,8 @@ module _ (k mask room : ℕ) where
           rest-is = rw (left, bits-skip (mostLocations - (l + 1)) l mask unset, ← add-one l) at (inv .rest-is);
         }
 
-    module _ (yes : r ≡ true) (c : Configuration) (at : c .location ≡ l) (z : numbersOf (c .ages .of) ≡ zeros mostClocks) where
+    module _ (yes : r ≡ true) (c : Configuration) (at : c .location ≡ l)
+        (z : numbersOf (c .ages .of) ≡ zeros mostClocks) where
       config-is : configOf k c ≡ config l (zeros k)
       config-is = ap₂ config at (start-ages k (c .ages) z (inv .roomy .clocks-most))
 

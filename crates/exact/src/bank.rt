@@ -24,7 +24,7 @@ pub enum Added {
     Full,
 }
 
-// The configuration at a place. As many ages are read as a rule may have clocks; those past the rule's clocks are not looked at.
+// The configuration at a place. All four ages are read; those past the rule's clocks are not looked at.
 pub(crate) fn load(bank: &[u32], at: usize) -> Configuration
     requires { ⌜ at ≤ length (now bank) ⌝ }
     ensures { λ r. ⌜ Loaded at (now (bank .entry)) r ⌝ }

@@ -28,7 +28,8 @@ returns : tie.Need-returns Inv-loop μ-loop
 returns c =
     let second = c .before .before .before in
     let first = second .before in
-    same-differs (first .before .before .loop .inv) _ _ (first .age-of .ensures) (second .age-of2 .ensures) (c .if1 .taken)
+    same-differs (first .before .before .loop .inv) _ _ (first .age-of .ensures) (second .age-of2 .ensures)
+    (c .if1 .taken)
 
 add-k : tie.Need-add-k Inv-loop μ-loop
 add-k c = search needs
@@ -40,7 +41,8 @@ loop-again : tie.Need-loop-again Inv-loop μ-loop
 loop-again c =
     let second = c .before .before .before in
     let first = second .before in
-    same-next (first .before .before .loop .inv) _ _ (first .age-of .ensures) (second .age-of2 .ensures) (c .if1 .left)
+    same-next (first .before .before .loop .inv) _ _ (first .age-of .ensures) (second .age-of2 .ensures)
+    (c .if1 .left)
 
 returns-2 : tie.Need-returns-2 Inv-loop μ-loop
 returns-2 c =

@@ -2,7 +2,7 @@
 use Rattle.exact.proofs.Spreading.{clocks-known, roomy-known}
 use Rattle.exact.specs.declared.bank.Added.the-variants.{Count, Full}
 use mathlib.Core.Logic.{⊎-elim}
-use Prim.Native.Nat.{_-_, _≤_}
+use Prim.Native.Nat.{_-_}
 use lib.ListN.{length}
 use Rattle.exact.specs.Banks.{configsAt}
 use Rattle.exact.specs.Ready.{byEdgesOf}
