@@ -2,28 +2,26 @@
 use mathlib.Core.Path.{_≡_, refl, sym, _∙_, ap}
 use mathlib.Core.Bool.{Bool, true, false, _&&_, not}
 use mathlib.Core.List.{List, [], _∷_, map}
-use Prim.Native.Nat.{ℕ, zero, suc, _+_, _-_, _*_, _/_, _^_, _≤_, _<_}
+use Prim.Native.Nat.{ℕ, zero, suc, _+_, _-_, _*_, _^_, _≤_, _<_}
 use native.Mathlib.Omega.{arith}
-use native.Mathlib.Nat.{mul-le-mul, div-eq-of-lt, lt-of-lt-of-le}
+use native.Mathlib.Nat.{add-assoc, mul-le-mul}
 use lib.Dec.{eqb, ltb, leb}
 use lib.ListN.{length, getD, drop, List·getD-eq-default, drop-of-length-le, length-take}
-use lib.Pow.{pow-mono}
 use lib.Seq.{drop-nil, getD-drop, getD-take}
 use mir.Syntax.{w64}
 use mir.Val.{Fits}
 use borrow.Author.Tests.{le-leb, lt-leb, eq-eqb, ne-eqb, not-true, not-false}
 use Rattle.model.specs.declared.Age.{Age}
 use Rattle.model.specs.Basics.{same, pick, lesser, bit, isIn}
-use Rattle.model.specs.Rules.{Edge}
+use Rattle.model.specs.Rules.{Edge, mostLocations, mostClocks}
 use Rattle.model.specs.Runs.{Config, related, holds, zeroed}
-use Rattle.model.specs.Layout.{edgeFields, edgeWidth, atomsIn, locationsIn}
-use Rattle.model.proofs.EdgeTable.{atoms-rest}
+use Rattle.model.specs.Layout.{edgeFields, atomWidth, edgeWidth, atomsIn, edgeAt, locationsIn}
+use Rattle.model.proofs.EdgeTable.{atoms-length, atoms-rest}
 use Rattle.model.proofs.Ages.{bits-in, bits-high}
 use Rattle.ages.specs.declared.Ages.{Ages}
 use Rattle.ages.specs.declared.Configuration.{Configuration}
-use Rattle.ages.specs.Ages.{sameConfig, numbersOf, agesOf, mostAge, olderCapped, atomHolds, atomAt, edgeAt}
+use Rattle.ages.specs.Ages.{sameConfig, numbersOf, agesOf, mostAge, olderCapped, atomHolds, atomAt, takes}
 use Rattle.edges.specs.Leaving.{leavesOn}
-use Rattle.ages.specs.Ages.{takes}
 
 -- owning an array of ages tells the length of the list of what they hold, and so of the list
 pub length-mapped : (X Y : Type 0) (f : X → Y) (xs : List X) (n : ℕ) → length (map f xs) ≡ n → length xs ≡ n
@@ -43,7 +41,7 @@ noAge = record { 0 = 0 }
 
 -- four ages, each after the delay
 pub older-four :
-    (delay a b c d : ℕ) (xs : List Age) → length xs ≡ 4
+    (delay a b c d : ℕ) (xs : List Age) → length xs ≡ mostClocks
     → a ≡ lesser (getD xs 0 noAge .0 + delay) mostAge
     → b ≡ lesser (getD xs 1 noAge .0 + delay) mostAge
     → c ≡ lesser (getD xs 2 noAge .0 + delay) mostAge
@@ -58,7 +56,7 @@ older-four delay a b c d (p ∷ q ∷ s ∷ t ∷ u ∷ xs) n e f g h = absurd (
 
 -- four ages, each after a reset
 pub zeroed-four :
-    (mask a b c d : ℕ) (xs : List Age) → length xs ≡ 4 → a ≡ pick (bit 0 mask) 0 (getD xs 0 noAge .0)
+    (mask a b c d : ℕ) (xs : List Age) → length xs ≡ mostClocks → a ≡ pick (bit 0 mask) 0 (getD xs 0 noAge .0)
     → b ≡ pick (bit 1 mask) 0 (getD xs 1 noAge .0)
     → c ≡ pick (bit 2 mask) 0 (getD xs 2 noAge .0)
     → d ≡ pick (bit 3 mask) 0 (getD xs 3 noAge .0)
@@ -84,7 +82,9 @@ pub past-clocks : (k clock : ℕ) (ages : Ages) → k ≤ clock → 0 ≡ getD (
 past-clocks k clock ages h =
     sym (List·getD-eq-default (agesOf k ages) 0 (rw (length-take k (numbersOf (ages .of))) (omega arith)))
 
-pub past-four : (k clock : ℕ) (ages : Ages) → length (ages .of) ≡ 4 → 4 ≤ clock → 0 ≡ getD (agesOf k ages) clock 0
+pub past-four :
+    (k clock : ℕ) (ages : Ages) → length (ages .of) ≡ mostClocks → mostClocks ≤ clock
+    → 0 ≡ getD (agesOf k ages) clock 0
 past-four k clock ages n h =
     sym
     (List·getD-eq-default (agesOf k ages) 0
@@ -93,23 +93,19 @@ past-four k clock ages n h =
 pub in-clocks : (k clock : ℕ) (ages : Ages) → clock < k → getD (ages .of) clock noAge .0 ≡ getD (agesOf k ages) clock 0
 in-clocks k clock ages h = sym (getD-take k (numbersOf (ages .of)) clock 0 h ∙ numbers-at (ages .of) clock)
 
--- a bit past the width is not set
-pub bit-past : (width i mask : ℕ) → mask < 2 ^ width → width ≤ i → false ≡ bit i mask
-bit-past width i mask h g =
-    let z : mask / 2 ^ i ≡ 0 = div-eq-of-lt (lt-of-lt-of-le h (pow-mono g)) in
-    rw z
-
-pub location-past : (mask l : ℕ) → 32 ≤ l → false ≡ isIn l (locationsIn mask)
-location-past mask l h = sym (bits-high 32 0 mask l h)
+-- the locations of a set are its bits, as far as a rule may have locations
+pub location-past : (mask w l : ℕ) → mostLocations ≤ w → w ≡ l → false ≡ isIn l (locationsIn mask)
+location-past mask w l h e = sym (bits-high mostLocations 0 mask l (omega arith))
 
 pub location-bit :
-    (mask set w l : ℕ) (r : Bool) → l < 32 → mask ≡ set → w ≡ l → r ≡ bit w mask → r ≡ isIn l (locationsIn set)
-location-bit mask set w l r h e f b = b ∙ rw (e, f) (sym (bits-in 32 0 set l (omega arith) h))
+    (mask set w l : ℕ) (r : Bool) → w < mostLocations → mask ≡ set → w ≡ l → r ≡ bit w mask
+    → r ≡ isIn l (locationsIn set)
+location-bit mask set w l r h e f b = b ∙ rw (e, f) (sym (bits-in mostLocations 0 set l (omega arith) (omega arith)))
 
 -- constant · D fits
-pub limit-fits : (constant d : ℕ) → constant < 65536 → d < 2 ^ 32 → Fits w64 (constant * d)
+pub limit-fits : (constant d : ℕ) → constant < 2 ^ 16 → d < 2 ^ 32 → Fits w64 (constant * d)
 limit-fits constant d h g = record {
-  fits = omega (arith, mul-le-mul {n₁ = constant} {m₁ = d} {n₂ = 65536} {m₂ = 2 ^ 32} (omega arith) (omega arith));
+  fits = omega (arith, mul-le-mul {n₁ = constant} {m₁ = d} {n₂ = 2 ^ 16} {m₂ = 2 ^ 32} (omega arith) (omega arith));
 }
 
 -- the relation by its code
@@ -134,75 +130,62 @@ module _ (relation age limit w : ℕ) (known : w ≡ age) where
         is-greater n3 =
             rw (known, ne-eqb relation 0 n0, ne-eqb relation 1 n1, ne-eqb relation 2 n2, ne-eqb relation 3 n3)
 
--- the numbers of edge e, read at places of the table
-pub edge-number :
-    (t : List ℕ) (w e i n : ℕ) → w ≡ e → n ≡ getD t (29 * w + i) 0 → n ≡ getD (drop (edgeWidth * e) t) i 0
-edge-number t w e i n h g = g ∙ rw h (sym (getD-drop (edgeWidth * e) t i 0))
+-- the atoms of edge e, one after the other
+abbrev pub atomsOf : ℕ → List ℕ → List ℕ
+atomsOf e t = drop edgeFields (drop (edgeWidth * e) t)
 
-pub edge-source : (t : List ℕ) (w e n : ℕ) → w ≡ e → n ≡ getD t (29 * w) 0 → n ≡ edgeAt e t .source
-edge-source t w e n h g = let z : 29 * w ≡ 29 * w + 0 = omega arith in edge-number t w e 0 n h (rw z at g)
+-- an atom there, by its place in the table
+atom-place : (t : List ℕ) (e at k : ℕ) → at ≡ edgeWidth * e + edgeFields → atomAt (at + k) t ≡ atomAt k (atomsOf e t)
+atom-place t e at k is =
+    let whole : (n : ℕ) → getD t (at + n) 0 ≡ getD (atomsOf e t) n 0 =
+    λ n. let q : at + n ≡ edgeWidth * e + (edgeFields + n) = omega arith in
+    rw q (sym (getD-drop edgeFields (drop (edgeWidth * e) t) n 0 ∙ getD-drop (edgeWidth * e) t (edgeFields + n) 0)) in
+    rw (add-assoc at k 1, add-assoc at k 2, whole k, whole (k + 1), whole (k + 2))
 
-atom-number :
-    (t : List ℕ) (e j i : ℕ)
-    → getD t (29 * e + 3 * j + 5 + i) 0 ≡ getD (drop edgeFields (drop (edgeWidth * e) t)) (3 * j + i) 0
-atom-number t e j i =
-    let a : 29 * e + 3 * j + 5 + i ≡ 29 * e + (5 + (3 * j + i)) = omega arith in
-    rw a
-    (sym
-    (getD-drop edgeFields (drop (edgeWidth * e) t) (3 * j + i) 0 ∙ getD-drop (edgeWidth * e) t (5 + (3 * j + i)) 0))
-
--- The atoms still to come hold exactly if all do: those before held. The edge's numbers stand from `at` on.
+-- The atoms still to come hold exactly if all do: those before held. The edge's atoms stand from `at` on.
 pub record Holding (d : ℕ) (ages : List ℕ) (e at count j : ℕ) (t : List ℕ) : Type 0 where
-  pub place-is : at ≡ 29 * e
+  pub place-is : at ≡ edgeWidth * e + edgeFields
   pub turns : j ≤ count
   pub rest-is :
-      holds d ages (atomsIn (count - j) (drop (3 * j) (drop edgeFields (drop (edgeWidth * e) t))))
-      ≡ holds d ages (atomsIn count (drop edgeFields (drop (edgeWidth * e) t)))
+      holds d ages (atomsIn (count - j) (drop (atomWidth * j) (atomsOf e t))) ≡ holds d ages (edgeAt e t .atoms)
 
-pub holding-start : (d : ℕ) (ages : List ℕ) (e at count : ℕ) (t : List ℕ) → at ≡ 29 * e → Holding d ages e at count 0 t
-holding-start d ages e at count t h =
-    let z : count - 0 ≡ count = omega arith in record { place-is = h; turns = omega arith; rest-is = rw z }
-
-module _ {d : ℕ} {ages : List ℕ} {e at count j : ℕ} {t : List ℕ} (inv : Holding d ages e at count j t) (h : j < count)
-  where
-    -- the next atom, then the others
-    holding-step :
-        (atomHolds d ages (atomAt (at + 3 * j + 5) t)
-        && holds d ages (atomsIn (count - (j + 1)) (drop (3 * (j + 1)) (drop edgeFields (drop (edgeWidth * e) t)))))
-        ≡ holds d ages (atomsIn count (drop edgeFields (drop (edgeWidth * e) t)))
-    holding-step =
-        let u : List ℕ = drop edgeFields (drop (edgeWidth * e) t) in
-        let z : getD t (29 * e + 3 * j + 5) 0 ≡ getD u (3 * j) 0 =
-        (let p : 29 * e + 3 * j + 5 + 0 ≡ 29 * e + 3 * j + 5 = omega arith in
-        let q : 3 * j + 0 ≡ 3 * j = omega arith in
-        rw (p, q) at (atom-number t e j 0)) in
-        rw (inv .place-is, z, atom-number t e j 1, atom-number t e j 2)
-        (sym (ap (holds d ages) (atoms-rest count j u h)) ∙ inv .rest-is)
-
-    pub holding-next :
-        (r : Bool) → r ≡ atomHolds d ages (atomAt (at + 3 * j + 5) t) → not r ≡ false → Holding d ages e at count
-        (j + 1) t
-    holding-next r a b = record {
-      place-is = inv .place-is;
+pub holding-start :
+    (d : ℕ) (ages : List ℕ) (e at count : ℕ) (t : List ℕ) → at ≡ edgeWidth * e + edgeFields
+    → count ≡ length (edgeAt e t .atoms)
+    → Holding d ages e at count 0 t
+holding-start d ages e at count t h c =
+    let z : count - 0 ≡ count = omega arith in
+    record {
+      place-is = h;
       turns = omega arith;
-      rest-is = rw (sym a ∙ not-false r b) at holding-step;
+      rest-is = rw (z, c ∙ atoms-length (getD (drop (edgeWidth * e) t) 4 0) (atomsOf e t));
     }
 
-    pub holding-fails :
-        (r : Bool) → r ≡ atomHolds d ages (atomAt (at + 3 * j + 5) t) → not r ≡ true
-        → false ≡ holds d ages (atomsIn count (drop edgeFields (drop (edgeWidth * e) t)))
-    holding-fails r a b = rw (sym a ∙ not-true r b) at holding-step
+module _ {d : ℕ} {ages : List ℕ} {e at count j : ℕ} {t : List ℕ} (inv : Holding d ages e at count j t) (h : j < count)
+    (r : Bool) (test : r ≡ atomHolds d ages (atomAt (at + atomWidth * j) t)) where
+  -- the next atom, then the others
+  holding-step :
+      (r && holds d ages (atomsIn (count - (j + 1)) (drop (atomWidth * (j + 1)) (atomsOf e t))))
+      ≡ holds d ages (edgeAt e t .atoms)
+  holding-step =
+      let next : r ≡ atomHolds d ages (atomAt (atomWidth * j) (atomsOf e t)) =
+      test ∙ ap (atomHolds d ages) (atom-place t e at (atomWidth * j) (inv .place-is)) in
+      rw next (sym (ap (holds d ages) (atoms-rest count j (atomsOf e t) h)) ∙ inv .rest-is)
+
+  pub holding-next : not r ≡ false → Holding d ages e at count (j + 1) t
+  holding-next b = record {
+    place-is = inv .place-is;
+    turns = omega arith;
+    rest-is = rw (not-false r b) at holding-step;
+  }
+
+  pub holding-fails : not r ≡ true → false ≡ holds d ages (edgeAt e t .atoms)
+  holding-fails b = rw (not-true r b) at holding-step
 
 pub holding-end :
     {d : ℕ} {ages : List ℕ} {e at count j : ℕ} {t : List ℕ} → Holding d ages e at count j t → count ≤ j
-    → true ≡ holds d ages (atomsIn count (drop edgeFields (drop (edgeWidth * e) t)))
+    → true ≡ holds d ages (edgeAt e t .atoms)
 holding-end {count = count} {j = j} inv h = let z : count - j ≡ 0 = omega arith in rw z at (inv .rest-is)
-
--- the atom count that was read is the edge's
-pub count-known :
-    (d : ℕ) (ages t : List ℕ) (e count : ℕ) → count ≡ getD (drop (edgeWidth * e) t) 4 0
-    → holds d ages (atomsIn count (drop edgeFields (drop (edgeWidth * e) t))) ≡ holds d ages (edgeAt e t .atoms)
-count-known d ages t e count h = rw h
 
 -- source, symbol and guard, tested in this order
 pub other-source :
@@ -214,7 +197,8 @@ pub symbol-decides :
     → eqb m m′ ≡ leavesOn l symbol e
 symbol-decides l symbol e n n′ m m′ a b c f g = rw (eq-eqb (e .source) l (sym a ∙ (c ∙ b)), f, g)
 
-module _ (d k symbol : ℕ) (from : Configuration) (e : Edge) (r : Bool) (t : r ≡ leavesOn (from .location) symbol e) where
+module _ (d k symbol : ℕ) (from : Configuration) (e : Edge) (r : Bool)
+    (t : r ≡ leavesOn (from .location) symbol e) where
   pub not-leaving : r ≡ false → r ≡ takes d k symbol from e
   not-leaving f = f ∙ rw (sym t ∙ f)
 
@@ -239,7 +223,7 @@ pub record SameRest (xs ys : List ℕ) (k : ℕ) : Type 0 where
   pub rest-is : same (drop k xs) (drop k ys) ≡ same xs ys
 
 pub same-start :
-    (k : ℕ) (one other : Ages) → length (one .of) ≡ 4 → length (other .of) ≡ 4
+    (k : ℕ) (one other : Ages) → length (one .of) ≡ mostClocks → length (other .of) ≡ mostClocks
     → SameRest (agesOf k one) (agesOf k other) 0
 same-start k one other a b =
     let e : length (numbersOf (one .of)) ≡ length (numbersOf (other .of)) =

@@ -6,7 +6,7 @@ use Prim.Native.Nat.{ℕ, zero, suc, _+_, _-_, _^_, _≤_, _<_}
 use native.Mathlib.Omega.{arith}
 use lib.ListN.{take}
 use Rattle.model.specs.Basics.{lesser, zeros}
-use Rattle.model.specs.Rules.{Edge}
+use Rattle.model.specs.Rules.{Edge, mostClocks}
 use Rattle.model.specs.Runs.{older, zeroed}
 use Rattle.model.proofs.Ages.{AtMost, take-zeroed, take-zeros}
 use Rattle.ages.specs.declared.Ages.{Ages}
@@ -49,5 +49,6 @@ pub moved-ages :
     → agesOf k (to .ages) ≡ zeroed (e .resets) (agesOf k (from .ages))
 moved-ages k {e} {from} {to} m = ap (take k) (m .ages-are) ∙ take-zeroed k 0 (e .resets) (numbersOf (from .ages .of))
 
-pub start-ages : (k : ℕ) (ages : Ages) → numbersOf (ages .of) ≡ zeros 4 → k ≤ 4 → agesOf k ages ≡ zeros k
-start-ages k ages e h = ap (take k) e ∙ take-zeros k 4 h
+pub start-ages :
+    (k : ℕ) (ages : Ages) → numbersOf (ages .of) ≡ zeros mostClocks → k ≤ mostClocks → agesOf k ages ≡ zeros k
+start-ages k ages e h = ap (take k) e ∙ take-zeros k mostClocks h

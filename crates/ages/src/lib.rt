@@ -1,22 +1,35 @@
 // The ages of the clocks by value, guards over them, and an edge of the table as a move between configurations.
 // Total: ages past the rule's clocks are not looked at, and a clock past them reads 0, as in the definitions.
 ghost use mathlib.Core.Path.{_≡_};
-ghost use Prim.Native.Nat.{_+_, _*_, _^_, _<_};
+ghost use Prim.Native.Nat.{_+_, _^_, _<_};
 ghost use lib.ListN.{getD};
 ghost use Rattle.model.specs.Basics.{pick, lesser, zeros, bit, isIn, same};
+ghost use Rattle.model.specs.Rules.{mostClocks};
 ghost use Rattle.model.specs.Runs.{related, holds, zeroed};
-ghost use Rattle.model.specs.Layout.{locationsIn};
+ghost use Rattle.model.specs.Layout.{locationsIn, edgeAt};
 ghost use Rattle.edges.specs.Leaving.{leavesOn};
 ghost use Rattle.ages.specs.Ages.{numbersOf, agesOf, mostAge, olderCapped, Waited, Moved};
-ghost use Rattle.ages.specs.Ages.{atomHolds, atomAt, edgeAt, takes, configOf, sameConfig};
-use edges::number_at;
-use edges::wide16;
-use edges::wide32;
+ghost use Rattle.ages.specs.Ages.{atomHolds, atomAt, takes, configOf, sameConfig};
+use edges::fields::atoms_place;
+use edges::fields::count_of;
+use edges::fields::resets_of;
+use edges::fields::source_of;
+use edges::fields::symbol_of;
+use edges::fields::target_of;
+use model::ATOM_CONSTANT;
+use model::ATOM_RELATION;
+use model::ATOM_WIDTH;
 use model::Age;
+use model::MOST_CLOCKS;
+use model::MOST_LOCATIONS;
+use numbers::has_bit;
+use numbers::number_at;
+use numbers::wide16;
+use numbers::wide32;
 
-// The ages of up to four clocks.
+// The ages of as many clocks as a rule may have.
 pub struct Ages {
-    pub of: [Age; 4],
+    pub of: [Age; MOST_CLOCKS],
 }
 
 // A location and the ages of the clocks.
@@ -27,14 +40,16 @@ pub struct Configuration {
 
 // All ages are 0 at time 0.
 pub fn no_ages() -> Ages
-    ensures { λ r. ⌜ numbersOf (r .of) ≡ zeros 4 ⌝ }
+    ensures { λ r. ⌜ numbersOf (r .of) ≡ zeros mostClocks ⌝ }
 {
-    Ages { of: [Age(0); 4] }
+    Ages {
+        of: [Age(0); MOST_CLOCKS],
+    }
 }
 
 // A location with all ages 0.
 pub fn start_at(location: u32) -> Configuration
-    ensures { λ r. ⌜ (r .location ≡ location) × (numbersOf (r .ages .of) ≡ zeros 4) ⌝ }
+    ensures { λ r. ⌜ (r .location ≡ location) × (numbersOf (r .ages .of) ≡ zeros mostClocks) ⌝ }
 {
     let ages = no_ages();
     Configuration { location, ages }
@@ -73,20 +88,10 @@ pub fn age_of(ages: Ages, clocks: usize, clock: usize) -> Age
     if clocks <= clock {
         return Age(0);
     }
-    if 4 <= clock {
+    if MOST_CLOCKS <= clock {
         return Age(0);
     }
     ages.of[clock]
-}
-
-// Is bit i set in a mask.
-pub fn has_bit(mask: usize, i: usize) -> bool
-    ensures { λ r. ⌜ r ≡ bit i mask ⌝ }
-{
-    if 64 <= i {
-        return false;
-    }
-    (mask >> i) % 2 == 1
 }
 
 // One age after a reset by the mask.
@@ -136,25 +141,25 @@ pub fn meets(relation: usize, age: Age, limit: usize) -> bool
 
 // The atom at a place of the edge table: its clock's age against constant · D.
 pub(crate) fn atom_holds(edges: &[u16], at: usize, clocks: usize, grain: u32, ages: Ages) -> bool
-    requires { ⌜ at < 2 ^ 32 ⌝ }
+    requires { ⌜ at < 2 ^ 41 ⌝ }
     ensures { λ r. ⌜ r ≡ atomHolds grain (agesOf clocks ages) (atomAt at (now (edges .entry))) ⌝ }
 {
     let clock = number_at(edges, at);
-    let relation = number_at(edges, at + 1);
-    let constant = number_at(edges, at + 2);
+    let relation = number_at(edges, at + ATOM_RELATION);
+    let constant = number_at(edges, at + ATOM_CONSTANT);
     let age = age_of(ages, clocks, clock);
     meets(relation, age, constant * wide32(grain))
 }
 
 // The guard of edge `e`: all its atoms hold.
-pub fn guard_holds(edges: &[u16], e: u16, clocks: usize, grain: u32, ages: Ages) -> bool
+pub fn guard_holds(edges: &[u16], e: u32, clocks: usize, grain: u32, ages: Ages) -> bool
     ensures { λ r. ⌜ r ≡ holds grain (agesOf clocks ages) (edgeAt e (now (edges .entry)) .atoms) ⌝ }
 {
-    let at = 29 * wide16(e);
-    let count = number_at(edges, at + 4);
+    let at = atoms_place(e);
+    let count = count_of(edges, e);
     let mut j: usize = 0;
     while j < count {
-        if !atom_holds(edges, at + 3 * j + 5, clocks, grain, ages) {
+        if !atom_holds(edges, at + ATOM_WIDTH * j, clocks, grain, ages) {
             return false;
         }
         j += 1;
@@ -163,20 +168,19 @@ pub fn guard_holds(edges: &[u16], e: u16, clocks: usize, grain: u32, ages: Ages)
 }
 
 // Edge `e` leaves the location, with the symbol.
-pub fn leaves(edges: &[u16], e: u16, location: u32, symbol: u16) -> bool
+pub fn leaves(edges: &[u16], e: u32, location: u32, symbol: u16) -> bool
     ensures { λ r. ⌜ r ≡ leavesOn location symbol (edgeAt e (now (edges .entry))) ⌝ }
 {
-    let at = 29 * wide16(e);
-    if number_at(edges, at) != wide32(location) {
+    if source_of(edges, e) != wide32(location) {
         return false;
     }
-    number_at(edges, at + 2) == wide16(symbol)
+    symbol_of(edges, e) == wide16(symbol)
 }
 
 // Edge `e` can be taken: it leaves the location, with the symbol, and its guard holds.
 pub fn can_take(
     edges: &[u16],
-    e: u16,
+    e: u32,
     clocks: usize,
     grain: u32,
     symbol: u16,
@@ -200,13 +204,12 @@ pub fn after_delay(from: Configuration, delay: Age) -> Configuration
 }
 
 // Edge `e` is taken: its clocks are zeroed, its target is reached.
-pub fn after_edge(edges: &[u16], e: u16, from: Configuration) -> Configuration
+pub fn after_edge(edges: &[u16], e: u32, from: Configuration) -> Configuration
     ensures { λ r. ⌜ Moved (edgeAt e (now (edges .entry))) from r ⌝ }
 {
-    let at = 29 * wide16(e);
     let ages = from.ages;
-    let target = number_at(edges, at + 1);
-    let resets = number_at(edges, at + 3);
+    let target = target_of(edges, e);
+    let resets = resets_of(edges, e);
     Configuration {
         location: target as u32,
         ages: zeroed(ages, resets),
@@ -245,8 +248,9 @@ pub fn same_configuration(one: Configuration, other: Configuration, clocks: usiz
 pub fn has_location(set: u32, location: u32) -> bool
     ensures { λ r. ⌜ r ≡ isIn location (locationsIn set) ⌝ }
 {
-    if 32 <= location {
+    let place = wide32(location);
+    if MOST_LOCATIONS <= place {
         return false;
     }
-    has_bit(wide32(set), wide32(location))
+    has_bit(wide32(set), place)
 }

@@ -10,28 +10,28 @@ use lib.Seq.{set-at}
 use Rattle.model.specs.declared.Head.{Head}
 use Rattle.model.specs.Basics.{pick, isIn, zeros, filled}
 use Rattle.model.specs.Rules.{Edge}
-use Rattle.model.specs.Words.{eventsOf}
+use Rattle.model.specs.Words.{mostBranchEvents, eventsOf}
 use Rattle.model.specs.Runs.{zeroed, Path, path, noPath, leastEdge, leastFrom}
-use Rattle.model.specs.Layout.{edgeWidth, edgesIn, locationsIn, ruleIn}
+use Rattle.model.specs.Layout.{edgeWidth, edgeAt, edgesIn, locationsIn, ruleIn}
 use Rattle.model.proofs.EdgeTable.{edges-rest}
 use Rattle.model.proofs.Events.{eventAt, events-rest, events-end}
 use Rattle.model.proofs.Inputs.{ordered-rest}
 use Rattle.model.proofs.Ages.{AtMost, older-most, zeroed-most}
 use Rattle.ages.specs.declared.Configuration.{Configuration}
-use Rattle.ages.specs.Ages.{agesOf, edgeAt, takes, Waited, Moved}
+use Rattle.ages.specs.Ages.{agesOf, takes, Waited, Moved}
 use Rattle.ages.proofs.Moves.{waited-until, moved-ages}
 use Rattle.branch.specs.declared.Run.{Run}
 use Rattle.branch.specs.Branches.{placed, withEdge, leastAt, Ready}
 
--- A run in the twelve places. No run: all zero, wherever it would begin.
-pub nowhere : (depth : ℕ) (p : Path) → depth ≤ 12 → p .taken ≡ [] → placed 0 p ≡ placed depth p
+-- A run in its places. No run: all zero, wherever it would begin.
+pub nowhere : (depth : ℕ) (p : Path) → depth ≤ mostBranchEvents → p .taken ≡ [] → placed 0 p ≡ placed depth p
 nowhere depth p h e =
-    let n : depth + (12 - depth - 0) ≡ 12 = omega arith in
-    let z : zeros depth ++ filled (12 - depth) [] ≡ zeros 12 =
-    replicate-append-replicate depth (12 - depth - 0) 0 ∙ ap (λ (j : ℕ). zeros j) n in
+    let n : depth + (mostBranchEvents - depth - 0) ≡ mostBranchEvents = omega arith in
+    let z : zeros depth ++ filled (mostBranchEvents - depth) [] ≡ zeros mostBranchEvents =
+    replicate-append-replicate depth (mostBranchEvents - depth - 0) 0 ∙ ap (λ (j : ℕ). zeros j) n in
     ap (λ (es : List ℕ). record { edges = es; found = p .found })
-    (ap (λ (xs : List ℕ). filled 12 xs) e
-    ∙ (sym z ∙ ap (λ (xs : List ℕ). zeros depth ++ filled (12 - depth) xs) (sym e)))
+    (ap (λ (xs : List ℕ). filled mostBranchEvents xs) e
+    ∙ (sym z ∙ ap (λ (xs : List ℕ). zeros depth ++ filled (mostBranchEvents - depth) xs) (sym e)))
 
 zeros-then : (k : ℕ) (xs : List ℕ) → zeros k ++ (0 ∷ xs) ≡ zeros (suc k) ++ xs
 zeros-then zero xs = refl
@@ -39,13 +39,14 @@ zeros-then (suc k) xs = ap (λ (l : List ℕ). 0 ∷ l) (zeros-then k xs)
 
 -- edge e at place `depth`, before a run from the next place on
 pub edge-before :
-    (depth e : ℕ) (xs : List ℕ) → depth < 12
-    → set (zeros (depth + 1) ++ filled (12 - (depth + 1)) xs) depth e ≡ zeros depth ++ filled (12 - depth) (e ∷ xs)
+    (depth e : ℕ) (xs : List ℕ) → depth < mostBranchEvents
+    → set (zeros (depth + 1) ++ filled (mostBranchEvents - (depth + 1)) xs) depth e
+    ≡ zeros depth ++ filled (mostBranchEvents - depth) (e ∷ xs)
 edge-before depth e xs h =
-    let k : 12 - suc depth - length xs ≡ 12 - depth - suc (length xs) = omega arith in
+    let k : mostBranchEvents - suc depth - length xs ≡ mostBranchEvents - depth - suc (length xs) = omega arith in
     rw (add-one depth)
-    (ap (λ (l : List ℕ). set l depth e) (sym (zeros-then depth (filled (12 - suc depth) xs)))
-    ∙ (set-at (zeros depth) 0 (filled (12 - suc depth) xs) e depth (length-replicate depth 0)
+    (ap (λ (l : List ℕ). set l depth e) (sym (zeros-then depth (filled (mostBranchEvents - suc depth) xs)))
+    ∙ (set-at (zeros depth) 0 (filled (mostBranchEvents - suc depth) xs) e depth (length-replicate depth 0)
     ∙ ap (λ (j : ℕ). zeros depth ++ (e ∷ (xs ++ zeros j))) k))
 
 -- with no events left
@@ -94,14 +95,13 @@ module _ (head : Head) (edges : List ℕ) (d : ℕ) (symbols stamps : List ℕ) 
       (onward (edgeAt e edges .target) (zeroed (edgeAt e edges .resets) (agesOf (head .clocks) (now .ages))))
       noPath
 
-  pub record Trying (clocks count e : ℕ) : Type 0 where
+  pub record Trying (clocks e : ℕ) : Type 0 where
     pub turns : e ≤ head .count
     pub clocks-are : clocks ≡ head .clocks
-    pub count-is : count ≡ head .count
     pub rest-is : tryFrom e ≡ tryFrom 0
 
-  pub trying-start : (clocks count : ℕ) → clocks ≡ head .clocks → count ≡ head .count → Trying clocks count 0
-  trying-start clocks count k n = record { turns = omega arith; clocks-are = k; count-is = n; rest-is = refl }
+  pub trying-start : (clocks : ℕ) → clocks ≡ head .clocks → Trying clocks 0
+  trying-start clocks k = record { turns = omega arith; clocks-are = k; rest-is = refl }
 
   try-step :
       (e : ℕ) → e < head .count
@@ -113,21 +113,18 @@ module _ (head : Head) (edges : List ℕ) (d : ℕ) (symbols stamps : List ℕ) 
       (edges-rest (head .count) e edges h)
       ∙ rw (add-one e)
 
-  module _ {clocks count e : ℕ} (inv : Trying clocks count e) (h : e < count) where
-    skip : byEdge e .found ≡ false → Trying clocks count (e + 1)
-    skip f =
-        let below : e < head .count = omega (arith, inv .count-is) in
-        record {
-          turns = omega arith;
-          clocks-are = inv .clocks-are;
-          count-is = inv .count-is;
-          rest-is = (rw f at (sym (try-step e below))) ∙ inv .rest-is;
-        }
+  module _ {clocks e : ℕ} (inv : Trying clocks e) (h : e < head .count) where
+    skip : byEdge e .found ≡ false → Trying clocks (e + 1)
+    skip f = record {
+      turns = omega arith;
+      clocks-are = inv .clocks-are;
+      rest-is = (rw f at (sym (try-step e h))) ∙ inv .rest-is;
+    }
 
     -- an edge that cannot be taken
     pub trying-other :
         (r : Bool) → r ≡ takes d clocks (getD symbols depth 0) now (edgeAt e edges) → r ≡ false
-        → Trying clocks count (e + 1)
+        → Trying clocks (e + 1)
     trying-other r t f = skip (rw (← inv .clocks-are, sym t ∙ f))
 
     module _ (next : Configuration) (moved : Moved (edgeAt e edges) now next) where
@@ -145,12 +142,13 @@ module _ (head : Head) (edges : List ℕ) (d : ℕ) (symbols stamps : List ℕ) 
           (r : Bool) (run : Run) → r ≡ takes d clocks (getD symbols depth 0) now (edgeAt e edges) → r ≡ true
           → run ≡ placed (depth + 1) (leastAt head edges d symbols stamps (depth + 1) (getD stamps depth 0) next)
           → run .found ≡ false
-          → Trying clocks count (e + 1)
+          → Trying clocks (e + 1)
       trying-stuck r run t f p g =
           skip (ap (λ (q : Path). q .found) (reached r t f) ∙ (sym (ap (λ (b : Run). b .found) p) ∙ g))
 
       pub trying-found :
-          (r : Bool) (run : Run) → depth < 12 → r ≡ takes d clocks (getD symbols depth 0) now (edgeAt e edges)
+          (r : Bool) (run : Run) → depth < mostBranchEvents
+          → r ≡ takes d clocks (getD symbols depth 0) now (edgeAt e edges)
           → r ≡ true
           → run ≡ placed (depth + 1) (leastAt head edges d symbols stamps (depth + 1) (getD stamps depth 0) next)
           → run .found ≡ true
@@ -160,12 +158,11 @@ module _ (head : Head) (edges : List ℕ) (d : ℕ) (symbols stamps : List ℕ) 
           let found : q .found ≡ true = sym (ap (λ (x : Run). x .found) p) ∙ g in
           let by : byEdge e ≡ q = reached r t f in
           let whole : tryFrom 0 ≡ path true 0 (e ∷ q .taken) =
-          sym (inv .rest-is) ∙ (try-step e (omega (arith, inv .count-is)) ∙ rw (by, found)) in
+          sym (inv .rest-is) ∙ (try-step e h ∙ rw (by, found)) in
           rw (p, whole, found, edge-before depth e (q .taken) b)
 
-  pub trying-none : {clocks count e : ℕ} → Trying clocks count e → count ≤ e → tryFrom 0 ≡ noPath
-  trying-none {e = e} inv h =
-      let z : head .count - e ≡ 0 = omega (arith, inv .count-is) in sym (inv .rest-is) ∙ rw z
+  pub trying-none : {clocks e : ℕ} → Trying clocks e → head .count ≤ e → tryFrom 0 ≡ noPath
+  trying-none {e = e} inv h = let z : head .count - e ≡ 0 = omega arith in sym (inv .rest-is) ∙ rw z
 
 -- the least run from before the delay is that over all edges after it
 pub at-event :

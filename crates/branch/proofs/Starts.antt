@@ -9,6 +9,7 @@ use Rattle.model.specs.declared.Head.{Head}
 use Rattle.model.specs.declared.Answer.{Answer}
 use Rattle.model.specs.declared.Branch.{Branch}
 use Rattle.model.specs.Basics.{pick, zeros, bit, bitsFrom, fine}
+use Rattle.model.specs.Rules.{mostLocations, mostClocks}
 use Rattle.model.specs.Words.{mostBranchEvents, eventsOf}
 use Rattle.model.specs.Runs.{startAges, Path, path, noPath, leastFrom, leastStart, leastRun}
 use Rattle.model.specs.Layout.{ruleIn}
@@ -25,7 +26,7 @@ use Rattle.branch.specs.Branches.{placed, withStart, noBranch, leastAt, 
 -- before the first event, all ages 0
 pub start-ready :
     (head : Head) (symbols stamps : List ℕ) (from : Configuration) → Begins head symbols stamps
-    → numbersOf (from .ages .of) ≡ zeros 4
+    → numbersOf (from .ages .of) ≡ zeros mostClocks
     → Ready head symbols stamps 0 0 from
 start-ready head symbols stamps from b z = record {
   depth-in = omega arith;
@@ -42,10 +43,11 @@ module _ (head : Head) (edges : List ℕ) (d : ℕ) (symbols stamps : List ℕ) 
 
   -- the initial locations from l on are left
   abbrev pub startFrom : ℕ → Path
-  startFrom l = leastStart (ruleIn head edges) d (eventsOf symbols stamps) (bitsFrom (32 - l) l (head .starts))
+  startFrom l =
+      leastStart (ruleIn head edges) d (eventsOf symbols stamps) (bitsFrom (mostLocations - l) l (head .starts))
 
   pub record Starting (starts l : ℕ) : Type 0 where
-    pub turns : l ≤ 32
+    pub turns : l ≤ mostLocations
     pub starts-are : starts ≡ head .starts
     pub rest-is : startFrom l ≡ leastOf head edges d symbols stamps
 
@@ -53,32 +55,32 @@ module _ (head : Head) (edges : List ℕ) (d : ℕ) (symbols stamps : List ℕ) 
   unfolding leastRun ruleIn
   starting starts e = record { turns = omega arith; starts-are = e; rest-is = refl }
 
-  module _ {starts l : ℕ} (inv : Starting starts l) (h : l < 32) where
+  module _ {starts l : ℕ} (inv : Starting starts l) (h : l < mostLocations) where
     on-to : startFrom l ≡ startFrom (l + 1) → Starting starts (l + 1)
     on-to e = record { turns = omega arith; starts-are = inv .starts-are; rest-is = sym e ∙ inv .rest-is }
 
-    left : 32 - l ≡ suc (32 - (l + 1))
+    left : mostLocations - l ≡ suc (mostLocations - (l + 1))
     left = omega arith
 
     -- not an initial location
-    pub starting-other : (r : Bool) (w : ℕ) → w ≡ l → r ≡ bit w starts → r ≡ false → Starting starts (l + 1)
-    starting-other r w e t f =
-        let unset : bit l (head .starts) ≡ false = rw (e, inv .starts-are) at (sym t ∙ f) in
-        on-to (rw (left, bits-skip (32 - (l + 1)) l (head .starts) unset, add-one l))
+    pub starting-other : (r : Bool) → r ≡ bit l starts → r ≡ false → Starting starts (l + 1)
+    starting-other r t f =
+        let unset : bit l (head .starts) ≡ false = rw (inv .starts-are) at (sym t ∙ f) in
+        on-to (rw (left, bits-skip (mostLocations - (l + 1)) l (head .starts) unset, add-one l))
 
     module _
-        (r : Bool) (w : ℕ) (from : Configuration) (b : Begins head symbols stamps) (e : w ≡ l) (t : r ≡ bit w starts)
-        (set : r ≡ true) (at : from .location ≡ l) (z : numbersOf (from .ages .of) ≡ zeros 4)
+        (r : Bool) (from : Configuration) (b : Begins head symbols stamps) (t : r ≡ bit l starts)
+        (set : r ≡ true) (at : from .location ≡ l) (z : numbersOf (from .ages .of) ≡ zeros mostClocks)
       where
         is-start : bit l (head .starts) ≡ true
-        is-start = rw (e, inv .starts-are) at (sym t ∙ set)
+        is-start = rw (inv .starts-are) at (sym t ∙ set)
 
         run-is : leastAt head edges d symbols stamps 0 0 from ≡ runFrom l
         run-is = rw (at, start-ages (head .clocks) (from .ages) z (b .clocks-most))
 
         start-step : startFrom l ≡ pick (runFrom l .found) (path true l (runFrom l .taken)) (startFrom (l + 1))
         unfolding leastStart ruleIn
-        start-step = rw (left, bits-more (32 - (l + 1)) l (head .starts) is-start, add-one l)
+        start-step = rw (left, bits-more (mostLocations - (l + 1)) l (head .starts) is-start, add-one l)
 
         pub starting-stuck :
             (run : Run) → run ≡ placed 0 (leastAt head edges d symbols stamps 0 0 from) → run .found ≡ false
@@ -98,9 +100,10 @@ module _ (head : Head) (edges : List ℕ) (d : ℕ) (symbols stamps : List ℕ) 
             sym (inv .rest-is) ∙ (start-step ∙ rw found) in
             rw (q, whole, found)
 
-  pub starting-none : {starts l : ℕ} → Starting starts l → 32 ≤ l → leastOf head edges d symbols stamps ≡ noPath
+  pub starting-none :
+      {starts l : ℕ} → Starting starts l → mostLocations ≤ l → leastOf head edges d symbols stamps ≡ noPath
   unfolding leastStart bitsFrom
-  starting-none {l = l} inv h = let z : 32 - l ≡ 0 = omega arith in sym (inv .rest-is) ∙ rw z
+  starting-none {l = l} inv h = let z : mostLocations - l ≡ 0 = omega arith in sym (inv .rest-is) ∙ rw z
 
 -- A run that is not found is no run.
 not-found :

@@ -7,6 +7,7 @@ use lib.ListN.{length, set, drop}
 use Rattle.model.specs.declared.Head.{Head}
 use Rattle.model.specs.declared.Branch.{Branch}
 use Rattle.model.specs.Basics.{zeros, filled}
+use Rattle.model.specs.Rules.{mostClocks, mostEdges}
 use Rattle.model.specs.Words.{mostBranchEvents, eventsOf}
 use Rattle.model.specs.Runs.{Path, leastFrom, leastRun}
 use Rattle.model.specs.Layout.{ruleIn}
@@ -54,19 +55,19 @@ begun p = record {
 abbrev pub leastOf : Head → List ℕ → ℕ → List ℕ → List ℕ → Path
 leastOf head edges d symbols stamps = leastRun (ruleIn head edges) d (eventsOf symbols stamps)
 
--- at most 12 events, their stamps in order, ages of no more than the stamp before
+-- no more events than are followed, their stamps in order, ages of no more than the stamp before
 pub record Ready (head : Head) (symbols stamps : List ℕ) (depth last : ℕ) (from : Configuration) : Type 0 where
   pub depth-in : depth ≤ length symbols
   pub counts-equal : length symbols ≡ length stamps
   pub events-most : length symbols ≤ mostBranchEvents
-  pub edges-most : head .count ≤ 256
+  pub edges-most : head .count ≤ mostEdges
   pub stamps-ordered : Ordered last (eventsOf (drop depth symbols) (drop depth stamps))
   pub ages-most : AtMost last (agesOf (head .clocks) (from .ages))
 
--- the same before the first event, with at most 4 clocks
+-- the same before the first event, with no more clocks than a rule may have
 pub record Begins (head : Head) (symbols stamps : List ℕ) : Type 0 where
-  pub clocks-most : head .clocks ≤ 4
-  pub edges-most : head .count ≤ 256
+  pub clocks-most : head .clocks ≤ mostClocks
+  pub edges-most : head .count ≤ mostEdges
   pub counts-equal : length symbols ≡ length stamps
   pub events-most : length symbols ≤ mostBranchEvents
   pub stamps-ordered : Ordered 0 (eventsOf symbols stamps)

@@ -1,8 +1,9 @@
 // The branch runner: follows the branches with the events left, and answers the accepting run that is least by start,
-// then edge by edge. No scratch: at most 12 events.
+// then edge by edge. No scratch: at most MOST_BRANCH_EVENTS events.
 ghost use mathlib.Core.Path.{_≡_};
 ghost use mathlib.Core.List.{[]};
 ghost use Prim.Native.Nat.{_<_};
+ghost use Rattle.model.specs.Words.{mostBranchEvents};
 ghost use Rattle.model.specs.Runs.{path};
 ghost use Rattle.model.specs.Promises.{RunsBranches};
 ghost use Rattle.branch.specs.Branches.{placed, begun, withEdge, withStart, noBranch, leastAt, leastOf};
@@ -11,15 +12,16 @@ use ages::Configuration;
 use ages::after_delay;
 use ages::after_edge;
 use ages::guard_holds;
-use ages::has_bit;
 use ages::has_location;
 use ages::leaves;
 use ages::start_at;
-use edges::wide16;
-use edges::wide32;
 use model::Branch;
 use model::Head;
+use model::MOST_BRANCH_EVENTS;
+use model::MOST_LOCATIONS;
 use model::Stamp;
+use numbers::has_bit;
+use numbers::wide32;
 use rule::check_rule;
 use word::check_word;
 
@@ -31,7 +33,7 @@ pub(crate) struct Given {
 
 // A run while it is searched for: its edges from some place on, all else zero. Small, for every step answers one.
 pub(crate) struct Run {
-    pub edges: [u16; 12],
+    pub edges: [u16; MOST_BRANCH_EVENTS],
     pub found: bool,
 }
 
@@ -40,14 +42,14 @@ pub(crate) fn no_edges(found: bool) -> Run
     ensures { λ r. ⌜ r ≡ placed 0 (path found 0 []) ⌝ }
 {
     Run {
-        edges: [0; 12],
+        edges: [0; MOST_BRANCH_EVENTS],
         found,
     }
 }
 
 // The run with edge `e` for event `depth`.
 pub(crate) fn with_edge(run: Run, depth: usize, e: u16) -> Run
-    requires { ⌜ depth < 12 ⌝ }
+    requires { ⌜ depth < mostBranchEvents ⌝ }
     ensures { λ r. ⌜ r ≡ withEdge run depth e ⌝ }
 {
     let mut longer = run;
@@ -78,9 +80,9 @@ pub(crate) fn least_from(
     let stamp = Stamp(stamps[depth]);
     let now = after_delay(from, stamp.since(last));
     let clocks = wide32(head.clocks);
-    let count = head.count as u16;
+    let count = head.count;
     let ages = now.ages;
-    let mut e: u16 = 0;
+    let mut e: u32 = 0;
     while e < count {
         if leaves(edges, e, now.location, symbols[depth])
             && guard_holds(edges, e, clocks, given.grain, ages)
@@ -88,7 +90,7 @@ pub(crate) fn least_from(
             let next = after_edge(edges, e, now);
             let run = least_from(given, edges, symbols, stamps, depth + 1, stamp, next);
             if run.found {
-                return with_edge(run, depth, e);
+                return with_edge(run, depth, e as u16);
             }
         }
         e += 1;
@@ -119,7 +121,7 @@ pub(crate) fn no_branch(number: u8, place: usize) -> Branch
         place,
         found: false,
         start: 0,
-        edges: [0; 12],
+        edges: [0; MOST_BRANCH_EVENTS],
     }
 }
 
@@ -137,13 +139,13 @@ pub(crate) fn least_start(
 {
     let given = Given { head, grain };
     let starts = wide32(head.starts);
-    let mut l: u16 = 0;
-    while l < 32 {
-        if has_bit(starts, wide16(l)) {
+    let mut l: usize = 0;
+    while l < MOST_LOCATIONS {
+        if has_bit(starts, l) {
             let from = start_at(l as u32);
             let run = least_from(given, edges, symbols, stamps, 0, Stamp(0), from);
             if run.found {
-                return with_start(run, l);
+                return with_start(run, l as u16);
             }
         }
         l += 1;
@@ -151,7 +153,7 @@ pub(crate) fn least_start(
     no_branch(0, 0)
 }
 
-// 20, 21, 30 to 33 with at most 12 events; then the least accepting run.
+// 20, 21, 30 to 33 with at most MOST_BRANCH_EVENTS events; then the least accepting run.
 pub fn run_branches(
     head: Head,
     edges: &[u16],
@@ -165,7 +167,13 @@ pub fn run_branches(
     if rule.number != 0 {
         return no_branch(rule.number, rule.place);
     }
-    let word = check_word(head.symbols, grain, 12, symbols, stamps);
+    let word = check_word(
+        head.symbols,
+        grain,
+        MOST_BRANCH_EVENTS as u32,
+        symbols,
+        stamps,
+    );
     if word.number != 0 {
         return no_branch(word.number, word.place);
     }

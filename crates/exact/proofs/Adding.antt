@@ -8,6 +8,7 @@ use native.Mathlib.Nat.{mul-le-mul-right, suc-mul, zero-mul}
 use native.Mathlib.Numerals.{add-one}
 use lib.ListN.{length, getD, set, drop, length-set, length-append, drop-of-length-le}
 use lib.Seq.{sets, drop-cons, length-take-le}
+use Rattle.model.specs.Rules.{mostClocks}
 use Rattle.model.specs.Runs.{Config, hasConfig, withConfig}
 use Rattle.ages.specs.declared.Ages.{Ages}
 use Rattle.ages.specs.declared.Configuration.{Configuration}
@@ -24,7 +25,7 @@ use Rattle.exact.proofs.Banks.{written-before}
 pub four-read :
     (at a b c d : ℕ) (s : List ℕ) → a ≡ getD s (at + 1) 0 → b ≡ getD s (at + 2) 0 → c ≡ getD s (at + 3) 0
     → d ≡ getD s (at + 4) 0
-    → a ∷ b ∷ c ∷ d ∷ [] ≡ numbersAt 4 (at + 1) s
+    → a ∷ b ∷ c ∷ d ∷ [] ≡ numbersAt mostClocks (at + 1) s
 four-read at a b c d s e f g h =
     let p : suc (at + 1) ≡ at + 2 = omega arith in
     let q : suc (at + 2) ≡ at + 3 = omega arith in
@@ -60,7 +61,7 @@ pub stored-whole :
 stored-whole {at = at} c s₀ inv h = stored inv h ∙ rw (add-one at)
 
 -- as many ages as clocks, with four at hand
-pub ages-length : (k : ℕ) (ages : Ages) → length (ages .of) ≡ 4 → k ≤ 4 → length (agesOf k ages) ≡ k
+pub ages-length : (k : ℕ) (ages : Ages) → length (ages .of) ≡ mostClocks → k ≤ mostClocks → length (agesOf k ages) ≡ k
 ages-length k ages n h = length-take-le k (numbersOf (ages .of)) (omega (arith, numbers-length (ages .of)))
 
 -- The configurations passed are others, so those from number i on decide.
@@ -80,7 +81,7 @@ within-bank k n i at len h e f =
     omega (arith, mul-le-mul-right {m = suc i} {n = n} (k + 1) h, suc-mul i (k + 1))
 
 module _ {k n i at : ℕ} {c : Config} {s : List ℕ} (inv : Looking k n i at c s) (h : i < n) (known : Configuration)
-    (loaded : Loaded at s known) (few : k ≤ 4) (r : Bool) (test : r ≡ sameConfig c (configOf k known)) where
+    (loaded : Loaded at s known) (few : k ≤ mostClocks) (r : Bool) (test : r ≡ sameConfig c (configOf k known)) where
   look-step :
       hasConfig c (configsAt k n 0 s)
       ≡ (r || hasConfig c (configsAt k (n - (i + 1)) (at + (k + 1)) s))

@@ -7,6 +7,7 @@ use native.Mathlib.Nat.{suc-mul, zero-mul}
 use native.Mathlib.Numerals.{add-one}
 use lib.ListN.{length, getD, set, take, length-set}
 use lib.Seq.{sets, getD-set-same, getD-set-other}
+use Rattle.model.specs.Rules.{mostClocks}
 use Rattle.model.specs.Runs.{Config, config}
 use Rattle.ages.specs.declared.Configuration.{Configuration}
 use Rattle.ages.specs.Ages.{configOf}
@@ -68,10 +69,12 @@ take-numbers (suc k) zero at s h = absurd (omega arith)
 take-numbers (suc k) (suc n) at s h = ap (λ (l : List ℕ). getD s at 0 ∷ l) (take-numbers k n (suc at) s (omega arith))
 
 -- what was read at a place is the configuration there
-pub loaded-is : (k at : ℕ) (s : List ℕ) (c : Configuration) → Loaded at s c → k ≤ 4 → configOf k c ≡ configAt k at s
+pub loaded-is :
+    (k at : ℕ) (s : List ℕ) (c : Configuration) → Loaded at s c → k ≤ mostClocks → configOf k c ≡ configAt k at s
 loaded-is k at s c l h =
     ap₂ config (l .location-is)
-    (ap (take k) (l .ages-are) ∙ (take-numbers k 4 (at + 1) s h ∙ ap (λ (p : ℕ). numbersAt k p s) (add-one at)))
+    (ap (take k) (l .ages-are)
+    ∙ (take-numbers k mostClocks (at + 1) s h ∙ ap (λ (p : ℕ). numbersAt k p s) (add-one at)))
 
 -- A run of stores: what lies before it is as it was, and it stands where it was stored.
 sets-before :

@@ -43,7 +43,6 @@ module _ (head : Head) (edges : List ℕ) (d symbol delay room from n to : ℕ) 
     pub turns : i ≤ n
     pub place-is : at ≡ from + i * (head .clocks + 1)
     pub held-most : held ≤ room
-    pub edges-most : head .count ≤ 256
     pub banks : Banks (head .clocks) room from n to s
     pub length-is : length s ≡ len
     pub ages-below : Below delay (configsAt (head .clocks) (n - i) at s)
@@ -58,7 +57,6 @@ module _ (head : Head) (edges : List ℕ) (d symbol delay room from n to : ℕ) 
         turns = omega arith;
         place-is = omega (arith, zero-mul (head .clocks + 1));
         held-most = omega arith;
-        edges-most = ready .edges-most;
         banks = ready .banks;
         length-is = refl;
         ages-below = rw z (ready .ages-below);
@@ -187,7 +185,6 @@ module _ (head : Head) (edges : List ℕ) (d symbol delay room from n to : ℕ) 
                 turns = omega arith;
                 place-is = omega (arith, inv .place-is, suc-mul i (head .clocks + 1), add-one i);
                 held-most = there .0;
-                edges-most = inv .edges-most;
                 banks =
                     record {
                       clocks-most = inv .banks .clocks-most;

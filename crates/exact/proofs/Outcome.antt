@@ -90,7 +90,6 @@ module _ (head : Head) (edges : List ℕ) (d : ℕ) (symbols stamps scratch : Li
     pub begins : Begins head symbols stamps
     begins = record {
       clocks-most = c .clocks-most;
-      edges-most = c .count-most;
       counts-equal = c .keeps .lengths-equal;
       stamps-ordered = c .keeps .stamps-ordered;
     }

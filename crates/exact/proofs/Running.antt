@@ -139,7 +139,6 @@ module _ (head : Head) (edges : List ℕ) (d : ℕ) (symbols stamps : List ℕ) 
 
     pub step-ready : Stepping head delay room from n to s
     step-ready = record {
-      edges-most = inv .begins .edges-most;
       banks =
           record {
             clocks-most = inv .begins .clocks-most;

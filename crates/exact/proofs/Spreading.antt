@@ -8,11 +8,11 @@ use lib.ListN.{length, drop}
 use Rattle.model.specs.Basics.{pick}
 use Rattle.model.specs.Rules.{Edge}
 use Rattle.model.specs.Runs.{zeroed, Config, config, withConfig, byEdges}
-use Rattle.model.specs.Layout.{edgeWidth, edgesIn}
+use Rattle.model.specs.Layout.{edgeWidth, edgeAt, edgesIn}
 use Rattle.model.proofs.EdgeTable.{edges-rest}
 use Rattle.model.proofs.Configs.{edges-grow}
 use Rattle.ages.specs.declared.Configuration.{Configuration}
-use Rattle.ages.specs.Ages.{agesOf, configOf, edgeAt, takes, withSymbol, Moved}
+use Rattle.ages.specs.Ages.{agesOf, configOf, takes, withSymbol, Moved}
 use Rattle.ages.proofs.Moves.{moved-ages}
 use Rattle.exact.specs.declared.bank.Added.{Added}
 use Rattle.exact.specs.declared.bank.Added.the-variants.{Count, Full}

@@ -6,10 +6,11 @@ use Prim.Native.Nat.{ℕ, suc, _+_, _-_, _*_, _≤_, _<_}
 use native.Mathlib.Omega.{arith}
 use native.Mathlib.Nat.{mul-le-mul-right, suc-mul, zero-mul}
 use native.Mathlib.Numerals.{add-one}
-use lib.ListN.{length, getD, drop, length-append, drop-of-length-le}
+use lib.ListN.{length, getD, length-append}
 use Rattle.model.specs.declared.Head.{Head}
 use Rattle.model.specs.declared.Answer.{Answer}
 use Rattle.model.specs.Basics.{oneIf, zeros, isIn, bit, bitsFrom}
+use Rattle.model.specs.Rules.{mostLocations, mostClocks}
 use Rattle.model.specs.Runs.{Config, config, startConfigs}
 use Rattle.model.specs.Layout.{locationsIn, ruleIn}
 use Rattle.model.proofs.Ages.{bits-more, bits-skip}
@@ -38,46 +39,47 @@ starts-are head edges = go (locationsIn (head .starts))
 module _ (k mask room : ℕ) where
   -- those written, with those from location l on, are all
   pub record Starting (n l len : ℕ) (bank : List ℕ) : Type 0 where
-    pub turns : l ≤ 32
+    pub turns : l ≤ mostLocations
     pub roomy : Roomy k room n bank
     pub length-is : length bank ≡ len
-    pub rest-is : configsAt k n 0 bank ++ startsAt k (bitsFrom (32 - l) l mask) ≡ startsOver k mask
+    pub rest-is : configsAt k n 0 bank ++ startsAt k (bitsFrom (mostLocations - l) l mask) ≡ startsOver k mask
 
   pub starting : (bank : List ℕ) → Roomy k room 0 bank → Starting 0 0 (length bank) bank
   starting bank ready = record { turns = omega arith; roomy = ready; length-is = refl; rest-is = refl }
 
-  module _ {n l len : ℕ} {bank : List ℕ} (inv : Starting n l len bank) (h : l < 32) (r : Bool) (w : ℕ) (e : w ≡ l)
-      (test : r ≡ bit w mask) where
-    left : 32 - l ≡ suc (32 - (l + 1))
+  module _ {n l len : ℕ} {bank : List ℕ} (inv : Starting n l len bank) (h : l < mostLocations) (r : Bool)
+      (test : r ≡ bit l mask) where
+    left : mostLocations - l ≡ suc (mostLocations - (l + 1))
     left = omega arith
 
     -- not an initial location
     pub starting-other : r ≡ false → Starting n (l + 1) len bank
     starting-other f =
-        let unset : bit l mask ≡ false = rw e at (sym test ∙ f) in
+        let unset : bit l mask ≡ false = sym test ∙ f in
         record {
           turns = omega arith;
           roomy = inv .roomy;
           length-is = inv .length-is;
-          rest-is = rw (left, bits-skip (32 - (l + 1)) l mask unset, ← add-one l) at (inv .rest-is);
+          rest-is = rw (left, bits-skip (mostLocations - (l + 1)) l mask unset, ← add-one l) at (inv .rest-is);
         }
 
-    module _ (yes : r ≡ true) (c : Configuration) (at : c .location ≡ l) (z : numbersOf (c .ages .of) ≡ zeros 4) where
+    module _ (yes : r ≡ true) (c : Configuration) (at : c .location ≡ l)
+        (z : numbersOf (c .ages .of) ≡ zeros mostClocks) where
       config-is : configOf k c ≡ config l (zeros k)
       config-is = ap₂ config at (start-ages k (c .ages) z (inv .roomy .clocks-most))
 
       -- this one written, the others are left
       then-rest :
-          (configsAt k n 0 bank ++ (configOf k c ∷ [])) ++ startsAt k (bitsFrom (32 - (l + 1)) (l + 1) mask)
+          (configsAt k n 0 bank ++ (configOf k c ∷ [])) ++ startsAt k (bitsFrom (mostLocations - (l + 1)) (l + 1) mask)
           ≡ startsOver k mask
       then-rest =
-          let set : bit l mask ≡ true = rw e at (sym test ∙ yes) in
+          let set : bit l mask ≡ true = sym test ∙ yes in
           rw (
             config-is,
             append-assoc (configsAt k n 0 bank) (config l (zeros k) ∷ [])
-                (startsAt k (bitsFrom (32 - (l + 1)) (l + 1) mask)),
+                (startsAt k (bitsFrom (mostLocations - (l + 1)) (l + 1) mask)),
           )
-          (rw (left, bits-more (32 - (l + 1)) l mask set, ← add-one l) at (inv .rest-is))
+          (rw (left, bits-more (mostLocations - (l + 1)) l mask set, ← add-one l) at (inv .rest-is))
 
       module _ (bank′ : List ℕ) (added : Added)
           (holds : Holds k room 0 (configsAt k n 0 bank ++ (configOf k c ∷ [])) bank′ added) where
@@ -99,16 +101,16 @@ module _ (k mask room : ℕ) where
             omega (
               arith,
               over,
-              length-append cs (startsAt k (bitsFrom (32 - (l + 1)) (l + 1) mask)),
+              length-append cs (startsAt k (bitsFrom (mostLocations - (l + 1)) (l + 1) mask)),
               ap (λ (x : List Config). length x) then-rest,
             )
 
   pub started :
-      {n l len : ℕ} {bank : List ℕ} → Starting n l len bank → 32 ≤ l
+      {n l len : ℕ} {bank : List ℕ} → Starting n l len bank → mostLocations ≤ l
       → Holds k room 0 (startsOver k mask) bank (Count n)
   unfolding bitsFrom
   started {n = n} {l = l} {bank = bank} inv h =
-      let z : 32 - l ≡ 0 = omega arith in
+      let z : mostLocations - l ≡ 0 = omega arith in
       (inv .roomy .count-most, sym (append-nil (configsAt k n 0 bank)) ∙ (rw z at (inv .rest-is)))
 
 -- the clocks and the locations that were read are the head's
@@ -161,12 +163,6 @@ pub pass-none :
     {set k n from i at : ℕ} {s : List ℕ} → Passing set k n from i at s → n ≤ i
     → false ≡ anyFinal set (configsAt k n from s)
 pass-none {n = n} {i = i} inv h = let z : n - i ≡ 0 = omega arith in rw z at (inv .rest-is)
-
--- a list that is zeroed to its end
-pub zeroed-whole : (s₀ s : List ℕ) (i : ℕ) → s ≡ zeros i ++ drop i s₀ → i ≡ length s₀ → s ≡ zeros (length s₀)
-zeroed-whole s₀ s i e h =
-    let past : length s₀ ≤ i = omega arith in
-    e ∙ (rw (drop-of-length-le s₀ past, append-nil (zeros i), h))
 
 -- the answer, yes or no
 abbrev decided : ℕ → Answer

@@ -4,6 +4,7 @@ use mathlib.Core.List.{List, [], _∷_}
 use Prim.Native.Nat.{ℕ, zero, suc, _+_, _≤_, _<_}
 use lib.ListN.{length, getD}
 use Rattle.model.specs.Basics.{Refusal, fine, refusal}
+use Rattle.model.specs.Rules.{mostClocks}
 use Rattle.model.specs.Runs.{Config, config}
 use Rattle.ages.specs.declared.Configuration.{Configuration}
 use Rattle.ages.specs.Ages.{numbersOf}
@@ -30,7 +31,7 @@ numbersIn c = c .location ∷ c .ages
 -- a configuration that was read at a place: its first ages are those of the rule's clocks
 pub record Loaded (at : ℕ) (s : List ℕ) (c : Configuration) : Type 0 where
   pub location-is : c .location ≡ getD s at 0
-  pub ages-are : numbersOf (c .ages .of) ≡ numbersAt 4 (at + 1) s
+  pub ages-are : numbersOf (c .ages .of) ≡ numbersAt mostClocks (at + 1) s
 
 -- What adding answers. Count: so many stand from place `at` on, and they are cs. Full: cs are more than there is room.
 abbrev pub Holds : ℕ → ℕ → ℕ → List Config → List ℕ → Added → Type 0

@@ -4,6 +4,7 @@ use mathlib.Core.List.{List, []}
 use Prim.Native.Nat.{ℕ, _+_, _*_, _≤_}
 use lib.ListN.{length}
 use Rattle.model.specs.declared.Head.{Head}
+use Rattle.model.specs.Rules.{mostClocks}
 use Rattle.model.specs.Runs.{Config, byEdges, byConfigs}
 use Rattle.model.specs.Layout.{edgesIn, ruleIn}
 use Rattle.model.proofs.Configs.{Aged}
@@ -13,13 +14,13 @@ use Rattle.exact.specs.Banks.{configsAt}
 
 -- a bank with room for so many configurations, n of them there
 pub record Roomy (k room n : ℕ) (bank : List ℕ) : Type 0 where
-  pub clocks-most : k ≤ 4
+  pub clocks-most : k ≤ mostClocks
   pub bank-fits : room * (k + 1) ≤ length bank
   pub count-most : n ≤ room
 
 -- two banks in one list, from `from` and from `to` on, that do not meet; n configurations in the first
 pub record Banks (k room from n to : ℕ) (scratch : List ℕ) : Type 0 where
-  pub clocks-most : k ≤ 4
+  pub clocks-most : k ≤ mostClocks
   pub from-fits : from + room * (k + 1) ≤ length scratch
   pub to-fits : to + room * (k + 1) ≤ length scratch
   pub apart : (from + room * (k + 1) ≤ to) ⊎ (to + room * (k + 1) ≤ from)
@@ -40,6 +41,5 @@ Below delay cs = (most : ℕ) × Aged most cs × (most + delay ≤ mostAge)
 
 -- an event may be taken: its delay keeps all ages below the cap
 pub record Stepping (head : Head) (delay room from n to : ℕ) (scratch : List ℕ) : Type 0 where
-  pub edges-most : head .count ≤ 256
   pub banks : Banks (head .clocks) room from n to scratch
   pub ages-below : Below delay (configsAt (head .clocks) n from scratch)

@@ -7,6 +7,7 @@ use lib.ListN.{length}
 use Rattle.model.specs.declared.Head.{Head}
 use Rattle.model.specs.declared.Answer.{Answer}
 use Rattle.model.specs.Basics.{oneIf, isIn, zeros}
+use Rattle.model.specs.Rules.{mostClocks}
 use Rattle.model.specs.Words.{eventsOf}
 use Rattle.model.specs.Runs.{Config, config, accepts, roomRefusal}
 use Rattle.model.specs.Layout.{locationsIn, ruleIn}
@@ -40,8 +41,7 @@ answerIn head edges d symbols stamps scratch =
 
 -- a call that passes the checks
 pub record Begins (head : Head) (symbols stamps : List ℕ) : Type 0 where
-  pub clocks-most : head .clocks ≤ 4
-  pub edges-most : head .count ≤ 256
+  pub clocks-most : head .clocks ≤ mostClocks
   pub counts-equal : length symbols ≡ length stamps
   pub stamps-ordered : Ordered 0 (eventsOf symbols stamps)
 

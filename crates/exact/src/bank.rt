@@ -2,8 +2,9 @@
 ghost use mathlib.Core.Path.{_≡_};
 ghost use mathlib.Core.List.{[], _∷_, _++_};
 ghost use Prim.Native.Nat.{_+_, _*_, _≤_, _<_};
-ghost use lib.ListN.{length, getD};
+ghost use lib.ListN.{length};
 ghost use lib.Seq.{sets};
+ghost use Rattle.model.specs.Rules.{mostClocks};
 ghost use Rattle.model.specs.Runs.{hasConfig, withConfig};
 ghost use Rattle.ages.specs.Ages.{configOf};
 ghost use Rattle.exact.specs.Banks.{numbersIn, configsAt, Loaded, Holds};
@@ -13,6 +14,7 @@ use ages::Configuration;
 use ages::age_of;
 use ages::same_configuration;
 use model::Age;
+use numbers::entry_at;
 
 // What adding a configuration to a bank finds.
 pub enum Added {
@@ -22,16 +24,6 @@ pub enum Added {
     Full,
 }
 
-// The number at a place, 0 past the end.
-pub(crate) fn number_in(bank: &[u32], at: usize) -> u32
-    ensures { λ r. ⌜ r ≡ getD (now (bank .entry)) at 0 ⌝ }
-{
-    if bank.len() <= at {
-        return 0;
-    }
-    bank[at]
-}
-
 // The configuration at a place. All four ages are read; those past the rule's clocks are not looked at.
 pub(crate) fn load(bank: &[u32], at: usize) -> Configuration
     requires { ⌜ at ≤ length (now bank) ⌝ }
@@ -39,21 +31,21 @@ pub(crate) fn load(bank: &[u32], at: usize) -> Configuration
 {
     let ages = Ages {
         of: [
-            Age(number_in(bank, at + 1)),
-            Age(number_in(bank, at + 2)),
-            Age(number_in(bank, at + 3)),
-            Age(number_in(bank, at + 4)),
+            Age(entry_at(bank, at + 1)),
+            Age(entry_at(bank, at + 2)),
+            Age(entry_at(bank, at + 3)),
+            Age(entry_at(bank, at + 4)),
         ],
     };
     Configuration {
-        location: number_in(bank, at),
+        location: entry_at(bank, at),
         ages,
     }
 }
 
 // The configuration is written at a place.
 pub(crate) fn store(bank: &mut [u32], at: usize, clocks: usize, c: Configuration)
-    requires { ⌜ (clocks ≤ 4) × (at + clocks < length (now bank)) ⌝ }
+    requires { ⌜ (clocks ≤ mostClocks) × (at + clocks < length (now bank)) ⌝ }
     ensures { λ _. ⌜ now (bank .exit) ≡ sets (now (bank .entry)) at (numbersIn (configOf clocks c)) ⌝ }
 {
     bank[at] = c.location;
@@ -68,7 +60,7 @@ pub(crate) fn store(bank: &mut [u32], at: usize, clocks: usize, c: Configuration
 
 // Is the configuration among the first n of the bank.
 pub(crate) fn has_config(bank: &[u32], clocks: usize, n: usize, c: Configuration) -> bool
-    requires { ⌜ (clocks ≤ 4) × (n * (clocks + 1) ≤ length (now bank)) ⌝ }
+    requires { ⌜ (clocks ≤ mostClocks) × (n * (clocks + 1) ≤ length (now bank)) ⌝ }
     ensures { λ r. ⌜ r ≡ hasConfig (configOf clocks c) (configsAt clocks n 0 (now (bank .entry))) ⌝ }
 {
     let width = clocks + 1;

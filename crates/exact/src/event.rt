@@ -1,5 +1,4 @@
 // One event: from the configurations in one bank to those that it leads to, in the other.
-ghost use Prim.Native.Nat.{_≤_};
 ghost use Rattle.exact.specs.Banks.{configsAt, Holds};
 ghost use Rattle.exact.specs.Ready.{Roomy, byEdgesOf, byConfigsOf, Stepping};
 use crate::bank::Added;
@@ -9,9 +8,9 @@ use ages::Configuration;
 use ages::after_delay;
 use ages::after_edge;
 use ages::can_take;
-use edges::wide32;
 use model::Age;
 use model::Head;
+use numbers::wide32;
 
 // The configurations that the edges lead to from one, added to the n of the bank.
 pub(crate) fn by_edges(
@@ -24,16 +23,16 @@ pub(crate) fn by_edges(
     room: usize,
     n: usize,
 ) -> Added
-    requires { ⌜ (head .count ≤ 256) × Roomy (head .clocks) room n (now bank) ⌝ }
+    requires { ⌜ Roomy (head .clocks) room n (now bank) ⌝ }
     ensures { λ r. ⌜ Holds (head .clocks) room 0
         (byEdgesOf (head .clocks) (head .count) (now (edges .entry)) grain symbol from
         (configsAt (head .clocks) n 0 (now (bank .entry))))
         (now (bank .exit)) r ⌝ }
 {
     let clocks = wide32(head.clocks);
-    let count = head.count as u16;
+    let count = head.count;
     let mut held = n;
-    let mut e: u16 = 0;
+    let mut e: u32 = 0;
     while e < count {
         if can_take(edges, e, clocks, grain, symbol, from) {
             let next = after_edge(edges, e, from);

@@ -3,6 +3,7 @@ ghost use mathlib.Core.Path.{_≡_};
 ghost use Prim.Native.Nat.{_+_, _*_, _≤_};
 ghost use lib.ListN.{length};
 ghost use Rattle.model.specs.Basics.{oneIf, zeros};
+ghost use Rattle.model.specs.Rules.{mostClocks};
 ghost use Rattle.model.specs.Promises.{answerOf, RunsExact};
 ghost use Rattle.exact.specs.declared.bank.Added.the-variants.{Full};
 ghost use Rattle.exact.specs.Banks.{configsAt, Holds, refusalOf};
@@ -12,18 +13,20 @@ ghost use Rattle.exact.specs.Runs.{startsOver, anyFinal, answerWith, ans
 mod bank;
 mod event;
 
-use ages::has_bit;
 use ages::has_location;
 use ages::start_at;
 use bank::Added;
 use bank::append;
-use bank::number_in;
-use edges::wide16;
-use edges::wide32;
 use event::by_configs;
 use model::Answer;
 use model::Head;
+use model::MOST_EVENTS;
+use model::MOST_LOCATIONS;
 use model::Stamp;
+use numbers::clear32;
+use numbers::entry_at;
+use numbers::has_bit;
+use numbers::wide32;
 use rule::check_rule;
 use word::check_word;
 
@@ -35,9 +38,9 @@ pub(crate) fn start_configs(head: Head, bank: &mut [u32], room: usize) -> Added
     let clocks = wide32(head.clocks);
     let starts = wide32(head.starts);
     let mut n: usize = 0;
-    let mut l: u16 = 0;
-    while l < 32 {
-        if has_bit(starts, wide16(l)) {
+    let mut l: usize = 0;
+    while l < MOST_LOCATIONS {
+        if has_bit(starts, l) {
             let added = append(bank, clocks, room, n, start_at(l as u32));
             let Added::Count(more) = added else {
                 return Added::Full;
@@ -51,14 +54,14 @@ pub(crate) fn start_configs(head: Head, bank: &mut [u32], room: usize) -> Added
 
 // Is one of the n configurations from place `from` on at a location of the set.
 pub(crate) fn some_final(set: u32, scratch: &[u32], from: usize, clocks: usize, n: usize) -> bool
-    requires { ⌜ (clocks ≤ 4) × (from + n * (clocks + 1) ≤ length (now scratch)) ⌝ }
+    requires { ⌜ (clocks ≤ mostClocks) × (from + n * (clocks + 1) ≤ length (now scratch)) ⌝ }
     ensures { λ r. ⌜ r ≡ anyFinal set (configsAt clocks n from (now (scratch .entry))) ⌝ }
 {
     let width = clocks + 1;
     let mut at = from;
     let mut i: usize = 0;
     while i < n {
-        if has_location(set, number_in(scratch, at)) {
+        if has_location(set, entry_at(scratch, at)) {
             return true;
         }
         at += width;
@@ -71,12 +74,7 @@ pub(crate) fn some_final(set: u32, scratch: &[u32], from: usize, clocks: usize, 
 pub(crate) fn cleared(answer: Answer, scratch: &mut [u32]) -> Answer
     ensures { λ r. ⌜ (r ≡ answer) × (now (scratch .exit) ≡ zeros (length (now (scratch .entry)))) ⌝ }
 {
-    let end = scratch.len();
-    let mut i: usize = 0;
-    while i < end {
-        scratch[i] = 0;
-        i += 1;
-    }
+    clear32(scratch);
     answer
 }
 
@@ -191,7 +189,7 @@ pub fn run_exact(
     if rule.number != 0 {
         return rule;
     }
-    let word = check_word(head.symbols, grain, 4096, symbols, stamps);
+    let word = check_word(head.symbols, grain, MOST_EVENTS as u32, symbols, stamps);
     if word.number != 0 {
         return word;
     }

@@ -9,6 +9,7 @@ use model::Built;
 use model::Followed;
 use model::Follower;
 use model::Head;
+use model::MOST_BRANCH_EVENTS;
 use model::Moved;
 use model::Reading;
 use model::Stamp;
@@ -131,7 +132,7 @@ pub extern "C" fn alderskein_run_branches(
     grain: u32,
     symbols: &[u16],
     stamps: &[u32],
-    taken: &mut [u16; 12],
+    taken: &mut [u16; MOST_BRANCH_EVENTS],
 ) -> BranchAnswer
     ensures { λ r.
         ⌜ RunsBranchesInto head (now (edges .entry)) grain (now (symbols .entry)) (now (stamps .entry))

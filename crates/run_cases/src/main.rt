@@ -8,6 +8,7 @@ use follower::follow_event;
 use follower::start_follower;
 use libc::STDOUT_FILENO;
 use model::Built;
+use model::EDGE_NEED;
 use model::Follower;
 use model::Head;
 use model::Stamp;
@@ -90,7 +91,7 @@ fn print_word(
 
 // What the exact runner answers in a room, over one file and one event.
 fn print_exact(file: &[u8], scratch: &mut [u32], symbols: &[u16], stamps: &[u32]) {
-    let mut edges = [7u16; 7424];
+    let mut edges = [7u16; EDGE_NEED];
     let reading = read_rule(file, &mut edges);
     let head = reading.head;
     let answer = run_exact(head, &edges, 2, symbols, stamps, scratch);
@@ -166,7 +167,7 @@ fn print_refusals(file: &[u8], built: Built, cells: &[u32], rows: &[u32], pool: 
 fn main() {
     let worked =
         b"\x06\x00\x01\x00\x02\x00\x02\x00\x01\x00\x02\x00\x02\x00\x00\x00\x02\x00\x03\x00\x00\x00\x0e\x00\x05\x00\x00\x00\x01\x00\x00\x00\x01\x00\x00\x00\x02\x00\x01\x00\x0e\x00\x05\x00\x01\x00\x00\x00\x01\x00\x00\x00\x00\x00\x03\x00\x01\x00";
-    let mut edges = [7u16; 7424];
+    let mut edges = [7u16; EDGE_NEED];
     let reading = read_rule(worked, &mut edges);
     let head = reading.head;
     let mut scratch = [7u32; 6];

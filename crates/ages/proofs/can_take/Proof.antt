@@ -1,5 +1,5 @@
 -- `ages::can_take` meets its contract: source and symbol, then the guard.
-use Rattle.ages.specs.Ages.{edgeAt}
+use Rattle.model.specs.Layout.{edgeAt}
 use Rattle.ages.proofs.Laws.{not-leaving, guard-decides}
 use borrow.Author.Needs.{needs}
 use Rattle.ages.proofs.can_take.Statement.{statement}

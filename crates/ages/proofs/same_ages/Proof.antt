@@ -26,8 +26,9 @@ age-of-requires-2 c κs = search needs
 
 returns : tie.Need-returns Inv-loop μ-loop
 returns c =
-    same-differs (c .before .before .before .before .before .before .loop .inv) _ _
-    (c .before .before .before .before .age-of .ensures) (c .before .before .before .age-of2 .ensures)
+    let second = c .before .before .before in
+    let first = second .before in
+    same-differs (first .before .before .loop .inv) _ _ (first .age-of .ensures) (second .age-of2 .ensures)
     (c .if1 .taken)
 
 add-k : tie.Need-add-k Inv-loop μ-loop
@@ -38,8 +39,9 @@ loop-less c = search needs
 
 loop-again : tie.Need-loop-again Inv-loop μ-loop
 loop-again c =
-    same-next (c .before .before .before .before .before .before .loop .inv) _ _
-    (c .before .before .before .before .age-of .ensures) (c .before .before .before .age-of2 .ensures)
+    let second = c .before .before .before in
+    let first = second .before in
+    same-next (first .before .before .loop .inv) _ _ (first .age-of .ensures) (second .age-of2 .ensures)
     (c .if1 .left)
 
 returns-2 : tie.Need-returns-2 Inv-loop μ-loop

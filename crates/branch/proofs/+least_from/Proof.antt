@@ -1,20 +1,22 @@
 -- `branch::least_from` meets its contract: it calls itself with one event fewer. The edges passed led to no accepting
 -- run, so the least one is what the edges still to try give; the first edge that leads to one gives it.
-use mathlib.Core.Path.{refl, sym, _∙_, ap}
+use mathlib.Core.Path.{_≡_, refl, sym, _∙_, ap}
 use mathlib.Core.Logic.{⊎-elim}
-use Prim.Native.Nat.{ℕ, _-_, _<_}
+use Prim.Native.Nat.{ℕ, _-_, _≤_, _<_}
 use native.Mathlib.Omega.{arith}
 use lib.ListN.{length}
 use borrow.Author.Needs.{needs}
 use borrow.Fn.Kinds.{In}
 use borrow.Fn.PlainCycle.{Measures, is, falls, and}
 use denote.Ref.{now}
+use Rattle.model.specs.Rules.{mostEdges}
+use Rattle.model.specs.Words.{mostBranchEvents}
 use Rattle.model.specs.Runs.{Path, noPath}
-use Rattle.ages.specs.Ages.{edgeAt}
+use Rattle.model.specs.Layout.{edgeAt}
 use Rattle.ages.proofs.Laws.{not-leaving, guard-decides}
-use Rattle.branch.specs.Branches.{placed}
+use Rattle.branch.specs.Branches.{placed, leastAt}
 use Rattle.branch.proofs.Laws.{end-is, Trying, trying-start, trying-other, trying-stuck, trying-found}
-use Rattle.branch.proofs.Laws.{trying-none, at-event, next-ready, nowhere}
+use Rattle.branch.proofs.Laws.{trying-none, tryFrom, at-event, next-ready, nowhere}
 use Rattle.branch.proofs.least_from.Reads as own
 use Rattle.branch.proofs.least_from.Kinds as kinds
 use Rattle.branch.proofs.+least_from.Lts-least_from as lts
@@ -25,7 +27,7 @@ use Rattle.ages.proofs.has_location.Reads as has-location-reads
 use Rattle.ages.proofs.leaves.Reads as leaves-reads
 use Rattle.branch.proofs.no_edges.Reads as no-edges-reads
 use Rattle.branch.proofs.with_edge.Reads as with-edge-reads
-use Rattle.edges.proofs.wide32.Reads as wide32-reads
+use Rattle.numbers.proofs.wide32.Reads as wide32-reads
 use Rattle.model.proofs.Stamp.since.Reads as since-reads
 use Rattle.branch.proofs.+least_from.{statement}
 use Rattle.branch.proofs.+least_from.Tie.{close}
@@ -67,12 +69,37 @@ claims t = (
 
 abbrev Inv-loop : lts.InvT-loop
 Inv-loop given edges symbols stamps depth stamp now clocks count ages e₀ e =
-    (depth < 12) × Trying (given .head) edges (given .grain) symbols stamps depth now clocks count e
+    (depth < mostBranchEvents) × (count ≤ mostEdges)
+    × Trying (given .head) edges (given .grain) symbols stamps depth now clocks e
 
 abbrev μ-loop : lts.MeasureT-loop
 μ-loop given edges symbols stamps depth stamp now clocks count ages e₀ e = count - e
 
 module _ (t : ℕ) where
+  -- after the delay, the least run is that over all edges
+  from-event :
+      (c : lts.After-after-delay (claims t) (here t) own.Post Inv-loop μ-loop)
+      → let a = c .before .before .before .before .before .before .before .before .args in
+      let g = a .given in
+      leastAt (g .head) (a .edges .now) (g .grain) (a .symbols .now) (a .stamps .now) (a .depth) (a .last .0) (a .from)
+      ≡ tryFrom (g .head) (a .edges .now) (g .grain) (a .symbols .now) (a .stamps .now) (a .depth)
+      (c .after-delay .result)
+      0
+  from-event c =
+      let stamp = c .before .before in
+      let test = stamp .before in
+      let s = test .before .before .before .before .before in
+      let a = s .args in
+      let g = a .given in
+      at-event (g .head) (a .edges .now) (g .grain) (a .symbols .now) (a .stamps .now) (a .depth) (a .last .0) _
+      (a .from)
+      _
+      (s .pre .1)
+      (test .if1 .left)
+      (omega (arith, stamp .shared-slice-known4 .given (a .depth)))
+      (c .before .since .ensures)
+      (c .after-delay .ensures)
+
   has-location-requires : lts.Need-has-location-requires (claims t) (here t) own.Post Inv-loop μ-loop
   has-location-requires c κs = search needs
 
@@ -106,14 +133,13 @@ module _ (t : ℕ) where
   wide32-requires : lts.Need-wide32-requires (claims t) (here t) own.Post Inv-loop μ-loop
   wide32-requires c κs = search needs
 
-  cast-count : lts.Need-cast-count (claims t) (here t) own.Post Inv-loop μ-loop
-  cast-count c = search needs
-
   loop-holds : lts.Need-loop-holds (claims t) (here t) own.Post Inv-loop μ-loop
   loop-holds c =
-      let test = c .before .before .before .before .before .before in (
-        omega (arith, test .before .before .before .before .before .pre .1 .events-most, test .if1 .left),
-        trying-start _ _ _ _ _ _ _ _ _ (c .before .before .wide32 .ensures .0) (search needs),
+      let test = c .before .before .before .before .before in
+      let ready = test .before .before .before .before .before .pre .1 in (
+        omega (arith, ready .events-most, test .if1 .left),
+        ready .edges-most,
+        trying-start _ _ _ _ _ _ _ _ (c .before .wide32 .ensures .0),
       )
 
   mul-leaves : lts.Need-mul-leaves (claims t) (here t) own.Post Inv-loop μ-loop
@@ -136,65 +162,61 @@ module _ (t : ℕ) where
 
   least-from-requires : lts.Need-least-from-requires (claims t) (here t) own.Post Inv-loop μ-loop
   least-from-requires c κs =
-      let early = c .before .before .before .before .before .before .before .before .before in
-      let test = early .before .before .before .before .before in
+      let at = c .before .before .before .before .before .before .before in
+      let waited = at .before .before .before in
+      let stamp = waited .before .before in
+      let test = stamp .before in
       let s = test .before .before .before .before .before in
       let a = s .args in (
         omega (arith, s .pre .0, test .if1 .left),
         next-ready (a .given .head) (a .edges .now) (a .symbols .now) (a .stamps .now) (a .depth) (a .last .0) _
-            (c .before .before .before .before .before .before .before .loop .e)
+            (at .loop .e)
             (a .from)
             _
             _
             (s .pre .1)
             (test .if1 .left)
-            (omega (arith, early .before .before .before .before .shared-slice-known4 .given (a .depth)))
-            (early .before .before .before .since .ensures)
-            (early .before .before .after-delay .ensures)
+            (omega (arith, stamp .shared-slice-known4 .given (a .depth)))
+            (waited .before .since .ensures)
+            (waited .after-delay .ensures)
             (c .after-edge .ensures),
       )
+
+  cast-with-edge : lts.Need-cast-with-edge (claims t) (here t) own.Post Inv-loop μ-loop
+  cast-with-edge c = search needs
 
   with-edge-requires : lts.Need-with-edge-requires (claims t) (here t) own.Post Inv-loop μ-loop
   with-edge-requires c κs = search needs
 
   returns-2 : lts.Need-returns-2 (claims t) (here t) own.Post Inv-loop μ-loop
   returns-2 c =
-      let looped = c .before .before .before .before .before .before .before .before .before .before in
-      let l = looped .loop in
-      let early = looped .before .before .before in
-      let test = early .before .before .before .before in
-      let s = test .before .before .before .before .before in
-      let a = s .args in
-      let g = a .given in
-      let now-is = early .before .after-delay .result in
+      let run = c .before .before in
+      let moved = run .before in
+      let guarded = moved .before .before in
+      let left = guarded .before .before in
+      let test = left .before .before in
+      let l = test .before .loop in
+      let clocks = test .before .before .before in
+      let waited = clocks .before in
+      let a = waited .before .before .before .before .before .before .before .before .args in
+      let now-is = waited .after-delay .result in
       let can =
-      guard-decides (g .grain) (early .wide32 .result) _ now-is (edgeAt (l .e) (a .edges .now)) _
-      (c .before .before .before .before .before .before .before .leaves .ensures)
+      guard-decides (a .given .grain) (clocks .wide32 .result) _ now-is (edgeAt (l .e) (a .edges .now)) _
+      (left .leaves .ensures)
       _
-      (c .before .before .before .before .before .before .if2 .taken)
-      (c .before .before .before .before .before .guard-holds .ensures) in
+      (guarded .before .if2 .taken)
+      (guarded .guard-holds .ensures) in
       let found =
-      trying-found _ _ _ _ _ _ now-is (l .inv .1)
-      (c .before .before .before .before .before .before .before .before .before .loop-test .taken)
-      (c .before .before .before .after-edge .result)
-      (c .before .before .before .after-edge .ensures)
+      trying-found _ _ _ _ _ _ now-is (l .inv .2) (test .loop-test .taken) (moved .after-edge .result)
+      (moved .after-edge .ensures)
       _
-      (c .before .before .least-from .result)
+      (run .least-from .result)
       (l .inv .0)
       can
-      (c .before .before .before .before .if3 .taken)
-      (c .before .before .least-from .ensures)
+      (moved .before .if3 .taken)
+      (run .least-from .ensures)
       (c .before .if4 .taken) in
-      let from-here =
-      at-event (g .head) (a .edges .now) (g .grain) (a .symbols .now) (a .stamps .now) (a .depth) (a .last .0) _
-      (a .from)
-      _
-      (s .pre .1)
-      (test .if1 .left)
-      (omega (arith, early .before .before .before .shared-slice-known4 .given (a .depth)))
-      (early .before .before .since .ensures)
-      (early .before .after-delay .ensures) in
-      c .with-edge .ensures ∙ (found ∙ ap (λ (p : Path). placed (a .depth) p) (sym from-here))
+      c .with-edge .ensures ∙ (found ∙ ap (λ (p : Path). placed (a .depth) p) (sym (from-event waited)))
 
   add-e : lts.Need-add-e (claims t) (here t) own.Post Inv-loop μ-loop
   add-e c = search needs
@@ -204,32 +226,34 @@ module _ (t : ℕ) where
 
   loop-again : lts.Need-loop-again (claims t) (here t) own.Post Inv-loop μ-loop
   loop-again c =
-      let l = c .before .before .before .before .loop in
-      let early = c .before .before .before .before .before .before .before in
-      let a = early .before .before .before .before .before .before .before .before .before .args in
+      let at = c .before .before .before .before in
+      let l = at .loop in
+      let waited = at .before .before .before in
+      let a = waited .before .before .before .before .before .before .before .before .args in
       let d = a .given .grain in
-      let clocks = early .wide32 .result in
-      let now-is = early .before .after-delay .result in
-      let at = edgeAt (l .e) (a .edges .now) in
+      let clocks = at .before .before .wide32 .result in
+      let now-is = waited .after-delay .result in
+      let edge = edgeAt (l .e) (a .edges .now) in
       let test = c .before .before .before .loop-test .taken in
       let left = c .before .leaves .ensures in (
         l .inv .0,
+        l .inv .1,
         ⊎-elim
             (λ w.
-            trying-stuck _ _ _ _ _ _ now-is (l .inv .1) test (w .3 .result) (w .3 .ensures) _ (w .4 .result)
-            (guard-decides d clocks _ now-is at _ left _ (w .0 .taken) (w .1 .ensures))
+            trying-stuck _ _ _ _ _ _ now-is (l .inv .2) test (w .3 .result) (w .3 .ensures) _ (w .4 .result)
+            (guard-decides d clocks _ now-is edge _ left _ (w .0 .taken) (w .1 .ensures))
             (w .2 .taken)
             (w .4 .ensures)
             (w .5 .left))
             (λ v.
             ⊎-elim
             (λ w.
-            trying-other _ _ _ _ _ _ now-is (l .inv .1) test _
-            (guard-decides d clocks _ now-is at _ left _ (w .0 .taken) (w .1 .ensures))
+            trying-other _ _ _ _ _ _ now-is (l .inv .2) test _
+            (guard-decides d clocks _ now-is edge _ left _ (w .0 .taken) (w .1 .ensures))
             (w .2 .left))
             (λ w.
-            trying-other _ _ _ _ _ _ now-is (l .inv .1) test _
-            (not-leaving d clocks _ now-is at _ left (w .left))
+            trying-other _ _ _ _ _ _ now-is (l .inv .2) test _
+            (not-leaving d clocks _ now-is edge _ left (w .left))
             (w .left))
             (v .came))
             (c .if2 .came),
@@ -240,24 +264,13 @@ module _ (t : ℕ) where
 
   returns-3 : lts.Need-returns-3 (claims t) (here t) own.Post Inv-loop μ-loop
   returns-3 c =
-      let early = c .before .before .before .before .before in
-      let test = early .before .before .before .before in
-      let s = test .before .before .before .before .before in
-      let a = s .args in
-      let g = a .given in
-      let none = trying-none _ _ _ _ _ _ _ (c .before .before .loop .inv .1) (c .before .loop-test .left) in
-      let from-here =
-      at-event (g .head) (a .edges .now) (g .grain) (a .symbols .now) (a .stamps .now) (a .depth) (a .last .0) _
-      (a .from)
-      _
-      (s .pre .1)
-      (test .if1 .left)
-      (omega (arith, early .before .before .before .shared-slice-known4 .given (a .depth)))
-      (early .before .before .since .ensures)
-      (early .before .after-delay .ensures) in
+      let at = c .before .before in
+      let waited = at .before .before .before in
+      let a = waited .before .before .before .before .before .before .before .before .args in
+      let none = trying-none _ _ _ _ _ _ _ (at .loop .inv .2) (c .before .loop-test .left) in
       c .no-edges2 .ensures
       ∙ (nowhere (a .depth) noPath (search needs) refl
-      ∙ ap (λ (p : Path). placed (a .depth) p) (sym none ∙ sym from-here))
+      ∙ ap (λ (p : Path). placed (a .depth) p) (sym none ∙ sym (from-event waited)))
 
 pub +least-from-spec : {M : Type 1} → statement M
 +least-from-spec = close μ λ t. lts.spec (claims t)
@@ -273,7 +286,6 @@ pub +least-from-spec : {M : Type 1} → statement M
     (since-requires t)
     (after-delay-requires t)
     (wide32-requires t)
-    (cast-count t)
     (loop-holds t)
     (mul-leaves t)
     (shared-slice-read-leaves t)
@@ -282,6 +294,7 @@ pub +least-from-spec : {M : Type 1} → statement M
     (after-edge-requires t)
     (add-least-from t)
     (least-from-requires t)
+    (cast-with-edge t)
     (with-edge-requires t)
     (returns-2 t)
     (add-e t)

@@ -1,9 +1,28 @@
 -- `branch::run_branches` meets its contract: the rule is checked, then the word, then the least run is looked for.
-use Rattle.model.proofs.Inputs.{rule-refused, word-refused, both-passed}
+use Rattle.model.specs.Words.{mostBranchEvents}
+use Rattle.model.proofs.Inputs.{Checked, rule-refused, word-refused, both-passed}
 use Rattle.branch.proofs.Starts.{refusal-is, begins, run-is-least}
 use borrow.Author.Needs.{needs}
 use Rattle.branch.proofs.run_branches.Statement.{statement}
 use Rattle.branch.proofs.run_branches.Tie as tie
+
+-- both checks pass
+checked :
+    (c : tie.Else2)
+    → let a = c .before .before .before .before .before .before .before .before .before .args in
+    Checked (a .head) (a .edges .now) (a .grain) mostBranchEvents (a .symbols .now) (a .stamps .now)
+checked c =
+    let word = c .before .before in
+    let left = word .before in
+    let rule = left .before .before in
+    let a = rule .before .before .before .before .args in
+    both-passed (a .head) (a .edges .now) (a .grain) mostBranchEvents (a .symbols .now) (a .stamps .now)
+    (rule .check-rule .result)
+    (word .check-word .result)
+    (rule .check-rule .ensures)
+    (word .check-word .ensures)
+    (left .if1 .left)
+    (c .if2 .left)
 
 check-rule-requires : tie.Need-check-rule-requires
 check-rule-requires c κs = search needs
@@ -13,12 +32,17 @@ no-branch-requires c κs = search needs
 
 returns : tie.Need-returns
 returns c =
-    let a = c .before .before .before .before .before .before .before .args in
-    let rule = c .before .before .before .check-rule in
-    refusal-is (a .head) (a .edges .now) (a .grain) (a .symbols .now) (a .stamps .now) (rule .result) _
-    (rule-refused (a .head) (a .edges .now) (a .grain) 12 (a .symbols .now) (a .stamps .now) (rule .result)
-    (rule .ensures) (c .before .if1 .taken))
+    let rule = c .before .before .before in
+    let a = rule .before .before .before .before .args in
+    refusal-is (a .head) (a .edges .now) (a .grain) (a .symbols .now) (a .stamps .now) (rule .check-rule .result) _
+    (rule-refused (a .head) (a .edges .now) (a .grain) mostBranchEvents (a .symbols .now) (a .stamps .now)
+    (rule .check-rule .result)
+    (rule .check-rule .ensures)
+    (c .before .if1 .taken))
     (c .no-branch .ensures)
+
+cast-check-word : tie.Need-cast-check-word
+cast-check-word c = search needs
 
 check-word-requires : tie.Need-check-word-requires
 check-word-requires c κs = search needs
@@ -28,44 +52,29 @@ no-branch-requires-2 c κs = search needs
 
 returns-2 : tie.Need-returns-2
 returns-2 c =
-    let a = c .before .before .before .before .before .before .before .before .before .before .args in
-    let rule = c .before .before .before .before .before .before .check-rule in
-    let word = c .before .before .before .check-word in
-    refusal-is (a .head) (a .edges .now) (a .grain) (a .symbols .now) (a .stamps .now) (word .result) _
-    (word-refused (a .head) (a .edges .now) (a .grain) 12 (a .symbols .now) (a .stamps .now) (rule .result)
-    (word .result)
-    (rule .ensures)
-    (word .ensures)
-    (c .before .before .before .before .if1 .left)
+    let word = c .before .before .before in
+    let left = word .before in
+    let rule = left .before .before in
+    let a = rule .before .before .before .before .args in
+    refusal-is (a .head) (a .edges .now) (a .grain) (a .symbols .now) (a .stamps .now) (word .check-word .result) _
+    (word-refused (a .head) (a .edges .now) (a .grain) mostBranchEvents (a .symbols .now) (a .stamps .now)
+    (rule .check-rule .result)
+    (word .check-word .result)
+    (rule .check-rule .ensures)
+    (word .check-word .ensures)
+    (left .if1 .left)
     (c .before .if2 .taken))
     (c .no-branch2 .ensures)
 
 least-start-requires : tie.Need-least-start-requires
 least-start-requires c κs =
     let a = c .before .before .before .before .before .before .before .before .before .args in
-    let rule = c .before .before .before .before .before .check-rule in
-    let word = c .before .before .check-word in
-    begins (a .head) (a .edges .now) (a .grain) (a .symbols .now) (a .stamps .now)
-    (both-passed (a .head) (a .edges .now) (a .grain) 12 (a .symbols .now) (a .stamps .now) (rule .result)
-    (word .result)
-    (rule .ensures)
-    (word .ensures)
-    (c .before .before .before .if1 .left)
-    (c .if2 .left))
+    begins (a .head) (a .edges .now) (a .grain) (a .symbols .now) (a .stamps .now) (checked c)
 
 returns-3 : tie.Need-returns-3
 returns-3 c =
     let a = c .before .before .before .before .before .before .before .before .before .before .args in
-    let rule = c .before .before .before .before .before .before .check-rule in
-    let word = c .before .before .before .check-word in
-    run-is-least (a .head) (a .edges .now) (a .grain) (a .symbols .now) (a .stamps .now)
-    (both-passed (a .head) (a .edges .now) (a .grain) 12 (a .symbols .now) (a .stamps .now) (rule .result)
-    (word .result)
-    (rule .ensures)
-    (word .ensures)
-    (c .before .before .before .before .if1 .left)
-    (c .before .if2 .left))
-    _
+    run-is-least (a .head) (a .edges .now) (a .grain) (a .symbols .now) (a .stamps .now) (checked (c .before)) _
     (c .least-start .ensures)
 
 pub run-branches-spec : {M : Type 1} → statement M
@@ -75,6 +84,7 @@ run-branches-spec =
     check-rule-requires
     no-branch-requires
     returns
+    cast-check-word
     check-word-requires
     no-branch-requires-2
     returns-2

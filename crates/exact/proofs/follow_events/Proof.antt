@@ -68,13 +68,16 @@ shared-slice-read-by-configs c = search needs
 
 by-configs-requires : tie.Need-by-configs-requires Inv-loop μ-loop
 by-configs-requires c κs =
-    let a = c .before .before .before .before .before .before .before .before .before .before .before .args in
-    let l = c .before .before .before .before .before .loop in
+    let since = c .before .before in
+    let test = since .before .before in
+    let at = test .before in
+    let a = at .before .before .before .before .before .before .args in
+    let l = at .loop in
     step-ready (a .head) (a .edges .now) (a .grain) (a .symbols .now) (a .stamps .now) (a .room) (l .inv .2)
-    (c .before .before .before .before .loop-test .taken) _ _
+    (test .loop-test .taken) _ _
     (to-known (a .room) _ _ (l .from) (l .inv .0))
-    (c .before .before .since .ensures)
-    (omega (arith, c .before .before .before .shared-slice-known4 .given (l .i)))
+    (since .since .ensures)
+    (omega (arith, since .before .shared-slice-known4 .given (l .i)))
 
 enum-known-added : tie.Need-enum-known-added Inv-loop μ-loop
 enum-known-added c = search needs
@@ -90,26 +93,26 @@ full-requires c κs = search needs
 
 same-length : tie.Need-same-length Inv-loop μ-loop
 same-length c =
-    c .before .before .before .before .before .by-configs .kept .1 .1 .1 .1 .1 .0 ∙
-    c .before .before .before .before .before .before .before .before .before .before .before .loop .inv .2 .length-is
+    let made = c .before .before .before .before .before in
+    made .by-configs .kept .1 .1 .1 .1 .1 .0
+    ∙ made .before .before .before .before .before .before .loop .inv .2 .length-is
 
 returns : tie.Need-returns Inv-loop μ-loop
 returns c =
-    let early = c .before .before .before .before .before .before .before .before .before .before in
-    let a = early .before .before .before .before .before .before .before .args in
-    let l = early .before .loop in
-    let made = c .before .before .before .before .before .by-configs in
+    let made = c .before .before .before .before .before in
+    let since = made .before .before .before in
+    let test = since .before .before in
+    let at = test .before in
+    let a = at .before .before .before .before .before .before .args in
+    let l = at .loop in
     running-full (a .head) (a .edges .now) (a .grain) (a .symbols .now) (a .stamps .now) (a .room) (l .inv .2)
-    (early .loop-test .taken) _ _
+    (test .loop-test .taken) _ _
     (to-known (a .room) _ _ (l .from) (l .inv .0))
-    (c .before .before .before .before .before .before .before .before .since .ensures)
-    (omega (
-      arith,
-      c .before .before .before .before .before .before .before .before .before .shared-slice-known4 .given (l .i),
-    ))
+    (since .since .ensures)
+    (omega (arith, since .before .shared-slice-known4 .given (l .i)))
     _
-    (made .result)
-    (made .ensures)
+    (made .by-configs .result)
+    (made .by-configs .ensures)
     _
     (c .before .enum-told .given .1)
     (c .full .ensures)
@@ -122,25 +125,24 @@ loop-less c = search needs
 
 loop-again : tie.Need-loop-again Inv-loop μ-loop
 loop-again c =
-    let early = c .before .before .before .before .before .before .before .before .before .before in
-    let a = early .before .before .before .before .before .before .before .args in
-    let l = early .before .loop in
-    let made = c .before .before .before .before .before .by-configs in
+    let made = c .before .before .before .before .before in
+    let since = made .before .before .before in
+    let test = since .before .before in
+    let at = test .before in
+    let a = at .before .before .before .before .before .before .args in
+    let l = at .loop in
     let next =
     running-next (a .head) (a .edges .now) (a .grain) (a .symbols .now) (a .stamps .now) (a .room) (l .inv .2)
-    (early .loop-test .taken) _ _
+    (test .loop-test .taken) _ _
     (to-known (a .room) _ _ (l .from) (l .inv .0))
-    (c .before .before .before .before .before .before .before .before .since .ensures)
-    (omega (
-      arith,
-      c .before .before .before .before .before .before .before .before .before .shared-slice-known4 .given (l .i),
-    ))
+    (since .since .ensures)
+    (omega (arith, since .before .shared-slice-known4 .given (l .i)))
     _
-    (made .result)
-    (made .ensures)
+    (made .by-configs .result)
+    (made .by-configs .ensures)
     _
     (c .before .added .given .1)
-    (made .kept .1 .1 .1 .1 .1 .0) in
+    (made .by-configs .kept .1 .1 .1 .1 .1 .0) in
     (l .inv .0, l .inv .1, next)
 
 some-final-requires : tie.Need-some-final-requires Inv-loop μ-loop

@@ -38,38 +38,40 @@ same-length c = c .before .before .before .before .before .start-configs .kept .
 
 returns : tie.Need-returns
 returns c =
-    let a = c .before .before .before .before .before .before .before .before .before .before .before .before .args in
-    let w = c .before .before .before .before .before .before .before .wide32 in
-    let started = c .before .before .before .before .before .start-configs in
+    let made = c .before .before .before .before .before in
+    let w = made .before .before .wide32 in
+    let a = made .before .before .before .before .before .before .before .args in
     start-full (a .head) (a .edges .now) (a .grain) (a .symbols .now) (a .stamps .now) (a .scratch .now) (w .result)
-    (w .ensures .0) _ (started .result) (started .ensures) _
+    (w .ensures .0) _ (made .start-configs .result) (made .start-configs .ensures) _
     (c .before .enum-told .given .1)
     (c .full .ensures)
 
 follow-events-requires : tie.Need-follow-events-requires
 follow-events-requires c κs =
-    let a =
-    c .before .before .before .before .before .before .before .before .before .before .before .before .before .args in
-    let w = c .before .before .before .before .before .before .before .before .wide32 in
-    let started = c .before .before .before .before .before .before .start-configs in
+    let made = c .before .before .before .before .before .before in
+    let w = made .before .before .wide32 in
+    let start = made .before .before .before .before .before .before .before in
+    let a = start .args in
     start-made (a .head) (a .edges .now) (a .grain) (a .symbols .now) (a .stamps .now) (a .scratch .now) (w .result)
-    (w .ensures .0) _ (started .result) (started .ensures) _
+    (w .ensures .0) _ (made .start-configs .result) (made .start-configs .ensures) _
     (c .before .before .started .given .1)
-    (started .kept .1 .0)
-    (c .before .before .before .before .before .before .before .before .before .before .before .before .before .pre)
+    (made .start-configs .kept .1 .0)
+    (start .pre)
 
 same-length-2 : tie.Need-same-length-2
 same-length-2 c =
-    c .before .before .follow-events .kept .1 .1 .1 .1 .1 .0 ∙
-    c .before .before .before .before .before .before .before .before .before .start-configs .kept .1 .0
+    let done = c .before .before in
+    done .follow-events .kept .1 .1 .1 .1 .1 .0
+    ∙ done .before .before .before .before .before .before .before .start-configs .kept .1 .0
 
 returns-2 : tie.Need-returns-2
 returns-2 c =
-    let early = c .before .before .before .before .before .before .before .before .before .before in
-    let a = early .before .before .before .before .before .before .args in
-    let w = early .before .wide32 in
+    let done = c .before .before in
+    let made = done .before .before .before .before .before .before .before in
+    let w = made .before .before .wide32 in
+    let a = made .before .before .before .before .before .before .before .args in
     answered (a .head) (a .edges .now) (a .grain) (a .symbols .now) (a .stamps .now) (a .scratch .now) (w .result)
-    (w .ensures .0) _ (c .before .before .follow-events .ensures)
+    (w .ensures .0) _ (done .follow-events .ensures)
 
 pub run-events-spec : {M : Type 1} → statement M
 run-events-spec =

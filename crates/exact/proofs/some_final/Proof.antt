@@ -21,8 +21,8 @@ add-width c = search needs
 loop-holds : tie.Need-loop-holds Inv-loop μ-loop
 loop-holds c = (search needs, search needs, passing _ _ _ _ _)
 
-number-in-requires : tie.Need-number-in-requires Inv-loop μ-loop
-number-in-requires c κs = search needs
+entry-at-requires : tie.Need-entry-at-requires Inv-loop μ-loop
+entry-at-requires c κs = search needs
 
 has-location-requires : tie.Need-has-location-requires Inv-loop μ-loop
 has-location-requires c κs = search needs
@@ -30,7 +30,7 @@ has-location-requires c κs = search needs
 returns : tie.Need-returns Inv-loop μ-loop
 returns c =
     pass-found (c .before .before .before .before .loop .inv .2) (c .before .before .before .loop-test .taken) _ _
-    (c .before .before .number-in .ensures)
+    (c .before .before .entry-at .ensures)
     (c .before .has-location .ensures)
     (c .if1 .taken)
 
@@ -56,7 +56,7 @@ loop-again c =
     let l = c .before .before .before .before .loop in (
       l .inv .0,
       l .inv .1,
-      passing-next (l .inv .2) (c .before .before .before .loop-test .taken) _ _ (c .before .before .number-in .ensures)
+      passing-next (l .inv .2) (c .before .before .before .loop-test .taken) _ _ (c .before .before .entry-at .ensures)
           (c .before .has-location .ensures)
           _
           (ap (λ (x : ℕ). l .at + x) (l .inv .0))
@@ -74,7 +74,7 @@ some-final-spec =
     μ-loop
     add-width
     loop-holds
-    number-in-requires
+    entry-at-requires
     has-location-requires
     returns
     add-at

@@ -3,6 +3,7 @@ use mathlib.Core.Path.{_≡_}
 use Prim.Native.Nat.{_+_, _-_, _*_, _≤_}
 use native.Mathlib.Omega.{arith}
 use lib.ListN.{length}
+use Rattle.model.specs.Rules.{mostClocks}
 use Rattle.ages.specs.Ages.{configOf}
 use Rattle.exact.proofs.Adding.{Looking, looking, looking-next, look-found, look-none, within-bank}
 use borrow.Author.Needs.{needs}
@@ -11,7 +12,7 @@ use Rattle.exact.proofs.bank.has_config.Tie as tie
 
 abbrev Inv-loop : tie.InvT-loop
 Inv-loop bank clocks n c width at₀ i₀ at i =
-    (clocks ≤ 4) × (width ≡ clocks + 1) × (n * (clocks + 1) ≤ length bank)
+    (clocks ≤ mostClocks) × (width ≡ clocks + 1) × (n * (clocks + 1) ≤ length bank)
     × Looking clocks n i at (configOf clocks c) bank
 
 abbrev μ-loop : tie.MeasureT-loop

@@ -76,14 +76,13 @@ part-by-edges-end c =
 
 by-edges-requires : tie.Need-by-edges-requires Inv-loop μ-loop
 by-edges-requires c κs =
-    let a = c .before .before .before .before .before .before .before .before .before .args in
-    let l = c .before .before .before .before .before .loop in
-    let w = c .before .before .before .before .before .before .wide32 in (
-      l .inv .2 .edges-most,
-      part-ready (a .head) (a .edges .now) (a .grain) (a .symbol) (a .delay .0) (a .room) (a .from) (a .n) (a .to)
-          (l .inv .2) (c .before .before .before .before .loop-test .taken) _
-          (span-known (a .to) (a .room) (w .result) _ (w .ensures .0)),
-    )
+    let test = c .before .before .before .before in
+    let at = test .before in
+    let w = at .before .wide32 in
+    let a = at .before .before .before .before .args in
+    part-ready (a .head) (a .edges .now) (a .grain) (a .symbol) (a .delay .0) (a .room) (a .from) (a .n) (a .to)
+    (at .loop .inv .2) (test .loop-test .taken) _
+    (span-known (a .to) (a .room) (w .result) _ (w .ensures .0))
 
 enum-known-added : tie.Need-enum-known-added Inv-loop μ-loop
 enum-known-added c = search needs
@@ -96,36 +95,37 @@ same-length c = search needs
 
 returns : tie.Need-returns Inv-loop μ-loop
 returns c =
-    let early = c .before .before .before .before .before .before .before .before .before .before in
-    let a = early .before .before .before .before .args in
-    let l = early .loop in
-    let w = early .before .wide32 in
-    let was = c .before .before .before .before .before .before .before .load in
-    let after = c .before .before .before .before .before .before .after-delay in
-    let made = c .before .before .before .before .by-edges in
+    let made = c .before .before .before .before in
+    let after = made .before .before in
+    let was = after .before in
+    let test = was .before .before in
+    let at = test .before in
+    let w = at .before .wide32 in
+    let a = at .before .before .before .before .args in
     moving-full (a .head) (a .edges .now) (a .grain) (a .symbol) (a .delay .0) (a .room) (a .from) (a .n) (a .to)
-    (l .inv .2) (c .before .before .before .before .before .before .before .before .before .loop-test .taken)
-    (was .result) (after .result) (was .ensures) (after .ensures) _
+    (at .loop .inv .2) (test .loop-test .taken) (was .load .result) (after .after-delay .result) (was .load .ensures)
+    (after .after-delay .ensures) _
     (span-known (a .to) (a .room) (w .result) _ (w .ensures .0))
     _
-    (made .result)
-    (made .ensures)
-    (made .kept .1 .1 .1 .1 .1 .0)
+    (made .by-edges .result)
+    (made .by-edges .ensures)
+    (made .by-edges .kept .1 .1 .1 .1 .1 .0)
     (c .enum-told .given .1)
 
 add-at : tie.Need-add-at Inv-loop μ-loop
 add-at c =
-    let early = c .before .before .before .before .before .before .before .before .before .before in
-    let a = early .before .before .before .before .before .args in
-    let l = early .before .loop in
+    let test = c .before .before .before .before .before .before .before .before .before .before in
+    let l = test .before .loop in
+    let start = test .before .before .before .before .before in
+    let a = start .args in
     omega (
       arith,
-      early .before .before .before .before .before .good .1 .1 .1 .1 .1 .0,
+      start .good .1 .1 .1 .1 .1 .0,
       l .inv .0,
       l .inv .2 .length-is,
       place-in (a .head) (a .edges .now) (a .grain) (a .symbol) (a .delay .0)
           (a .room) (a .from) (a .n) (a .to) (l .inv .2)
-          (early .loop-test .taken),
+          (test .loop-test .taken),
     )
 
 add-i : tie.Need-add-i Inv-loop μ-loop
@@ -136,24 +136,23 @@ loop-less c = search needs
 
 loop-again : tie.Need-loop-again Inv-loop μ-loop
 loop-again c =
-    let early = c .before .before .before .before .before .before .before .before .before .before in
-    let a = early .before .before .before .before .before .args in
-    let l = early .before .loop in
-    let w = early .before .before .wide32 in
-    let was = c .before .before .before .before .before .before .before .before .load in
-    let after = c .before .before .before .before .before .before .before .after-delay in
-    let made = c .before .before .before .before .before .by-edges in (
+    let made = c .before .before .before .before .before in
+    let after = made .before .before in
+    let was = after .before in
+    let test = was .before .before in
+    let l = test .before .loop in
+    let w = test .before .before .wide32 in
+    let a = test .before .before .before .before .before .args in (
       l .inv .0,
       l .inv .1,
       moving-next (a .head) (a .edges .now) (a .grain) (a .symbol) (a .delay .0) (a .room) (a .from) (a .n) (a .to)
-          (l .inv .2)
-          (early .loop-test .taken)
-          (was .result) (after .result) (was .ensures) (after .ensures) _
+          (l .inv .2) (test .loop-test .taken) (was .load .result) (after .after-delay .result) (was .load .ensures)
+          (after .after-delay .ensures) _
           (span-known (a .to) (a .room) (w .result) _ (w .ensures .0))
           _
-          (made .result)
-          (made .ensures)
-          (made .kept .1 .1 .1 .1 .1 .0)
+          (made .by-edges .result)
+          (made .by-edges .ensures)
+          (made .by-edges .kept .1 .1 .1 .1 .1 .0)
           _
           _
           (c .before .added .given .1)

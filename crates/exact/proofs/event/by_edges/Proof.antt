@@ -2,7 +2,7 @@
 use Rattle.exact.proofs.Spreading.{clocks-known, roomy-known}
 use Rattle.exact.specs.declared.bank.Added.the-variants.{Count, Full}
 use mathlib.Core.Logic.{⊎-elim}
-use Prim.Native.Nat.{_-_, _≤_}
+use Prim.Native.Nat.{_-_}
 use lib.ListN.{length}
 use Rattle.exact.specs.Banks.{configsAt}
 use Rattle.exact.specs.Ready.{byEdgesOf}
@@ -14,8 +14,7 @@ use Rattle.exact.proofs.event.by_edges.Tie as tie
 
 abbrev Inv-loop : tie.InvT-loop
 Inv-loop edges grain symbol from bank₀ room n clocks count held₀ e₀ bank held e =
-    (count ≤ 256)
-    × Spreading clocks count edges grain symbol from room held e
+    Spreading clocks count edges grain symbol from room held e
     (byEdgesOf clocks count edges grain symbol from (configsAt clocks n 0 bank₀))
     (length bank₀)
     bank
@@ -26,15 +25,10 @@ abbrev μ-loop : tie.MeasureT-loop
 wide32-requires : tie.Need-wide32-requires Inv-loop μ-loop
 wide32-requires c κs = search needs
 
-cast-count : tie.Need-cast-count Inv-loop μ-loop
-cast-count c = search needs
-
 loop-holds : tie.Need-loop-holds Inv-loop μ-loop
-loop-holds c = (
-  search needs,
-  spreading _ _ _ _ _ _ _ _ _
-      (roomy-known _ _ _ _ _ (c .before .wide32 .ensures .0) (c .before .before .before .before .pre .1)),
-)
+loop-holds c =
+    spreading _ _ _ _ _ _ _ _ _
+    (roomy-known _ _ _ _ _ (c .wide32 .ensures .0) (c .before .before .before .pre))
 
 can-take-requires : tie.Need-can-take-requires Inv-loop μ-loop
 can-take-requires c κs = search needs
@@ -43,7 +37,7 @@ after-edge-requires : tie.Need-after-edge-requires Inv-loop μ-loop
 after-edge-requires c κs = search needs
 
 add-requires : tie.Need-add-requires Inv-loop μ-loop
-add-requires c κs = c .before .before .before .before .before .loop .inv .1 .roomy
+add-requires c κs = c .before .before .before .before .before .loop .inv .roomy
 
 enum-known-added : tie.Need-enum-known-added Inv-loop μ-loop
 enum-known-added c = search needs
@@ -56,23 +50,24 @@ same-length c = search needs
 
 returns : tie.Need-returns Inv-loop μ-loop
 returns c =
-    let early = c .before .before .before .before .before .before .before .before .before .before in
-    let a = early .before .before .before .before .before .args in
-    let l = early .loop in
-    let w = early .before .before .wide32 in
-    let next = c .before .before .before .before .before .before .after-edge in
-    let add = c .before .before .before .before .add in
+    let added = c .before .before .before .before in
+    let took = added .before .before in
+    let test = took .before .before in
+    let at = test .before .before in
+    let w = at .before .wide32 in
+    let a = at .before .before .before .before .args in
     let over =
-    spreading-full (w .result) (a .head .count) (a .edges .now) (a .grain) (a .symbol) (a .from) (a .room) (l .inv .1)
-    (c .before .before .before .before .before .before .before .before .before .loop-test .taken)
+    spreading-full (w .result) (a .head .count) (a .edges .now) (a .grain) (a .symbol) (a .from) (a .room)
+    (at .loop .inv)
+    (test .before .loop-test .taken)
     _
-    (c .before .before .before .before .before .before .before .before .can-take .ensures)
-    (c .before .before .before .before .before .before .before .if1 .taken)
-    (next .result)
-    (next .ensures)
+    (test .can-take .ensures)
+    (took .before .if1 .taken)
+    (took .after-edge .result)
+    (took .after-edge .ensures)
     _
-    (add .result)
-    (add .ensures)
+    (added .add .result)
+    (added .add .ensures)
     (c .enum-told .given .1) in
     clocks-known (w .result) (a .head .clocks) (a .head .count) (a .edges .now) (a .grain) (a .symbol) (a .from)
     (a .room) (a .n) (a .bank .now) (a .bank .now) Full (w .ensures .0) over
@@ -85,34 +80,33 @@ loop-less c = search needs
 
 loop-again : tie.Need-loop-again Inv-loop μ-loop
 loop-again c =
-    let a = c .before .before .before .before .before .before .before .before .args in
-    let l = c .before .before .before .loop in
-    let clocks = c .before .before .before .before .before .wide32 .result in
+    let at = c .before .before .before in
+    let a = at .before .before .before .before .args in
+    let clocks = at .before .wide32 .result in
     let test = c .before .before .loop-test .taken in
-    let can = c .before .can-take .ensures in (
-      l .inv .0,
-      ⊎-elim
-          (λ w.
-          rw (w .9, w .10)
-          (spreading-added clocks (a .head .count) (a .edges .now) (a .grain) (a .symbol) (a .from) (a .room)
-          (l .inv .1) test _ can (w .0 .taken) (w .1 .result) (w .1 .ensures) _ (w .3 .result) (w .3 .ensures) _
-          (w .7 .given .1) (w .3 .kept .0)))
-          (λ w. rw (w .1, w .2) (spreading-other clocks (a .head .count) (a .edges .now) (a .grain) (a .symbol)
-          (a .from) (a .room) (l .inv .1) test _ can (w .0 .left)))
-          (c .if1 .came),
-    )
+    let can = c .before .can-take .ensures in
+    ⊎-elim
+    (λ w.
+    rw (w .9, w .10)
+    (spreading-added clocks (a .head .count) (a .edges .now) (a .grain) (a .symbol) (a .from) (a .room)
+    (at .loop .inv) test _ can (w .0 .taken) (w .1 .result) (w .1 .ensures) _ (w .3 .result) (w .3 .ensures) _
+    (w .7 .given .1) (w .3 .kept .0)))
+    (λ w. rw (w .1, w .2) (spreading-other clocks (a .head .count) (a .edges .now) (a .grain) (a .symbol) (a .from)
+    (a .room) (at .loop .inv) test _ can (w .0 .left)))
+    (c .if1 .came)
 
 same-length-2 : tie.Need-same-length-2 Inv-loop μ-loop
 same-length-2 c = search needs
 
 returns-2 : tie.Need-returns-2 Inv-loop μ-loop
 returns-2 c =
-    let a = c .before .before .before .before .before .before .args in
-    let w = c .before .before .before .wide32 in
+    let at = c .before in
+    let a = at .before .before .before .before .args in
+    let w = at .before .wide32 in
     clocks-known (w .result) (a .head .clocks) (a .head .count) (a .edges .now) (a .grain) (a .symbol) (a .from)
     (a .room) (a .n) (a .bank .now) _ (Count _) (w .ensures .0)
     (spread-all (w .result) (a .head .count) (a .edges .now) (a .grain) (a .symbol) (a .from) (a .room)
-    (c .before .loop .inv .1) (c .loop-test .left))
+    (at .loop .inv) (c .loop-test .left))
 
 pub by-edges-spec : {M : Type 1} → statement M
 by-edges-spec =
@@ -121,7 +115,6 @@ by-edges-spec =
     Inv-loop
     μ-loop
     wide32-requires
-    cast-count
     loop-holds
     can-take-requires
     after-edge-requires
