@@ -10,6 +10,7 @@ use lib.Seq.{length-take-le}
 use borrow.Author.Tests.{lt-ltb, le-ltb, le-leb, lt-leb, eq-eqb, ne-eqb}
 use Rattle.model.specs.declared.Head.{Head}
 use Rattle.model.specs.Rules.{Atom, mostConstant, mostRelation, atomsOk, hasEqual}
+use Rattle.model.specs.Files.{atomNumbers}
 use Rattle.model.specs.Layout.{atomWidth, atomsIn}
 use Rattle.model.proofs.Logic.{or-right}
 use Rattle.model.proofs.EdgeTable.{atoms-rest}
@@ -138,6 +139,16 @@ pub unpinned-end :
 unpinned-end {count} {j} {t} resets inv h n =
     let z : count - j ≡ 0 = omega arith in
     rw (ne-eqb resets 0 n) (rw z at (inv .rest-is))
+
+-- the numbers of the atoms that were read are the numbers that stand there
+pub atom-numbers : (n : ℕ) (t : List ℕ) → atomWidth * n ≤ length t → atomNumbers (atomsIn n t) ≡ take (atomWidth * n) t
+atom-numbers zero t h = refl
+atom-numbers (suc n) [] h = absurd (omega arith)
+atom-numbers (suc n) (x ∷ []) h = absurd (omega arith)
+atom-numbers (suc n) (x ∷ y ∷ []) h = absurd (omega arith)
+atom-numbers (suc n) (x ∷ y ∷ z ∷ t) h =
+    let e : atomWidth * suc n ≡ suc (suc (suc (atomWidth * n))) = omega arith in
+    rw e (ap (λ (l : List ℕ). x ∷ y ∷ z ∷ l) (atom-numbers n t (omega arith)))
 
 -- the atoms of a part of n atoms are the first n
 atoms-taken : (n : ℕ) (t : List ℕ) → atomWidth * n ≤ length t → atomsIn n (take (atomWidth * n) t) ≡ atomsIn n t

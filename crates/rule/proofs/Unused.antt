@@ -18,6 +18,7 @@ use Rattle.model.proofs.Logic.{same-truth, same-self}
 use Rattle.model.proofs.EdgeTable.{atoms-length}
 use Rattle.model.proofs.EdgesWritten.{edge-numbers-length}
 use Rattle.edges.specs.Checks.{fieldsOk}
+use Rattle.edges.proofs.EdgeChecks.{atom-numbers}
 use Rattle.rule.specs.Checks.{allZero, unusedZero, edgeGood, edgesGood}
 
 -- two lists in two parts each
@@ -42,16 +43,6 @@ eqb-turned x y =
 same-zeros : (xs : List ℕ) → same (zeros (length xs)) xs ≡ allZero xs
 same-zeros [] = refl
 same-zeros (x ∷ xs) = ap₂ _&&_ (eqb-turned 0 x) (same-zeros xs)
-
--- the numbers of the atoms that were read are the numbers that stand there
-atom-numbers : (n : ℕ) (t : List ℕ) → atomWidth * n ≤ length t → atomNumbers (atomsIn n t) ≡ take (atomWidth * n) t
-atom-numbers zero t h = refl
-atom-numbers (suc n) [] h = absurd (omega arith)
-atom-numbers (suc n) (x ∷ []) h = absurd (omega arith)
-atom-numbers (suc n) (x ∷ y ∷ []) h = absurd (omega arith)
-atom-numbers (suc n) (x ∷ y ∷ z ∷ t) h =
-    let e : atomWidth * suc n ≡ suc (suc (suc (atomWidth * n))) = omega arith in
-    rw e (ap (λ (l : List ℕ). x ∷ y ∷ z ∷ l) (atom-numbers n t (omega arith)))
 
 -- the places of an edge's atoms: those that it has, then zeros
 abbrev atomPlaces : ℕ
