@@ -20,6 +20,7 @@ use model::MOST_SYMBOLS;
 use numbers::number_at;
 use numbers::wide32;
 
+pub mod checks;
 pub mod fields;
 
 // base ^ exponent, for a base below 65,536 and an exponent of at most 4.

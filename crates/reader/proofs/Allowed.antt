@@ -9,9 +9,9 @@ use lib.ListN.{length, drop}
 use lib.Pow.{pow-mono}
 use Rattle.model.specs.declared.Head.{Head}
 use Rattle.model.specs.Basics.{pick, filled, maskOf}
-use Rattle.model.specs.Rules.{Edge, Rule, mostAtoms, rising}
-use Rattle.model.specs.Files.{pastLast, numberAt, edgeFrom, noRule, withRecord}
-use Rattle.model.specs.Layout.{edgesNumbers, edgeTable}
+use Rattle.model.specs.Rules.{Edge, Rule, mostAtoms, mostLocations, rising}
+use Rattle.model.specs.Files.{pastLast, numberAt, recordHead, edgeFrom, noRule, withRecord}
+use Rattle.model.specs.Layout.{edgeWidth, edgesNumbers, edgeTable}
 use Rattle.model.proofs.Valid.{sizes-of}
 use Rattle.model.proofs.ValidParts.{rising-last}
 use Rattle.model.proofs.MaskSets.{mask-last, mask-below}
@@ -21,7 +21,10 @@ use Rattle.model.proofs.FileRecords.{Location-allowed, Ceiling-allowed, Edge-al
 use Rattle.model.proofs.FileRecords.{ceiling, edge}
 use Rattle.model.proofs.FileSoFar.{So-far, sizes-so-far, record-so-far, atoms-from-length}
 use Rattle.reader.specs.declared.Cursor.{Cursor}
+use Rattle.reader.specs.Bodies.{numberBytes, fieldsBody, atomBody}
 use Rattle.reader.specs.State.{tableWith, Body, Room, Takes, Stage, none, some, State}
+use Rattle.reader.proofs.BodyNumbers.{numbers-length}
+use Rattle.reader.proofs.FaultLaws.{body-edge-is}
 use Rattle.reader.proofs.Tables.{next-zero, table-more}
 
 -- which kind it is
@@ -92,28 +95,33 @@ after-so-far last r kind n body s (ceiling e a) =
 after-so-far last r kind n body s (edge e a) =
     record-so-far last r (seen last r s (a .sizes-seen)) kind n body (edge e a)
 
-numbers-wide : (last : ℕ) (r : Rule) → Stage last r → length (edgesNumbers (r .edges)) ≡ 29 * length (r .edges)
+numbers-wide : (last : ℕ) (r : Rule) → Stage last r → length (edgesNumbers (r .edges)) ≡ edgeWidth * length (r .edges)
 unfolding edgesNumbers
 numbers-wide last r (none e) = rw e
 numbers-wide last r (some s) = edges-numbers-length r (r .edges) (s .parts .edges-ok)
 
 -- a location's mask fits
 location-fits :
-    (l : ℕ) (xs : List ℕ) (x m : ℕ) → l ≤ 32 → rising 0 l xs ≡ true → pastLast xs ≤ x → x < l → m ≡ maskOf xs
-    → (x < 32) × (m + 2 ^ x < 2 ^ 32)
+    (l : ℕ) (xs : List ℕ) (x m : ℕ) → l ≤ mostLocations → rising 0 l xs ≡ true → pastLast xs ≤ x → x < l → m ≡ maskOf xs
+    → (x < mostLocations) × (m + 2 ^ x < 2 ^ 32)
 location-fits l xs x m a b c d e = (
   omega arith,
-  omega (arith, mask-below l (xs ++ (x ∷ [])) (rising-last l xs x b c d), mask-last xs x, pow-mono {i = l} {j = 32} a),
+  omega (
+    arith,
+    mask-below l (xs ++ (x ∷ [])) (rising-last l xs x b c d),
+    mask-last xs x,
+    pow-mono {i = l} {j = mostLocations} a,
+  ),
 )
 
 module _ {r : Rule} {c : Cursor} {t : List ℕ} (state : State r c t) {kind n : ℕ} {body : List ℕ}
     (allowed : Allowed (c .last) r kind n body) where
-  locations-most : 1 ≤ r .locations → r .locations ≤ 32
+  locations-most : 1 ≤ r .locations → r .locations ≤ mostLocations
   locations-most h =
       sizes-of (r .locations) (r .symbols) (r .clocks) (seen (c .last) r (state .stage) h .parts .sizes) .locations-most
 
-  pub room-for : Body kind n body → c .at + (4 + n) < 2 ^ 64 → Room c kind n body t
-  room-for b next = record {
+  pub room-for : {v : List ℕ} → Body kind n body v → c .at + (recordHead + n) < 2 ^ 64 → Room c kind n body v t
+  room-for {v} b next = record {
     kind-least = kind-least allowed;
     kind-most = kind-most allowed;
     next = next;
@@ -133,15 +141,16 @@ module _ {r : Rule} {c : Cursor} {t : List ℕ} (state : State r c t) {kind n : 
     edge = λ k.
         let a = is-edge allowed k in
         let count-is : c .head .count ≡ length (r .edges) = ap (λ (h : Head). h .count) (state .holds .head-is) in
-        let wide = numbers-wide (c .last) r (state .stage) ∙ ap (λ (m : ℕ). 29 * m) (sym count-is) in
+        let wide = numbers-wide (c .last) r (state .stage) ∙ ap (λ (m : ℕ). edgeWidth * m) (sym count-is) in
+        let counted = ap length (b .numbers-are) ∙ numbers-length (n / numberBytes) body in
         record {
-          size-least = a .length-least;
-          size-most = a .length-most;
-          whole = b .whole;
+          least = omega (arith, counted, a .length-least);
+          most = omega (arith, counted, a .length-most);
           few = omega (arith, a .room);
           long = state .long;
           zero = next-zero r t (c .head .count) wide (state .table-is) (omega (arith, a .room, state .long));
         };
+    edge-is = body-edge-is b;
   }
 
 -- the table after a record
@@ -160,9 +169,9 @@ table-after last r count t t′ kind n body s c is q (initial e a) = rw e ((rw e
 table-after last r count t t′ kind n body s c is q (final e a) = rw e ((rw e at q) ∙ is)
 table-after last r count t t′ kind n body s c is q (ceiling e a) = rw e ((rw e at q) ∙ is)
 table-after last r count t t′ kind n body s c is q (edge e a) =
-    let wide = numbers-wide last r s ∙ ap (λ (m : ℕ). 29 * m) (sym c) in
+    let wide = numbers-wide last r s ∙ ap (λ (m : ℕ). edgeWidth * m) (sym c) in
     let few : length (edgeFrom n body .atoms) ≤ mostAtoms =
-    omega (arith, atoms-from-length ((n - 8) / 6) (drop 8 body), a .length-most) in
+    omega (arith, atoms-from-length ((n - fieldsBody) / atomBody) (drop fieldsBody body), a .length-most) in
     rw e ((rw e at q) ∙ table-more r t count wide is (edgeFrom n body) few)
 
 -- cursor and table after a record

@@ -10,7 +10,7 @@ use borrow.Author.Tests.{le-leb, lt-ltb, le-ltb, eq-eqb, ne-eqb}
 use Rattle.model.specs.declared.Head.{Head}
 use Rattle.model.specs.declared.Reading.{Reading}
 use Rattle.model.specs.Basics.{zeros, maskOf, Refusal, refusal, passes}
-use Rattle.model.specs.Rules.{Rule, cm, pairCount}
+use Rattle.model.specs.Rules.{Rule, cm, mostClocks, mostConstant, mostLocations, mostPairs, pairCount}
 use Rattle.model.specs.Files.{noRule, Spelt, unspelt, endRefusal, atEnd, readRule}
 use Rattle.model.specs.Layout.{edgeNeed, headOf, noHead, edgesNumbers, edgeTable, ruleIn}
 use Rattle.model.specs.Promises.{readRefusal, readingOf, ReadsRule}
@@ -150,13 +150,14 @@ module _ {r : Rule} {c : Cursor} {t : List ℕ} (state : State r c t) where
         q
         ∙ rw (
           spells,
-          le-leb (c .head .locations) 32 (omega (arith, locations-is, sized .locations-most)),
-          le-leb (c .head .clocks) 4 (omega (arith, sized .clocks-most)),
-          le-leb (cm r) 30 (parts-top r v),
+          le-leb (c .head .locations) mostLocations (omega (arith, locations-is, sized .locations-most)),
+          le-leb (c .head .clocks) mostClocks (omega (arith, sized .clocks-most)),
+          le-leb (cm r) mostConstant (parts-top r v),
         )
 
     pub ends-too-many :
-        {p : ℕ} {x : Reading} → p ≡ smallPairs (c .head) t → 65536 < p → RefusedAt 8 (c .at) x → Finishes r (c .at) x
+        {p : ℕ} {x : Reading} → p ≡ smallPairs (c .head) t → mostPairs < p → RefusedAt 8 (c .at) x
+        → Finishes r (c .at) x
     ends-too-many e m q = record {
       answer-is =
           q .answer-is
@@ -166,7 +167,7 @@ module _ {r : Rule} {c : Cursor} {t : List ℕ} (state : State r c t) where
     }
 
     pub ends-read :
-        {p : ℕ} → p ≡ smallPairs (c .head) t → p ≤ 65536
+        {p : ℕ} → p ≡ smallPairs (c .head) t → p ≤ mostPairs
         → Finishes r (c .at) (record { number = 0; place = 0; head = c .head })
     ends-read e m = record {
       answer-is =

@@ -2,20 +2,23 @@
 use mathlib.Core.Path.{_≡_, refl, _∙_, ap, ap₂}
 use mathlib.Core.Bool.{Bool, true, false, _||_, not}
 use mathlib.Core.List.{List}
-use Prim.Native.Nat.{ℕ, _-_, _/_, _^_, _≤_, _<_}
+use Prim.Native.Nat.{ℕ, _-_, _/_, _≤_, _<_}
 use native.Mathlib.Omega.{arith}
 use lib.Dec.{eqb, ltb, leb}
-use lib.ListN.{length, take, drop}
+use lib.ListN.{length, getD, take, drop}
 use borrow.Author.Tests.{lt-ltb, le-ltb, le-leb, lt-leb, ne-eqb}
 use Rattle.model.specs.declared.Head.{Head}
-use Rattle.model.specs.Rules.{Rule, edgeOk, atomsOk, hasEqual}
-use Rattle.model.specs.Files.{numberAt, edgeBody, bodyOk, atomsFrom, edgeFrom, outOfOrder, oneTooMany, badSizes}
+use Rattle.model.specs.Rules.{Edge, Rule, mostConstant, edgeOk, atomsOk, hasEqual, integerReset}
+use Rattle.model.specs.Files.{numberAt, edgeBody, bodyOk, edgeFrom, outOfOrder, oneTooMany, badSizes}
 use Rattle.model.specs.Files.{outOfRange, notPinned}
-use Rattle.model.specs.Layout.{headOf}
+use Rattle.model.specs.Layout.{atomWidth, atomsIn, headOf}
 use Rattle.numbers.proofs.Answers.{failed, passed}
 use Rattle.numbers.proofs.Parts.{part-rest}
+use Rattle.edges.specs.Checks.{fieldsOk}
 use Rattle.reader.specs.declared.Cursor.{Cursor}
-use Rattle.reader.specs.State.{Holds, numbered, bodyRefusal}
+use Rattle.reader.specs.Bodies.{numberBytes, sizesBody, bodyFields, edgeSpelt}
+use Rattle.reader.specs.State.{Holds, numbered, bodyRefusal, Body}
+use Rattle.reader.proofs.BodyNumbers.{numbers-length, edge-spelt}
 
 or-none : (a : Bool) → a ≡ (a || false)
 or-none true = refl
@@ -23,10 +26,10 @@ or-none false = refl
 
 -- 2: the kinds and their lengths
 module _ (kind n : ℕ) where
-  pub body-sizes : kind ≡ 1 → eqb n 6 ≡ bodyOk kind n
+  pub body-sizes : kind ≡ 1 → eqb n sizesBody ≡ bodyOk kind n
   body-sizes e = rw e
 
-  pub body-one : 2 ≤ kind → kind ≤ 4 → eqb n 2 ≡ bodyOk kind n
+  pub body-one : 2 ≤ kind → kind ≤ 4 → eqb n numberBytes ≡ bodyOk kind n
   body-one a b = rw (ne-eqb kind 1 (λ e. omega arith), le-leb 2 kind a, le-leb kind 4 b)
 
   pub body-edge : {x : Bool} → kind ≡ 5 → x ≡ edgeBody n → x ≡ bodyOk kind n
@@ -80,6 +83,21 @@ module _ (c : Cursor) (r : Rule) (h : Holds r c) (kind : ℕ) (body : List ℕ) 
         order-other not-2 not-3 not-4 =
             rw (ne-eqb kind 1 other, seen, rises, ne-eqb kind 2 not-2, ne-eqb kind 3 not-3, ne-eqb kind 4 not-4)
 
+-- the edge that a body's numbers spell
+pub body-edge-is :
+    {kind n : ℕ} {body v : List ℕ} → Body kind n body v → kind ≡ 5 → edgeSpelt v ≡ edgeFrom n body
+body-edge-is {kind} {n} {body} b e = ap edgeSpelt (b .numbers-are) ∙ edge-spelt n body (b .edge-least e)
+
+pub body-fields : {kind n : ℕ} {body v : List ℕ} → Body kind n body v → kind ≡ 5 → bodyFields ≤ length v
+body-fields {kind} {n} {body} b e =
+    omega (arith, ap length (b .numbers-are), numbers-length (n / numberBytes) body, b .edge-least e)
+
+-- 7: pinned resets
+pub pinned-is :
+    {kind n : ℕ} {body v : List ℕ} → Body kind n body v → kind ≡ 5 → {x : Bool} → x ≡ integerReset (edgeSpelt v)
+    → not x ≡ notPinned kind n body
+pinned-is b e q = rw e (ap not q ∙ ap (λ (y : Edge). not (integerReset y)) (body-edge-is b e))
+
 -- 6: the ranges of a record's numbers
 module _ (h : Head) (r : Rule) (h-is : h ≡ headOf r) (kind n : ℕ) (body : List ℕ) where
   pub range-location :
@@ -96,11 +114,13 @@ module _ (h : Head) (r : Rule) (h-is : h ≡ headOf r) (kind n : ℕ) (body : Li
       )
       (or-none _ ∙ or-none _)
 
-  pub range-ceiling : (x : ℕ) → kind ≡ 4 → x ≡ numberAt 0 body → ltb 30 x ≡ outOfRange r kind n body
+  pub range-ceiling : (x : ℕ) → kind ≡ 4 → x ≡ numberAt 0 body → ltb mostConstant x ≡ outOfRange r kind n body
   range-ceiling x e x-is = rw (e, x-is) (or-none _)
 
-  pub range-edge : {x : Bool} → kind ≡ 5 → x ≡ edgeOk r (edgeFrom n body) → not x ≡ outOfRange r kind n body
-  range-edge e q = rw (e, q)
+  pub range-edge :
+      {x : Bool} {v : List ℕ} → Body kind n body v → kind ≡ 5 → x ≡ edgeOk r (edgeSpelt v)
+      → not x ≡ outOfRange r kind n body
+  range-edge b e q = rw e (ap not q ∙ ap (λ (y : Edge). not (edgeOk r y)) (body-edge-is b e))
 
   module _ (not-4 : kind ≡ 4 → ⊥) (not-5 : kind ≡ 5 → ⊥) where
     pub range-low : kind < 2 → false ≡ outOfRange r kind n body
@@ -109,67 +129,29 @@ module _ (h : Head) (r : Rule) (h-is : h ≡ headOf r) (kind n : ℕ) (body : Li
     pub range-high : 2 ≤ kind → 3 < kind → false ≡ outOfRange r kind n body
     range-high a b = rw (le-leb 2 kind a, lt-leb kind 3 b, ne-eqb kind 4 not-4, ne-eqb kind 5 not-5)
 
--- an edge's numbers, tested in the definition's order
-module _
-    (h : Head) (r : Rule) (h-is : h ≡ headOf r) (n : ℕ) (body : List ℕ) (l : ℕ) (l-is : l ≡ h .locations) (x : ℕ)
-    (x-is : x ≡ numberAt 0 body)
-  where
-    locations-known : l ≡ r .locations
-    locations-known = l-is ∙ ap (λ (y : Head). y .locations) h-is
+-- an edge's numbers, by its checks
+module _ (h : Head) (r : Rule) (h-is : h ≡ headOf r) (v : List ℕ) {x : Bool} (fields : x ≡ fieldsOk h v) where
+  fields-known : x ≡ fieldsOk (headOf r) v
+  fields-known = fields ∙ ap (λ (y : Head). fieldsOk y v) h-is
 
-    pub edge-source : l ≤ x → false ≡ edgeOk r (edgeFrom n body)
-    edge-source q = rw (le-ltb (numberAt 0 body) (r .locations) (omega (arith, locations-known)))
+  pub edge-fields : not x ≡ true → false ≡ edgeOk r (edgeSpelt v)
+  edge-fields q = rw (failed fields-known q)
 
-    module _ (a : x < l) (y : ℕ) (y-is : y ≡ numberAt 1 body) where
-      source-in : ltb (numberAt 0 body) (r .locations) ≡ true
-      source-in = lt-ltb (numberAt 0 body) (r .locations) (omega (arith, locations-known))
+  pub edge-atoms :
+      not x ≡ false → {y : Bool} (k : ℕ) → k ≡ h .clocks
+      → (let part = take (length v - bodyFields) (drop bodyFields v) in
+      y ≡ atomsOk k (atomsIn (length part / atomWidth) part))
+      → y ≡ edgeOk r (edgeSpelt v)
+  edge-atoms q k k-is e =
+      let clocks : k ≡ r .clocks = k-is ∙ ap (λ (y : Head). y .clocks) h-is in
+      rw (passed fields-known q) (e ∙ rw (clocks, part-rest bodyFields v))
 
-      pub edge-target : l ≤ y → false ≡ edgeOk r (edgeFrom n body)
-      edge-target q = rw (source-in, le-ltb (numberAt 1 body) (r .locations) (omega (arith, locations-known)))
-
-      module _ (b : y < l) (m : ℕ) (m-is : m ≡ h .symbols) (z : ℕ) (z-is : z ≡ numberAt 2 body) where
-        target-in : ltb (numberAt 1 body) (r .locations) ≡ true
-        target-in = lt-ltb (numberAt 1 body) (r .locations) (omega (arith, locations-known))
-
-        symbols-known : m ≡ r .symbols
-        symbols-known = m-is ∙ ap (λ (y : Head). y .symbols) h-is
-
-        pub edge-symbol : m ≤ z → false ≡ edgeOk r (edgeFrom n body)
-        edge-symbol q =
-            rw (source-in, target-in, le-ltb (numberAt 2 body) (r .symbols) (omega (arith, symbols-known)))
-
-        module _
-            (d : z < m) (k : ℕ) (k-is : k ≡ h .clocks) (w : ℕ) (w-is : w ≡ numberAt 3 body) {t : Bool}
-            (t-is : t ≡ ltb w (2 ^ k))
-          where
-            symbol-in : ltb (numberAt 2 body) (r .symbols) ≡ true
-            symbol-in = lt-ltb (numberAt 2 body) (r .symbols) (omega (arith, symbols-known))
-
-            clocks-known : k ≡ r .clocks
-            clocks-known = k-is ∙ ap (λ (y : Head). y .clocks) h-is
-
-            mask-known : t ≡ ltb (numberAt 3 body) (2 ^ r .clocks)
-            mask-known = t-is ∙ rw (w-is, clocks-known)
-
-            pub edge-mask : not t ≡ true → false ≡ edgeOk r (edgeFrom n body)
-            edge-mask q = rw (source-in, target-in, symbol-in, failed mask-known q)
-
-            pub edge-atoms :
-                {u : Bool} → not t ≡ false
-                → u ≡ atomsOk k (atomsFrom ((n - 8) / 6) (take (length body - 8) (drop 8 body)))
-                → u ≡ edgeOk r (edgeFrom n body)
-            edge-atoms q e =
-                rw (source-in, target-in, symbol-in, passed mask-known q) (e ∙ rw (clocks-known, part-rest 8 body))
-
--- 7: pinned resets
-module _ (kind n : ℕ) (body : List ℕ) (kind-is : kind ≡ 5) (x : ℕ) (x-is : x ≡ numberAt 3 body) where
-  pub pinned-none : x ≡ 0 → false ≡ notPinned kind n body
-  pinned-none e = rw (kind-is, ← x-is, e)
-
-  pub pinned-equal :
-      {t : Bool} → (x ≡ 0 → ⊥) → t ≡ hasEqual (atomsFrom ((n - 8) / 6) (take (length body - 8) (drop 8 body)))
-      → not t ≡ notPinned kind n body
-  pinned-equal z e = rw (kind-is, ← x-is, ne-eqb x 0 z, e, part-rest 8 body)
+pub edge-pins :
+    (v : List ℕ) {x : Bool} (m : ℕ) → m ≡ getD v 3 0
+    → (let part = take (length v - bodyFields) (drop bodyFields v) in
+    x ≡ (eqb m 0 || hasEqual (atomsIn (length part / atomWidth) part)))
+    → x ≡ integerReset (edgeSpelt v)
+edge-pins v m m-is e = e ∙ rw (m-is, part-rest bodyFields v)
 
 -- the faults in order
 module _ (p last : ℕ) (r : Rule) (kind n : ℕ) (body : List ℕ) where

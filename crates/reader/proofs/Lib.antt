@@ -1,6 +1,5 @@
-pub mod Atoms
 pub mod FaultLaws
-pub mod Stored
+pub mod BodyNumbers
 pub mod Taken
 pub mod Tables
 pub mod Allowed

@@ -9,10 +9,10 @@ use lib.Seq.{take-at, drop-at}
 use Rattle.model.specs.Basics.{zeros, filled}
 use Rattle.model.specs.Rules.{Edge, Rule, mostAtoms}
 use Rattle.model.specs.Files.{withEdge}
-use Rattle.model.specs.Layout.{edgeNumbers, edgesNumbers, edgeTable}
+use Rattle.model.specs.Layout.{edgeWidth, edgeNumbers, edgesNumbers, edgeTable}
 use Rattle.model.proofs.EdgesWritten.{edge-numbers-length, edges-numbers-last}
 use Rattle.reader.specs.State.{tableWith}
-use Rattle.reader.proofs.Stored.{drop-zeros}
+use Rattle.reader.proofs.BodyNumbers.{drop-zeros}
 
 take-zeros : (k n : ℕ) → k ≤ n → take k (zeros n) ≡ zeros k
 take-zeros zero n h = refl
@@ -20,26 +20,28 @@ take-zeros (suc k) zero h = absurd (omega arith)
 take-zeros (suc k) (suc n) h = ap (λ (l : List ℕ). 0 ∷ l) (take-zeros k n (omega arith))
 
 -- a table that begins with the numbers of n edges
-module _ (front t : List ℕ) (n : ℕ) (wide : length front ≡ 29 * n) (is : t ≡ filled (length t) front) where
-  before : take (29 * n) t ≡ front
-  before = ap (take (29 * n)) is ∙ take-at front (zeros (length t - length front)) (29 * n) wide
+module _ (front t : List ℕ) (n : ℕ) (wide : length front ≡ edgeWidth * n) (is : t ≡ filled (length t) front) where
+  before : take (edgeWidth * n) t ≡ front
+  before = ap (take (edgeWidth * n)) is ∙ take-at front (zeros (length t - length front)) (edgeWidth * n) wide
 
-  after : drop (29 * n) t ≡ zeros (length t - 29 * n)
+  after : drop (edgeWidth * n) t ≡ zeros (length t - edgeWidth * n)
   after =
-      ap (drop (29 * n)) is
-      ∙ (drop-at front (zeros (length t - length front)) (29 * n) wide ∙ ap (λ (k : ℕ). zeros (length t - k)) wide)
+      ap (drop (edgeWidth * n)) is
+      ∙ (drop-at front (zeros (length t - length front)) (edgeWidth * n) wide
+      ∙ ap (λ (k : ℕ). zeros (length t - k)) wide)
 
-  pub edge-zero : 29 * n + 29 ≤ length t → take 29 (drop (29 * n) t) ≡ zeros 29
-  edge-zero h = ap (take 29) after ∙ take-zeros 29 (length t - 29 * n) (omega arith)
+  pub edge-zero : edgeWidth * n + edgeWidth ≤ length t → take edgeWidth (drop (edgeWidth * n) t) ≡ zeros edgeWidth
+  edge-zero h = ap (take edgeWidth) after ∙ take-zeros edgeWidth (length t - edgeWidth * n) (omega arith)
 
   with-more :
-      (new : List ℕ) → length new ≡ 29
-      → take (29 * n) t ++ (new ++ drop 29 (drop (29 * n) t)) ≡ filled (length t) (front ++ new)
+      (new : List ℕ) → length new ≡ edgeWidth
+      → take (edgeWidth * n) t ++ (new ++ drop edgeWidth (drop (edgeWidth * n) t)) ≡ filled (length t) (front ++ new)
   with-more new e =
-      let left : length t - 29 * n - 29 ≡ length t - length (front ++ new) =
+      let left : length t - edgeWidth * n - edgeWidth ≡ length t - length (front ++ new) =
       rw (length-append front new) (omega arith) in
-      ap₂ (λ (a b : List ℕ). a ++ (new ++ b)) before (ap (drop 29) after ∙ drop-zeros 29 (length t - 29 * n))
-      ∙ (sym (append-assoc front new (zeros (length t - 29 * n - 29)))
+      ap₂ (λ (a b : List ℕ). a ++ (new ++ b)) before
+      (ap (drop edgeWidth) after ∙ drop-zeros edgeWidth (length t - edgeWidth * n))
+      ∙ (sym (append-assoc front new (zeros (length t - edgeWidth * n - edgeWidth)))
       ∙ ap (λ (k : ℕ). (front ++ new) ++ zeros k) left)
 
   pub edge-more :
@@ -48,8 +50,8 @@ module _ (front t : List ℕ) (n : ℕ) (wide : length front ≡ 29 * n) (is : t
 
 -- the table of a rule, and with one edge more
 module _ (r : Rule) (t : List ℕ) (n : ℕ) where
-  module _ (wide : length (edgesNumbers (r .edges)) ≡ 29 * n) (is : t ≡ edgeTable (length t) r) where
-    pub next-zero : 29 * n + 29 ≤ length t → take 29 (drop (29 * n) t) ≡ zeros 29
+  module _ (wide : length (edgesNumbers (r .edges)) ≡ edgeWidth * n) (is : t ≡ edgeTable (length t) r) where
+    pub next-zero : edgeWidth * n + edgeWidth ≤ length t → take edgeWidth (drop (edgeWidth * n) t) ≡ zeros edgeWidth
     unfolding edgeTable
     next-zero h = edge-zero (edgesNumbers (r .edges)) t n wide is h
 

@@ -1,5 +1,5 @@
 -- A record taken: what the cursor holds afterwards, for each kind, and the table with one edge more.
-use mathlib.Core.Path.{_≡_, refl, sym, _∙_, ap}
+use mathlib.Core.Path.{_≡_, refl, sym, _∙_, ap, subst}
 use mathlib.Core.List.{List, [], _∷_}
 use Prim.Native.Nat.{ℕ, _+_, _-_, _*_, _^_}
 use native.Mathlib.Omega.{arith}
@@ -9,11 +9,13 @@ use borrow.Rule.Slice.PartMut.{putMid}
 use Rattle.model.specs.declared.Head.{Head}
 use Rattle.model.specs.Basics.{zeros, maskOf}
 use Rattle.model.specs.Rules.{Edge, Rule}
-use Rattle.model.specs.Files.{numberAt, edgeFrom, withSizes, withInitial, withFinal, withCeiling, withEdge, withRecord}
-use Rattle.model.specs.Layout.{edgeNumbers}
+use Rattle.model.specs.Files.{numberAt, recordHead, edgeFrom, withSizes, withInitial, withFinal, withCeiling}
+use Rattle.model.specs.Files.{withEdge, withRecord}
+use Rattle.model.specs.Layout.{edgeWidth, edgeNumbers}
 use Rattle.model.proofs.ValidParts.{past-last}
 use Rattle.model.proofs.MaskSets.{mask-last}
 use Rattle.reader.specs.declared.Cursor.{Cursor}
+use Rattle.reader.specs.Bodies.{edgeSpelt}
 use Rattle.reader.specs.State.{Holds, Stays, Places, tableWith, EdgeRoom, TakesEdge, Takes}
 
 abbrev pub cursor : ℕ → ℕ → ℕ → ℕ → Head → Cursor
@@ -107,35 +109,30 @@ module _ (c : Cursor) (r : Rule) (h : Holds r c) where
   }
 
 -- the places of an edge in the table: n is the edge count as it was read
-module _ {count size : ℕ} {body t : List ℕ} (room : EdgeRoom count size body t) (n : ℕ) (n-is : n ≡ count) where
-  width-is : 29 * n + 29 - 29 * n ≡ 29
+module _ {count : ℕ} {v t : List ℕ} (room : EdgeRoom count v t) (n : ℕ) (n-is : n ≡ count) where
+  width-is : edgeWidth * n + edgeWidth - edgeWidth * n ≡ edgeWidth
   width-is = omega arith
 
-  pub edge-places : Places size body (take (29 * n + 29 - 29 * n) (drop (29 * n) t))
+  pub edge-places : Places v (take (edgeWidth * n + edgeWidth - edgeWidth * n) (drop (edgeWidth * n) t))
   edge-places =
-      let zero-is : take (29 * n + 29 - 29 * n) (drop (29 * n) t) ≡ zeros 29 = rw (width-is, n-is) (room .zero) in
-      record {
-        size-least = room .size-least;
-        size-most = room .size-most;
-        whole = room .whole;
-        wide = ap length zero-is;
-        zero = zero-is;
-      }
+      let zero-is : take (edgeWidth * n + edgeWidth - edgeWidth * n) (drop (edgeWidth * n) t) ≡ zeros edgeWidth =
+      rw (width-is, n-is) (room .zero) in
+      record { least = room .least; most = room .most; wide = ap length zero-is; zero = zero-is }
 
   pub edge-put :
-      (stored : List ℕ) → stored ≡ edgeNumbers (edgeFrom size body)
-      → putMid (29 * n) (29 * n + 29 - 29 * n) t stored ≡ tableWith count (edgeFrom size body) t
+      (stored : List ℕ) → stored ≡ edgeNumbers (edgeSpelt v)
+      → putMid (edgeWidth * n) (edgeWidth * n + edgeWidth - edgeWidth * n) t stored ≡ tableWith count (edgeSpelt v) t
   edge-put stored e = rw (width-is, n-is, e)
 
 -- the cursor past a record, with what it held
 abbrev pub past : Cursor → ℕ → ℕ → Cursor
-past c kind size = cursor (c .at + 4 + size) kind (c .start) (c .end) (c .head)
+past c kind size = cursor (c .at + recordHead + size) kind (c .start) (c .end) (c .head)
 
 past-holds : (c : Cursor) (kind size : ℕ) (r : Rule) → Holds r c → Holds r (past c kind size)
 past-holds c kind size r h = record { head-is = h .head-is; start-is = h .start-is; end-is = h .end-is }
 
 module _ (c : Cursor) (kind size : ℕ) (body t : List ℕ) (d : Cursor) (stays : Stays (past c kind size) d) where
-  place-is : d .at ≡ c .at + (4 + size)
+  place-is : d .at ≡ c .at + (recordHead + size)
   place-is = omega (arith, stays .at-is)
 
   pub takes-sizes : kind ≡ 1 → Holds (withSizes body) d → Takes c kind size body t t d
@@ -184,13 +181,14 @@ module _ (c : Cursor) (kind size : ℕ) (body t : List ℕ) (d : Cursor) (stays 
   }
 
 pub takes-edge :
-    (c : Cursor) (kind size : ℕ) (body t t′ : List ℕ) (d : Cursor) → kind ≡ 5
-    → TakesEdge (past c kind size) size body t t′ d
+    (c : Cursor) (kind size : ℕ) (body v t t′ : List ℕ) (d : Cursor) → kind ≡ 5 → edgeSpelt v ≡ edgeFrom size body
+    → TakesEdge (past c kind size) v t t′ d
     → Takes c kind size body t t′ d
 unfolding withRecord
-takes-edge c kind size body t t′ d e h = record {
+takes-edge c kind size body v t t′ d e is h = record {
   at-is = place-is c kind size body t d (h .stays);
   last-is = h .stays .last-is;
-  holds = λ r q. rw e (h .holds r (past-holds c kind size r q));
-  table-is = rw e (h .table-is);
+  holds = λ r q.
+      rw e (subst (λ (y : Edge). Holds (withEdge r y) d) is (h .holds r (past-holds c kind size r q)));
+  table-is = rw e (h .table-is ∙ ap (λ (y : Edge). tableWith (c .head .count) y t) is);
 }

@@ -2,18 +2,20 @@
 use mathlib.Core.Path.{_≡_}
 use mathlib.Core.Bool.{not}
 use mathlib.Core.List.{List, _++_}
-use Prim.Native.Nat.{ℕ, _+_, _*_, _^_, _≤_, _<_}
+use Prim.Native.Nat.{ℕ, _+_, _*_, _/_, _^_, _≤_, _<_}
 use lib.Dec.{eqb}
 use lib.ListN.{length, take, drop}
 use Rattle.model.specs.declared.Reading.{Reading}
 use Rattle.model.specs.Basics.{pick, zeros, Refusal, refusal, refuse, _⨾_}
-use Rattle.model.specs.Rules.{Edge, Rule}
-use Rattle.model.specs.Files.{numberAt, kindOf, edgeFrom, noRule, pastLast, outOfOrder, oneTooMany, badSizes}
-use Rattle.model.specs.Files.{outOfRange, notPinned, recordRefusal, withEdge, withRecord, atEnd, readRule}
+use Rattle.model.specs.Rules.{Edge, Rule, mostConstant, mostEdges, mostLocations}
+use Rattle.model.specs.Files.{numberAt, recordHead, kindOf, edgeFrom, noRule, pastLast, outOfOrder, oneTooMany}
+use Rattle.model.specs.Files.{badSizes, outOfRange, notPinned, recordRefusal, withEdge, withRecord, atEnd, readRule}
 use Rattle.model.specs.Layout.{edgeNeed, edgeWidth, headOf, noHead, edgeNumbers, edgeTable}
 use Rattle.model.specs.Promises.{readingOf}
+use Rattle.model.proofs.Bytes.{numbersOf}
 use Rattle.model.proofs.FileSteps.{recordLength, ruleAfter}
 use Rattle.model.proofs.FileSoFar.{So-far}
+use Rattle.reader.specs.Bodies.{numberBytes, sizesBody, fieldsBody, bodyFields, bodyNumbers, edgeSpelt}
 use Rattle.reader.specs.declared.Cursor.{Cursor}
 use Rattle.reader.specs.declared.Step.{Step}
 use Rattle.reader.specs.declared.Step.the-variants.{Next, Refused}
@@ -35,24 +37,23 @@ bodyRefusal p last r kind n body =
     ⨾ refuse (outOfRange r kind n body) 6 p
     ⨾ refuse (notPinned kind n body) 7 p
 
--- a body of a length that its kind has
-pub record Body (kind size : ℕ) (body : List ℕ) : Type 0 where
+-- a body of a length that its kind has, and its numbers
+pub record Body (kind size : ℕ) (body numbers : List ℕ) : Type 0 where
   pub whole : size ≤ length body
-  pub least : 2 ≤ size
-  pub sizes : kind ≡ 1 → size ≡ 6
-  pub edge-least : kind ≡ 5 → 8 ≤ size
-  pub edge-most : kind ≡ 5 → size ≤ 56
+  pub least : numberBytes ≤ size
+  pub sizes : kind ≡ 1 → size ≡ sizesBody
+  pub edge-least : kind ≡ 5 → fieldsBody ≤ size
+  pub numbers-are : numbers ≡ numbersOf (size / numberBytes) body
 
 -- the same place in the file
 pub record Stays (c d : Cursor) : Type 0 where
   pub at-is : d .at ≡ c .at
   pub last-is : d .last ≡ c .last
 
--- 29 places of zeros for an edge's body
-pub record Places (size : ℕ) (body edge : List ℕ) : Type 0 where
-  pub size-least : 8 ≤ size
-  pub size-most : size ≤ 56
-  pub whole : size ≤ length body
+-- an edge's numbers, and 29 places of zeros for them
+pub record Places (numbers edge : List ℕ) : Type 0 where
+  pub least : bodyFields ≤ length numbers
+  pub most : length numbers ≤ bodyNumbers
   pub wide : length edge ≡ edgeWidth
   pub zero : edge ≡ zeros edgeWidth
 
@@ -61,33 +62,33 @@ abbrev pub tableWith : ℕ → Edge → List ℕ → List ℕ
 tableWith n e t = take (edgeWidth * n) t ++ (edgeNumbers e ++ drop edgeWidth (drop (edgeWidth * n) t))
 
 -- room for an edge, whose places are zero
-pub record EdgeRoom (n size : ℕ) (body t : List ℕ) : Type 0 where
-  pub size-least : 8 ≤ size
-  pub size-most : size ≤ 56
-  pub whole : size ≤ length body
-  pub few : n < 256
+pub record EdgeRoom (n : ℕ) (numbers t : List ℕ) : Type 0 where
+  pub least : bodyFields ≤ length numbers
+  pub most : length numbers ≤ bodyNumbers
+  pub few : n < mostEdges
   pub long : edgeNeed ≤ length t
   pub zero : take edgeWidth (drop (edgeWidth * n) t) ≡ zeros edgeWidth
 
-pub record TakesEdge (c : Cursor) (size : ℕ) (body t t′ : List ℕ) (d : Cursor) : Type 0 where
+pub record TakesEdge (c : Cursor) (numbers t t′ : List ℕ) (d : Cursor) : Type 0 where
   pub stays : Stays c d
-  pub holds : (r : Rule) → Holds r c → Holds (withEdge r (edgeFrom size body)) d
-  pub table-is : t′ ≡ tableWith (c .head .count) (edgeFrom size body) t
+  pub holds : (r : Rule) → Holds r c → Holds (withEdge r (edgeSpelt numbers)) d
+  pub table-is : t′ ≡ tableWith (c .head .count) (edgeSpelt numbers) t
 
 -- a record that can be taken: its numbers fit
-pub record Room (c : Cursor) (kind size : ℕ) (body t : List ℕ) : Type 0 where
+pub record Room (c : Cursor) (kind size : ℕ) (body numbers t : List ℕ) : Type 0 where
   pub kind-least : 1 ≤ kind
   pub kind-most : kind ≤ 5
-  pub next : c .at + (4 + size) < 2 ^ 64
-  pub number : 2 ≤ length body
-  pub sizes : kind ≡ 1 → 6 ≤ length body
-  pub initial : kind ≡ 2 → (numberAt 0 body < 32) × (c .head .starts + 2 ^ numberAt 0 body < 2 ^ 32)
-  pub final : kind ≡ 3 → (numberAt 0 body < 32) × (c .head .ends + 2 ^ numberAt 0 body < 2 ^ 32)
-  pub ceiling : kind ≡ 4 → numberAt 0 body ≤ 30
-  pub edge : kind ≡ 5 → EdgeRoom (c .head .count) size body t
+  pub next : c .at + (recordHead + size) < 2 ^ 64
+  pub number : numberBytes ≤ length body
+  pub sizes : kind ≡ 1 → sizesBody ≤ length body
+  pub initial : kind ≡ 2 → (numberAt 0 body < mostLocations) × (c .head .starts + 2 ^ numberAt 0 body < 2 ^ 32)
+  pub final : kind ≡ 3 → (numberAt 0 body < mostLocations) × (c .head .ends + 2 ^ numberAt 0 body < 2 ^ 32)
+  pub ceiling : kind ≡ 4 → numberAt 0 body ≤ mostConstant
+  pub edge : kind ≡ 5 → EdgeRoom (c .head .count) numbers t
+  pub edge-is : kind ≡ 5 → edgeSpelt numbers ≡ edgeFrom size body
 
 pub record Takes (c : Cursor) (kind size : ℕ) (body t t′ : List ℕ) (d : Cursor) : Type 0 where
-  pub at-is : d .at ≡ c .at + (4 + size)
+  pub at-is : d .at ≡ c .at + (recordHead + size)
   pub last-is : d .last ≡ kind
   pub holds : (r : Rule) → Holds r c → Holds (withRecord r kind size body) d
   pub table-is : t′ ≡ pick (eqb kind 5) (tableWith (c .head .count) (edgeFrom size body) t) t

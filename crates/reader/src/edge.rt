@@ -1,83 +1,64 @@
-// An edge's body: its numbers in range, resets pinned, and its places in the table.
+// An edge's body, by its numbers: its checks, and its places in the table.
 ghost use mathlib.Core.Path.{_≡_};
-ghost use Prim.Native.Nat.{_*_, _≤_};
+ghost use Prim.Native.Nat.{_≤_};
 ghost use lib.ListN.{length};
-ghost use Rattle.model.specs.Rules.{Rule, edgeOk, atomsOk, hasEqual};
-ghost use Rattle.model.specs.Files.{edgeFrom, atomsFrom};
+ghost use Rattle.model.specs.Basics.{written};
+ghost use Rattle.model.specs.Rules.{Rule, edgeOk, integerReset};
 ghost use Rattle.model.specs.Layout.{headOf, edgeNumbers};
+ghost use Rattle.reader.specs.Bodies.{bodyFields, edgeSpelt};
 ghost use Rattle.reader.specs.State.{Places};
-use crate::numbers::copy_numbers;
-use crate::numbers::narrow16;
-use crate::numbers::number_at;
-use edges::mask_ok;
-use edges::wide32;
+use crate::bytes::BODY_FIELDS;
+use edges::checks::atoms_ok;
+use edges::checks::fields_ok;
+use edges::checks::pinned;
+use model::ATOM_WIDTH;
+use model::EDGE_COUNT;
+use model::EDGE_FIELDS;
+use model::EDGE_RESETS;
 use model::Head;
+use numbers::narrow16;
+use numbers::wide16;
+use numbers::wide32;
 
-// An edge's numbers, each in its range.
-pub(crate) fn edge_ok(head: Head, size: usize, body: &[u8]) -> bool
-    requires { ⌜ (8 ≤ size) × (size ≤ 56) × (size ≤ length (now body)) ⌝ }
-    ensures { λ x. ⌜ ((r : Rule) → head ≡ headOf r → x ≡ edgeOk r (edgeFrom size (now (body .entry)))) ⌝ }
+// Each number in its range.
+pub(crate) fn edge_ok(head: Head, numbers: &[u16]) -> bool
+    requires { ⌜ bodyFields ≤ length (now numbers) ⌝ }
+    ensures { λ x. ⌜ ((r : Rule) → head ≡ headOf r → x ≡ edgeOk r (edgeSpelt (now (numbers .entry)))) ⌝ }
 {
-    let locations = wide32(head.locations);
-    if locations <= number_at(body, 0) {
+    if !fields_ok(head, numbers) {
         return false;
     }
-    if locations <= number_at(body, 1) {
-        return false;
-    }
-    if wide32(head.symbols) <= number_at(body, 2) {
-        return false;
-    }
-    let clocks = wide32(head.clocks);
-    if !mask_ok(number_at(body, 3), clocks) {
-        return false;
-    }
-    atoms_ok(&body[8..], (size - 8) / 6, clocks)
+    atoms_ok(&numbers[BODY_FIELDS..], wide32(head.clocks))
 }
 
-// Clock, relation and constant of each of the first `count` atoms.
-pub(crate) fn atoms_ok(atoms: &[u8], count: usize, clocks: usize) -> bool
-    requires { ⌜ (count ≤ 8) × (6 * count ≤ length (now atoms)) ⌝ }
-    ensures { λ r. ⌜ r ≡ atomsOk clocks (atomsFrom count (now (atoms .entry))) ⌝ }
+// Resets have an atom with relation 2.
+pub(crate) fn edge_pinned(numbers: &[u16]) -> bool
+    requires { ⌜ bodyFields ≤ length (now numbers) ⌝ }
+    ensures { λ r. ⌜ r ≡ integerReset (edgeSpelt (now (numbers .entry))) ⌝ }
 {
-    let mut j: usize = 0;
-    while j < count {
-        if clocks <= number_at(atoms, 3 * j) {
-            return false;
-        }
-        if 4 < number_at(atoms, 3 * j + 1) {
-            return false;
-        }
-        if 30 < number_at(atoms, 3 * j + 2) {
-            return false;
-        }
-        j += 1;
-    }
-    true
+    pinned(wide16(numbers[EDGE_RESETS]), &numbers[BODY_FIELDS..])
 }
 
-pub(crate) fn has_equal(atoms: &[u8], count: usize) -> bool
-    requires { ⌜ (count ≤ 8) × (6 * count ≤ length (now atoms)) ⌝ }
-    ensures { λ r. ⌜ r ≡ hasEqual (atomsFrom count (now (atoms .entry))) ⌝ }
+// Copies numbers to the front of a part of the table.
+pub(crate) fn copy_to(numbers: &[u16], out: &mut [u16])
+    requires { ⌜ length (now numbers) ≤ length (now out) ⌝ }
+    ensures { λ _. ⌜ now (out .exit) ≡ written (now (numbers .entry)) (now (out .entry)) ⌝ }
 {
-    let mut j: usize = 0;
-    while j < count {
-        if number_at(atoms, 3 * j + 1) == 2 {
-            return true;
-        }
-        j += 1;
+    let mut i: usize = 0;
+    while i < numbers.len() {
+        out[i] = numbers[i];
+        i += 1;
     }
-    false
 }
 
-// Writes an edge over 29 zeros: source, target, symbol, mask, atom count, atoms.
-pub(crate) fn store_edge(size: usize, body: &[u8], edge: &mut [u16])
-    requires { ⌜ Places size (now body) (now edge) ⌝ }
-    ensures { λ _. ⌜ now (edge .exit) ≡ edgeNumbers (edgeFrom size (now (body .entry))) ⌝ }
+// Writes an edge over 29 zeros: its four fields, its atom count, its atoms.
+pub(crate) fn store_edge(numbers: &[u16], edge: &mut [u16])
+    requires { ⌜ Places (now numbers) (now edge) ⌝ }
+    ensures { λ _. ⌜ now (edge .exit) ≡ edgeNumbers (edgeSpelt (now (numbers .entry))) ⌝ }
 {
-    let count = (size - 8) / 6;
-    copy_numbers(body, &mut edge[0..4]);
-    edge[4] = narrow16(count);
-    let past = 5 + 3 * count;
-    copy_numbers(&body[8..], &mut edge[5..past]);
+    let count = (numbers.len() - BODY_FIELDS) / ATOM_WIDTH;
+    copy_to(&numbers[0..BODY_FIELDS], edge);
+    edge[EDGE_COUNT] = narrow16(count);
+    let past = BODY_FIELDS + ATOM_WIDTH * count;
+    copy_to(&numbers[BODY_FIELDS..past], &mut edge[EDGE_FIELDS..]);
 }

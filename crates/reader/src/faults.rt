@@ -6,35 +6,44 @@ ghost use Rattle.model.specs.Rules.{Rule};
 ghost use Rattle.model.specs.Files.{edgeBody, bodyOk, cutShort, outOfOrder, oneTooMany, badSizes, outOfRange};
 ghost use Rattle.model.specs.Files.{notPinned};
 ghost use Rattle.model.specs.Layout.{headOf};
+ghost use Rattle.reader.specs.Bodies.{numberBytes, sizesBody};
 ghost use Rattle.reader.specs.State.{Holds, numbered, bodyRefusal, Body};
 use crate::Cursor;
+use crate::bytes::ATOM_BODY;
+use crate::bytes::FIELDS_BODY;
+use crate::bytes::MOST_BODY;
+use crate::bytes::NUMBER_BYTES;
+use crate::bytes::RECORD_HEAD;
+use crate::bytes::SIZES_BODY;
+use crate::bytes::number_at;
 use crate::edge::edge_ok;
-use crate::edge::has_equal;
-use crate::numbers::number_at;
+use crate::edge::edge_pinned;
 use edges::sizes_ok;
-use edges::wide32;
 use model::Head;
+use model::MOST_CONSTANT;
+use model::MOST_EDGES;
+use numbers::wide32;
 
 // 1: fewer than 4 bytes left, or the body passes the end.
 pub(crate) fn cut_short(rest: &[u8]) -> bool
     ensures { λ r. ⌜ r ≡ cutShort (now (rest .entry)) ⌝ }
 {
-    if rest.len() < 4 {
+    if rest.len() < RECORD_HEAD {
         return true;
     }
-    rest.len() < 4 + number_at(rest, 0)
+    rest.len() < RECORD_HEAD + number_at(rest, 0)
 }
 
 pub(crate) fn edge_body(size: usize) -> bool
     ensures { λ r. ⌜ r ≡ edgeBody size ⌝ }
 {
-    if size < 8 {
+    if size < FIELDS_BODY {
         return false;
     }
-    if 56 < size {
+    if MOST_BODY < size {
         return false;
     }
-    (size - 8) % 6 == 0
+    (size - FIELDS_BODY) % ATOM_BODY == 0
 }
 
 // 2 where not: a kind that there is, with a body length that it has.
@@ -42,8 +51,8 @@ pub(crate) fn body_ok(kind: usize, size: usize) -> bool
     ensures { λ r. ⌜ r ≡ bodyOk kind size ⌝ }
 {
     match kind {
-        1 => size == 6,
-        2 | 3 | 4 => size == 2,
+        1 => size == SIZES_BODY,
+        2 | 3 | 4 => size == NUMBER_BYTES,
         5 => edge_body(size),
         _ => false,
     }
@@ -51,7 +60,7 @@ pub(crate) fn body_ok(kind: usize, size: usize) -> bool
 
 // 3: sizes missing or repeated, a kind that falls, second ceiling, locations not rising.
 pub(crate) fn out_of_order(cursor: Cursor, kind: usize, body: &[u8]) -> bool
-    requires { ⌜ 2 ≤ length (now body) ⌝ }
+    requires { ⌜ numberBytes ≤ length (now body) ⌝ }
     ensures { λ x. ⌜ ((r : Rule) → Holds r cursor → x ≡ outOfOrder (cursor .last) r kind (now (body .entry))) ⌝ }
 {
     let head = cursor.head;
@@ -79,12 +88,12 @@ pub(crate) fn one_too_many(head: Head, kind: usize) -> bool
     if kind != 5 {
         return false;
     }
-    256 <= head.count
+    MOST_EDGES <= wide32(head.count)
 }
 
 // 5: L, S or K outside its range.
-pub(crate) fn bad_sizes(kind: usize, size: usize, body: &[u8]) -> bool
-    requires { ⌜ Body kind size (now body) ⌝ }
+pub(crate) fn bad_sizes(kind: usize, body: &[u8]) -> bool
+    requires { ⌜ (kind ≡ 1 → sizesBody ≤ length (now body)) ⌝ }
     ensures { λ r. ⌜ r ≡ badSizes kind (now (body .entry)) ⌝ }
 {
     if kind != 1 {
@@ -94,35 +103,44 @@ pub(crate) fn bad_sizes(kind: usize, size: usize, body: &[u8]) -> bool
 }
 
 // 6: location, symbol, clock, mask bit, relation, constant or ceiling outside its range.
-pub(crate) fn out_of_range(head: Head, kind: usize, size: usize, body: &[u8]) -> bool
-    requires { ⌜ Body kind size (now body) ⌝ }
+pub(crate) fn out_of_range(
+    head: Head,
+    kind: usize,
+    size: usize,
+    body: &[u8],
+    numbers: &[u16],
+) -> bool
+    requires { ⌜ Body kind size (now body) (now numbers) ⌝ }
     ensures { λ x. ⌜ ((r : Rule) → head ≡ headOf r → x ≡ outOfRange r kind size (now (body .entry))) ⌝ }
 {
     match kind {
         2 | 3 => wide32(head.locations) <= number_at(body, 0),
-        4 => 30 < number_at(body, 0),
-        5 => !edge_ok(head, size, body),
+        4 => MOST_CONSTANT < number_at(body, 0),
+        5 => !edge_ok(head, numbers),
         _ => false,
     }
 }
 
 // 7: resets with no relation 2.
-pub(crate) fn not_pinned(kind: usize, size: usize, body: &[u8]) -> bool
-    requires { ⌜ Body kind size (now body) ⌝ }
+pub(crate) fn not_pinned(kind: usize, size: usize, body: &[u8], numbers: &[u16]) -> bool
+    requires { ⌜ Body kind size (now body) (now numbers) ⌝ }
     ensures { λ r. ⌜ r ≡ notPinned kind size (now (body .entry)) ⌝ }
 {
     if kind != 5 {
         return false;
     }
-    if number_at(body, 3) == 0 {
-        return false;
-    }
-    !has_equal(&body[8..], (size - 8) / 6)
+    !edge_pinned(numbers)
 }
 
 // The first of 3 to 7 that refuses a record whose body has a length of its kind; 0 for none.
-pub(crate) fn body_fault(cursor: Cursor, kind: usize, size: usize, body: &[u8]) -> u8
-    requires { ⌜ Body kind size (now body) ⌝ }
+pub(crate) fn body_fault(
+    cursor: Cursor,
+    kind: usize,
+    size: usize,
+    body: &[u8],
+    numbers: &[u16],
+) -> u8
+    requires { ⌜ Body kind size (now body) (now numbers) ⌝ }
     ensures { λ n. ⌜
         ((r : Rule) → Holds r cursor
         → bodyRefusal (cursor .at) (cursor .last) r kind size (now (body .entry)) ≡ numbered n (cursor .at))
@@ -135,13 +153,13 @@ pub(crate) fn body_fault(cursor: Cursor, kind: usize, size: usize, body: &[u8]) 
     if one_too_many(head, kind) {
         return 4;
     }
-    if bad_sizes(kind, size, body) {
+    if bad_sizes(kind, body) {
         return 5;
     }
-    if out_of_range(head, kind, size, body) {
+    if out_of_range(head, kind, size, body, numbers) {
         return 6;
     }
-    if not_pinned(kind, size, body) {
+    if not_pinned(kind, size, body, numbers) {
         return 7;
     }
     0

@@ -1,20 +1,21 @@
 // Rule files read: one pass over the records, each refused or taken into the head record and the edge table.
 ghost use mathlib.Core.Path.{_≡_};
-ghost use lib.ListN.{length};
-ghost use Rattle.model.specs.Basics.{zeros};
 ghost use Rattle.model.specs.Rules.{Rule};
 ghost use Rattle.model.specs.Layout.{noHead};
 ghost use Rattle.model.specs.Promises.{ReadsRule};
 ghost use Rattle.reader.specs.State.{State, RefusedAt, Finishes, Cleared, ReadsRecords};
 
+pub mod bytes;
 pub mod edge;
 pub mod faults;
-pub mod numbers;
 pub mod records;
 
 use edges::pairs_of;
+use model::EDGE_NEED;
 use model::Head;
+use model::MOST_PAIRS;
 use model::Reading;
+use numbers::clear16;
 
 // A reading under way: where the next record starts, the kind of the record before (0 at the start), the least initial
 // and final location that may come next, the head record so far.
@@ -30,16 +31,6 @@ pub(crate) struct Cursor {
 pub(crate) enum Step {
     Next(Cursor),
     Refused(u8),
-}
-
-pub(crate) fn clear(edges: &mut [u16])
-    ensures { λ _. ⌜ now (edges .exit) ≡ zeros (length (now (edges .entry))) ⌝ }
-{
-    let mut i: usize = 0;
-    while i < edges.len() {
-        edges[i] = 0;
-        i += 1;
-    }
 }
 
 pub(crate) fn no_head() -> Head
@@ -74,7 +65,7 @@ pub(crate) fn finish(cursor: Cursor, edges: &[u16]) -> Reading
     if head.locations < 1 {
         return refused(3, cursor.at);
     }
-    if 65536 < pairs_of(head, edges) {
+    if MOST_PAIRS < pairs_of(head, edges) {
         return refused(8, cursor.at);
     }
     Reading {
@@ -115,13 +106,13 @@ pub(crate) fn read_records(file: &[u8], edges: &mut [u16]) -> Reading
 pub fn read_rule(file: &[u8], edges: &mut [u16]) -> Reading
     ensures { λ x. ⌜ ReadsRule (now (file .entry)) (now (edges .entry)) (now (edges .exit)) x ⌝ }
 {
-    if edges.len() < 7424 {
+    if edges.len() < EDGE_NEED {
         return refused(20, 0);
     }
-    clear(edges);
+    clear16(edges);
     let reading = read_records(file, edges);
     if reading.number != 0 {
-        clear(edges);
+        clear16(edges);
     }
     reading
 }

@@ -1,24 +1,29 @@
 // A record read: refused, or taken into the head record and the edge table.
 ghost use Prim.Native.Nat.{_+_, _^_, _≤_, _<_};
 ghost use lib.ListN.{length};
-ghost use Rattle.model.specs.Rules.{Rule};
+ghost use Rattle.model.specs.Rules.{Rule, mostConstant, mostLocations};
 ghost use Rattle.model.specs.Files.{withSizes, withInitial, withFinal, withCeiling};
+ghost use Rattle.reader.specs.Bodies.{sizesBody};
 ghost use Rattle.reader.specs.State.{Holds, Stays, EdgeRoom, TakesEdge, Room, Takes, State, Under-way, StepIs};
 use crate::Cursor;
 use crate::Step;
+use crate::bytes::NUMBER_BYTES;
+use crate::bytes::RECORD_HEAD;
+use crate::bytes::body_numbers;
+use crate::bytes::mask_of;
+use crate::bytes::number_at;
 use crate::edge::store_edge;
 use crate::faults::body_fault;
 use crate::faults::body_ok;
 use crate::faults::cut_short;
-use crate::numbers::mask_of;
-use crate::numbers::narrow32;
-use crate::numbers::number_at;
-use edges::wide32;
+use model::EDGE_WIDTH;
 use model::Head;
+use numbers::narrow32;
+use numbers::wide32;
 
 impl Cursor {
     pub(crate) fn with_sizes(self, body: &[u8]) -> Cursor
-        requires { ⌜ 6 ≤ length (now body) ⌝ }
+        requires { ⌜ sizesBody ≤ length (now body) ⌝ }
         ensures { λ d. ⌜ Stays self d × Holds (withSizes (now (body .entry))) d ⌝ }
     {
         Cursor {
@@ -39,7 +44,7 @@ impl Cursor {
     }
 
     pub(crate) fn with_initial(self, location: usize) -> Cursor
-        requires { ⌜ (location < 32) × (self .head .starts + 2 ^ location < 2 ^ 32) ⌝ }
+        requires { ⌜ (location < mostLocations) × (self .head .starts + 2 ^ location < 2 ^ 32) ⌝ }
         ensures { λ d. ⌜ Stays self d × ((r : Rule) → Holds r self → Holds (withInitial r location) d) ⌝ }
     {
         let mut head = self.head;
@@ -55,7 +60,7 @@ impl Cursor {
     }
 
     pub(crate) fn with_final(self, location: usize) -> Cursor
-        requires { ⌜ (location < 32) × (self .head .ends + 2 ^ location < 2 ^ 32) ⌝ }
+        requires { ⌜ (location < mostLocations) × (self .head .ends + 2 ^ location < 2 ^ 32) ⌝ }
         ensures { λ d. ⌜ Stays self d × ((r : Rule) → Holds r self → Holds (withFinal r location) d) ⌝ }
     {
         let mut head = self.head;
@@ -71,7 +76,7 @@ impl Cursor {
     }
 
     pub(crate) fn with_ceiling(self, number: usize) -> Cursor
-        requires { ⌜ number < 65535 ⌝ }
+        requires { ⌜ number ≤ mostConstant ⌝ }
         ensures { λ d. ⌜ Stays self d × ((r : Rule) → Holds r self → Holds (withCeiling r number) d) ⌝ }
     {
         let mut head = self.head;
@@ -81,14 +86,14 @@ impl Cursor {
         next
     }
 
-    pub(crate) fn with_edge(self, size: usize, body: &[u8], edges: &mut [u16]) -> Cursor
-        requires { ⌜ EdgeRoom (self .head .count) size (now body) (now edges) ⌝ }
-        ensures { λ d. ⌜ TakesEdge self size (now (body .entry)) (now (edges .entry)) (now (edges .exit)) d ⌝ }
+    pub(crate) fn with_edge(self, numbers: &[u16], edges: &mut [u16]) -> Cursor
+        requires { ⌜ EdgeRoom (self .head .count) (now numbers) (now edges) ⌝ }
+        ensures { λ d. ⌜ TakesEdge self (now (numbers .entry)) (now (edges .entry)) (now (edges .exit)) d ⌝ }
     {
         let mut head = self.head;
-        let first = 29 * wide32(head.count);
-        let past = first + 29;
-        store_edge(size, body, &mut edges[first..past]);
+        let first = EDGE_WIDTH * wide32(head.count);
+        let past = first + EDGE_WIDTH;
+        store_edge(numbers, &mut edges[first..past]);
         let count = head.count + 1;
         head.count = count;
         let mut next = self;
@@ -97,19 +102,26 @@ impl Cursor {
     }
 
     // The cursor past a record that is not refused. An edge goes into the table.
-    pub(crate) fn taken(self, kind: usize, size: usize, body: &[u8], edges: &mut [u16]) -> Cursor
-        requires { ⌜ Room self kind size (now body) (now edges) ⌝ }
+    pub(crate) fn taken(
+        self,
+        kind: usize,
+        size: usize,
+        body: &[u8],
+        numbers: &[u16],
+        edges: &mut [u16],
+    ) -> Cursor
+        requires { ⌜ Room self kind size (now body) (now numbers) (now edges) ⌝ }
         ensures { λ d. ⌜ Takes self kind size (now (body .entry)) (now (edges .entry)) (now (edges .exit)) d ⌝ }
     {
         let mut past = self;
-        past.at = self.at + 4 + size;
+        past.at = self.at + RECORD_HEAD + size;
         past.last = kind;
         match kind {
             1 => past.with_sizes(body),
             2 => past.with_initial(number_at(body, 0)),
             3 => past.with_final(number_at(body, 0)),
             4 => past.with_ceiling(number_at(body, 0)),
-            _ => past.with_edge(size, body, edges),
+            _ => past.with_edge(numbers, edges),
         }
     }
 
@@ -130,11 +142,14 @@ impl Cursor {
         if !body_ok(kind, size) {
             return Step::Refused(2);
         }
-        let body = &rest[4..];
-        let fault = body_fault(self, kind, size, body);
+        let body = &rest[RECORD_HEAD..];
+        let count = size / NUMBER_BYTES;
+        let held = body_numbers(body, count);
+        let numbers = &held[0..count];
+        let fault = body_fault(self, kind, size, body, numbers);
         if fault != 0 {
             return Step::Refused(fault);
         }
-        Step::Next(self.taken(kind, size, body, edges))
+        Step::Next(self.taken(kind, size, body, numbers, edges))
     }
 }

@@ -3,17 +3,18 @@
 use mathlib.Core.Path.{_≡_, refl, _∙_, ap}
 use mathlib.Core.Bool.{Bool, true, false, _&&_, not}
 use mathlib.Core.List.{List}
-use Prim.Native.Nat.{ℕ, _-_, _^_, _≤_, _<_}
+use Prim.Native.Nat.{ℕ, _+_, _-_, _^_, _≤_, _<_}
 use native.Mathlib.Omega.{arith}
 use lib.Dec.{ltb, leb}
 use lib.ListN.{length}
 use borrow.Author.Tests.{le-leb, leb-true, ltb-true, ltb-false, eq-eqb, not-false, lt-ltb, le-ltb}
 use Rattle.model.specs.declared.Head.{Head}
 use Rattle.model.specs.declared.Answer.{Answer}
-use Rattle.model.specs.Basics.{filled, same, maskOf, bitsFrom, Refusal, refusal, fine, refuse, _⨾_}
+use Rattle.model.specs.Basics.{filled, same, maskOf, Refusal, refusal, fine, refuse, _⨾_}
 use Rattle.model.specs.Rules.{Edge, rule, Rule, largestOf, cm, pairCount, mostPairs, mostEdges, sizesOk, rising}
-use Rattle.model.specs.Rules.{edgesOk, validRule}
-use Rattle.model.specs.Layout.{edgesNumbers, edgeNeed, edgeTable, edgesIn, ruleIn, isReadable, ruleRefusal}
+use Rattle.model.specs.Rules.{mostClocks, mostConstant, mostLocations, edgesOk, validRule}
+use Rattle.model.specs.Layout.{edgesNumbers, edgeNeed, edgeTable, edgesIn, locationsIn, ruleIn}
+use Rattle.model.specs.Layout.{isReadable, ruleRefusal}
 use Rattle.model.specs.Promises.{ChecksRule}
 use Rattle.model.proofs.Logic.{same-truth, and-left, and-right, larger-most}
 use Rattle.model.proofs.Refusals.{refused-false, first-passes, then-passes}
@@ -29,7 +30,7 @@ use Rattle.rule.proofs.Unused.{edges-same}
 -- a good head record, as plain facts
 pub record Good-head (h : Head) : Type 0 where
   pub sizes : Sizes (h .locations) (h .symbols) (h .clocks)
-  pub ceiling-most : h .ceiling ≤ 31
+  pub ceiling-most : h .ceiling ≤ mostConstant + 1
   pub count-most : h .count ≤ mostEdges
 
 pub good-head : (h : Head) → headGood h ≡ true → Good-head h
@@ -38,22 +39,22 @@ good-head h q =
     let a : Bool = sizesOk (h .locations) (h .symbols) (h .clocks) in
     let b : Bool = ltb (h .starts) (2 ^ h .locations) in
     let c : Bool = ltb (h .ends) (2 ^ h .locations) in
-    let d : Bool = leb (h .ceiling) 31 in
+    let d : Bool = leb (h .ceiling) (mostConstant + 1) in
     let e : Bool = leb (h .count) mostEdges in
     let q4 : (a && b && c && d) ≡ true = and-left (a && b && c && d) e q in
     let q3 : (a && b && c) ≡ true = and-left (a && b && c) d q4 in
     record {
       sizes = sizes-of (h .locations) (h .symbols) (h .clocks) (and-left a b (and-left (a && b) c q3));
-      ceiling-most = leb-true (h .ceiling) 31 (and-right (a && b && c) d q4);
+      ceiling-most = leb-true (h .ceiling) (mostConstant + 1) (and-right (a && b && c) d q4);
       count-most = leb-true (h .count) mostEdges (and-right (a && b && c && d) e q);
     }
 
 -- the test of a mask: its bits rise below l exactly if it is below 2 ^ l
-mask-rises : (l mask : ℕ) → mask < 2 ^ 32 → rising 0 l (bitsFrom 32 0 mask) ≡ ltb mask (2 ^ l)
+mask-rises : (l mask : ℕ) → mask < 2 ^ 32 → rising 0 l (locationsIn mask) ≡ ltb mask (2 ^ l)
 mask-rises l mask h =
-    same-truth (rising 0 l (bitsFrom 32 0 mask)) (ltb mask (2 ^ l))
-    (λ r. lt-ltb mask (2 ^ l) (omega (arith, mask-below l (bitsFrom 32 0 mask) r, mask-again mask h)))
-    (λ b. bits-rise 32 0 l mask (ltb-true mask (2 ^ l) b))
+    same-truth (rising 0 l (locationsIn mask)) (ltb mask (2 ^ l))
+    (λ r. lt-ltb mask (2 ^ l) (omega (arith, mask-below l (locationsIn mask) r, mask-again mask h)))
+    (λ b. bits-rise mostLocations 0 l mask (ltb-true mask (2 ^ l) b))
 
 -- the tests in the code's order and in the definition's
 reorder : (x f g m k : Bool) → (x ≡ true → (f && m) ≡ k) → (x && f && g && true && m) ≡ (x && k && g)
@@ -75,48 +76,47 @@ readable-is h t p q long =
     let x : Bool =
     sizesOk (h .locations) (h .symbols) (h .clocks) && ltb (h .starts) (2 ^ h .locations)
     && ltb (h .ends) (2 ^ h .locations)
-    && leb (h .ceiling) 31 in
+    && leb (h .ceiling) (mostConstant + 1) in
     rw (
       mask-rises (h .locations) (h .starts) p,
       mask-rises (h .locations) (h .ends) q,
       edges-length (h .count) t,
-      eq-eqb (maskOf (bitsFrom 32 0 (h .starts))) (h .starts) (mask-again (h .starts) p),
-      eq-eqb (maskOf (bitsFrom 32 0 (h .ends))) (h .ends) (mask-again (h .ends) q),
+      eq-eqb (maskOf (locationsIn (h .starts))) (h .starts) (mask-again (h .starts) p),
+      eq-eqb (maskOf (locationsIn (h .ends))) (h .ends) (mask-again (h .ends) q),
     )
     (reorder (x && leb (h .count) mostEdges) (edgesOk (ruleIn h t) (edgesIn (h .count) t))
     (leb (pairCount (ruleIn h t)) mostPairs) (same (edgeTable (length t) (ruleIn h t)) t)
     (edgesGood h (h .count) t)
-    (λ e. let few : h .count ≤ 256 = leb-true (h .count) mostEdges (and-right x (leb (h .count) mostEdges) e) in
-    edges-same h (bitsFrom 32 0 (h .starts)) (bitsFrom 32 0 (h .ends)) (h .ceiling) (edgesIn (h .count) t)
-    (h .count) t
+    (λ e. let few : h .count ≤ mostEdges = leb-true (h .count) mostEdges (and-right x (leb (h .count) mostEdges) e) in
+    edges-same h (locationsIn (h .starts)) (locationsIn (h .ends)) (h .ceiling) (edgesIn (h .count) t) (h .count) t
     (omega arith)))
 
--- N, where head record and edge table are good: sizes in range, and cm at most 30
+-- N, where head record and edge table are good: sizes in range, and cm at most the largest constant
 good-top :
     (h : Head) (t : List ℕ) → Good-head h → edgeNeed ≤ length t → edgesGood h (h .count) t ≡ true
-    → cm (ruleIn h t) ≤ 30
+    → cm (ruleIn h t) ≤ mostConstant
 unfolding cm ruleIn
 good-top h t good long q =
-    let i : List ℕ = bitsFrom 32 0 (h .starts) in
-    let f : List ℕ = bitsFrom 32 0 (h .ends) in
+    let i : List ℕ = locationsIn (h .starts) in
+    let f : List ℕ = locationsIn (h .ends) in
     let es : List Edge = edgesIn (h .count) t in
     let r : Rule = rule (h .locations) (h .symbols) (h .clocks) i f (h .ceiling) es in
     let both = edges-same h i f (h .ceiling) es (h .count) t (omega (arith, good .count-most)) ∙ q in
-    larger-most (largestOf es) (h .ceiling - 1) 30
+    larger-most (largestOf es) (h .ceiling - 1) mostConstant
     (edges-top r es (and-left (edgesOk r es) (same (filled (length t) (edgesNumbers es)) t) both))
     (omega (arith, good .ceiling-most))
 
 pub pairs-good :
     (h : Head) (t : List ℕ) (p : ℕ) → headGood h ≡ true → edgeNeed ≤ length t → edgesGood h (h .count) t ≡ true
     → p ≡ smallPairs h t
-    → leb p 65536 ≡ pairsGood h t
+    → leb p mostPairs ≡ pairsGood h t
 pairs-good h t p q long edges e =
     let good = good-head h q in
     rw (
       e,
-      le-leb (h .locations) 32 (good .sizes .locations-most),
-      le-leb (h .clocks) 4 (good .sizes .clocks-most),
-      le-leb (cm (ruleIn h t)) 30 (good-top h t good long edges),
+      le-leb (h .locations) mostLocations (good .sizes .locations-most),
+      le-leb (h .clocks) mostClocks (good .sizes .clocks-most),
+      le-leb (cm (ruleIn h t)) mostConstant (good-top h t good long edges),
     )
 
 -- What a call that passes has shown: 20 and 21 do not refuse, so that the rule is valid, and head record and edge table

@@ -13,11 +13,13 @@ use Rattle.model.specs.Basics.{same, zeros, filled}
 use Rattle.model.specs.declared.Head.{Head}
 use Rattle.model.specs.Rules.{Edge, rule, mostAtoms, atomsOk, integerReset, edgesOk}
 use Rattle.model.specs.Files.{atomNumbers}
-use Rattle.model.specs.Layout.{edgeFields, edgeWidth, atomsIn, edgeIn, edgesIn, edgeNumbers, edgesNumbers}
+use Rattle.model.specs.Layout.{edgeFields, atomWidth, edgeWidth, atomsIn, edgeIn, edgesIn, edgeNumbers, edgesNumbers}
 use Rattle.model.proofs.Logic.{same-truth, same-self}
 use Rattle.model.proofs.EdgeTable.{atoms-length}
 use Rattle.model.proofs.EdgesWritten.{edge-numbers-length}
-use Rattle.rule.specs.Checks.{allZero, fieldsGood, edgeGood, edgesGood}
+use Rattle.edges.specs.Checks.{fieldsOk}
+use Rattle.edges.proofs.EdgeChecks.{atom-numbers}
+use Rattle.rule.specs.Checks.{allZero, unusedZero, edgeGood, edgesGood}
 
 -- two lists in two parts each
 same-parts :
@@ -42,52 +44,48 @@ same-zeros : (xs : List ℕ) → same (zeros (length xs)) xs ≡ allZero xs
 same-zeros [] = refl
 same-zeros (x ∷ xs) = ap₂ _&&_ (eqb-turned 0 x) (same-zeros xs)
 
--- the numbers of the atoms that were read are the numbers that stand there
-atom-numbers : (n : ℕ) (t : List ℕ) → 3 * n ≤ length t → atomNumbers (atomsIn n t) ≡ take (3 * n) t
-atom-numbers zero t h = refl
-atom-numbers (suc n) [] h = absurd (omega arith)
-atom-numbers (suc n) (x ∷ []) h = absurd (omega arith)
-atom-numbers (suc n) (x ∷ y ∷ []) h = absurd (omega arith)
-atom-numbers (suc n) (x ∷ y ∷ z ∷ t) h =
-    let e : 3 * suc n ≡ suc (suc (suc (3 * n))) = omega arith in
-    rw e (ap (λ (l : List ℕ). x ∷ y ∷ z ∷ l) (atom-numbers n t (omega arith)))
-
 -- the places of an edge's atoms: those that it has, then zeros
+abbrev atomPlaces : ℕ
+atomPlaces = edgeWidth - edgeFields
+
 atoms-same :
-    (n : ℕ) (t : List ℕ) → 24 ≤ length t → n ≤ 8
-    → same (filled 24 (atomNumbers (atomsIn n t))) (take 24 t) ≡ allZero (take (24 - 3 * n) (drop (3 * n) t))
+    (n : ℕ) (t : List ℕ) → atomPlaces ≤ length t → n ≤ mostAtoms
+    → same (filled atomPlaces (atomNumbers (atomsIn n t))) (take atomPlaces t)
+    ≡ allZero (take (atomPlaces - atomWidth * n) (drop (atomWidth * n) t))
 atoms-same n t h m =
-    let numbers : atomNumbers (atomsIn n t) ≡ take (3 * n) t = atom-numbers n t (omega arith) in
-    let long : length (take (3 * n) t) ≡ 3 * n = length-take-le (3 * n) t (omega arith) in
-    let past : length (take (24 - 3 * n) (drop (3 * n) t)) ≡ 24 - 3 * n =
-    length-take-le (24 - 3 * n) (drop (3 * n) t) (rw (length-drop (3 * n) t) (omega arith)) in
-    let e : 24 ≡ 3 * n + (24 - 3 * n) = omega arith in
-    let split : take 24 t ≡ take (3 * n) t ++ take (24 - 3 * n) (drop (3 * n) t) =
-    ap (λ (k : ℕ). take k t) e ∙ take-add (3 * n) (24 - 3 * n) t in
+    let numbers : atomNumbers (atomsIn n t) ≡ take (atomWidth * n) t = atom-numbers n t (omega arith) in
+    let long : length (take (atomWidth * n) t) ≡ atomWidth * n = length-take-le (atomWidth * n) t (omega arith) in
+    let past : length (take (atomPlaces - atomWidth * n) (drop (atomWidth * n) t)) ≡ atomPlaces - atomWidth * n =
+    length-take-le (atomPlaces - atomWidth * n) (drop (atomWidth * n) t)
+    (rw (length-drop (atomWidth * n) t) (omega arith)) in
+    let e : atomPlaces ≡ atomWidth * n + (atomPlaces - atomWidth * n) = omega arith in
+    let split :
+    take atomPlaces t ≡ take (atomWidth * n) t ++ take (atomPlaces - atomWidth * n) (drop (atomWidth * n) t) =
+    ap (λ (k : ℕ). take k t) e ∙ take-add (atomWidth * n) (atomPlaces - atomWidth * n) t in
     rw (
       numbers,
       long,
       split,
-      same-parts (take (3 * n) t) (take (3 * n) t) (zeros (24 - 3 * n))
-          (take (24 - 3 * n) (drop (3 * n) t)) refl,
-      same-self (take (3 * n) t),
+      same-parts (take (atomWidth * n) t) (take (atomWidth * n) t) (zeros (atomPlaces - atomWidth * n))
+          (take (atomPlaces - atomWidth * n) (drop (atomWidth * n) t)) refl,
+      same-self (take (atomWidth * n) t),
     )
-    (ap (λ (k : ℕ). same (zeros k) (take (24 - 3 * n) (drop (3 * n) t))) (sym past)
-    ∙ same-zeros (take (24 - 3 * n) (drop (3 * n) t)))
+    (ap (λ (k : ℕ). same (zeros k) (take (atomPlaces - atomWidth * n) (drop (atomWidth * n) t))) (sym past)
+    ∙ same-zeros (take (atomPlaces - atomWidth * n) (drop (atomWidth * n) t)))
 
 -- one edge
 pub edge-same :
-    (t : List ℕ) → 29 ≤ length t → getD t 4 0 ≤ 8
+    (t : List ℕ) → edgeWidth ≤ length t → getD t 4 0 ≤ mostAtoms
     → same (edgeNumbers (edgeIn t)) (take edgeWidth t)
-    ≡ allZero (take (edgeWidth - (edgeFields + 3 * getD t 4 0)) (drop (edgeFields + 3 * getD t 4 0) t))
+    ≡ unusedZero t
 edge-same [] h m = absurd (omega arith)
 edge-same (a ∷ []) h m = absurd (omega arith)
 edge-same (a ∷ b ∷ []) h m = absurd (omega arith)
 edge-same (a ∷ b ∷ c ∷ []) h m = absurd (omega arith)
 edge-same (a ∷ b ∷ c ∷ d ∷ []) h m = absurd (omega arith)
 edge-same (a ∷ b ∷ c ∷ d ∷ n ∷ t) h m =
-    let fields : edgeFields + 3 * n ≡ suc (suc (suc (suc (suc (3 * n))))) = omega arith in
-    let past : edgeWidth - (edgeFields + 3 * n) ≡ 24 - 3 * n = omega arith in
+    let fields : edgeFields + atomWidth * n ≡ suc (suc (suc (suc (suc (atomWidth * n))))) = omega arith in
+    let past : edgeWidth - (edgeFields + atomWidth * n) ≡ atomPlaces - atomWidth * n = omega arith in
     rw (
       past,
       fields,
@@ -102,16 +100,16 @@ edge-same (a ∷ b ∷ c ∷ d ∷ n ∷ t) h m =
 
 -- the first edge, and the rest
 table-parts :
-    (xs ys t : List ℕ) → length xs ≡ 29 → 29 ≤ length t
+    (xs ys t : List ℕ) → length xs ≡ edgeWidth → edgeWidth ≤ length t
     → same (filled (length t) (xs ++ ys)) t
-    ≡ (same xs (take 29 t) && same (filled (length (drop 29 t)) ys) (drop 29 t))
+    ≡ (same xs (take edgeWidth t) && same (filled (length (drop edgeWidth t)) ys) (drop edgeWidth t))
 table-parts xs ys t e h =
-    let left : length t - length (xs ++ ys) ≡ length (drop 29 t) - length ys =
-    rw (length-append xs ys, length-drop 29 t, e) (omega arith) in
-    let front : length xs ≡ length (take 29 t) = e ∙ sym (length-take-le 29 t h) in
-    ap (λ (l : List ℕ). same (filled (length t) (xs ++ ys)) l) (sym (take-append-drop 29 t))
-    ∙ (rw (left, append-assoc xs ys (zeros (length (drop 29 t) - length ys)))
-    (same-parts xs (take 29 t) (ys ++ zeros (length (drop 29 t) - length ys)) (drop 29 t) front))
+    let left : length t - length (xs ++ ys) ≡ length (drop edgeWidth t) - length ys =
+    rw (length-append xs ys, length-drop edgeWidth t, e) (omega arith) in
+    let front : length xs ≡ length (take edgeWidth t) = e ∙ sym (length-take-le edgeWidth t h) in
+    ap (λ (l : List ℕ). same (filled (length t) (xs ++ ys)) l) (sym (take-append-drop edgeWidth t))
+    ∙ (rw (left, append-assoc xs ys (zeros (length (drop edgeWidth t) - length ys)))
+    (same-parts xs (take edgeWidth t) (ys ++ zeros (length (drop edgeWidth t) - length ys)) (drop edgeWidth t) front))
 
 swapped : (q s w : Bool) → (q && (s && w)) ≡ (s && (q && w))
 swapped true s w = refl
@@ -132,7 +130,7 @@ regroup true true true true q s w g z split e = rw (split refl, ← e) (swapped 
 
 -- all edges, then the places past them
 pub edges-same :
-    (h : Head) (i f : List ℕ) (c : ℕ) (es : List Edge) (n : ℕ) (t : List ℕ) → 29 * n ≤ length t
+    (h : Head) (i f : List ℕ) (c : ℕ) (es : List Edge) (n : ℕ) (t : List ℕ) → edgeWidth * n ≤ length t
     → (edgesOk (rule (h .locations) (h .symbols) (h .clocks) i f c es) (edgesIn n t)
     && same (filled (length t) (edgesNumbers (edgesIn n t))) t)
     ≡ edgesGood h n t
@@ -142,19 +140,18 @@ edges-same h i f c es (suc n) t b =
     let e : Edge = edgeIn t in
     let few : leb (length (e .atoms)) mostAtoms ≡ leb (getD t 4 0) mostAtoms =
     ap (λ (k : ℕ). leb k mostAtoms) (atoms-length (getD t 4 0) (drop edgeFields t)) in
-    let fields : Bool = fieldsGood h t in
+    let fields : Bool = fieldsOk h t in
     let atoms : Bool = atomsOk (h .clocks) (e .atoms) in
-    let unused : Bool =
-    allZero (take (edgeWidth - (edgeFields + 3 * getD t 4 0)) (drop (edgeFields + 3 * getD t 4 0) t)) in
+    let unused : Bool = unusedZero t in
     let rest : List Edge = edgesIn n (drop edgeWidth t) in
     let rest-good : Bool = edgesOk (rule (h .locations) (h .symbols) (h .clocks) i f c es) rest in
-    let rest-same : Bool = same (filled (length (drop 29 t)) (edgesNumbers rest)) (drop 29 t) in
+    let rest-same : Bool = same (filled (length (drop edgeWidth t)) (edgesNumbers rest)) (drop edgeWidth t) in
     regroup fields atoms (integerReset e) (leb (length (e .atoms)) mostAtoms) rest-good unused rest-same
     (edgesGood h n (drop edgeWidth t)) (same (filled (length t) (edgeNumbers e ++ edgesNumbers rest)) t)
     (λ q.
-    let m : length (e .atoms) ≤ 8 = leb-true (length (e .atoms)) 8 q in
+    let m : length (e .atoms) ≤ mostAtoms = leb-true (length (e .atoms)) mostAtoms q in
     table-parts (edgeNumbers e) (edgesNumbers rest) t (edge-numbers-length e m) (omega arith)
-    ∙ ap (λ (x : Bool). x && rest-same) (edge-same t (omega arith) (leb-true (getD t 4 0) 8 (sym few ∙ q))))
-    (edges-same h i f c es n (drop edgeWidth t) (rw (length-drop 29 t) (omega arith)))
+    ∙ ap (λ (x : Bool). x && rest-same) (edge-same t (omega arith) (leb-true (getD t 4 0) mostAtoms (sym few ∙ q))))
+    (edges-same h i f c es n (drop edgeWidth t) (rw (length-drop edgeWidth t) (omega arith)))
     ∙ ap (λ (x : Bool). (fields && x && atoms && integerReset e && unused) && edgesGood h n (drop edgeWidth t))
     few

@@ -5,8 +5,9 @@ use Prim.Native.Nat.{ℕ, zero, suc, _+_, _-_, _*_, _^_}
 use lib.Dec.{eqb, ltb, leb}
 use lib.ListN.{getD, take, drop}
 use Rattle.model.specs.declared.Head.{Head}
-use Rattle.model.specs.Rules.{pairCount, mostPairs, mostEdges, mostAtoms, sizesOk, atomsOk, integerReset}
-use Rattle.model.specs.Layout.{edgeFields, edgeWidth, atomsIn, edgeIn, ruleIn}
+use Rattle.model.specs.Rules.{pairCount, mostPairs, mostEdges, mostAtoms, mostConstant, sizesOk, atomsOk, integerReset}
+use Rattle.model.specs.Layout.{edgeFields, atomWidth, edgeWidth, edgeIn, ruleIn}
+use Rattle.edges.specs.Checks.{fieldsOk}
 
 abbrev pub allZero : List ℕ → Bool
 allZero [] = true
@@ -17,21 +18,21 @@ unfoldable pub headGood : Head → Bool
 headGood h =
     sizesOk (h .locations) (h .symbols) (h .clocks) && ltb (h .starts) (2 ^ h .locations)
     && ltb (h .ends) (2 ^ h .locations)
-    && leb (h .ceiling) 31
+    && leb (h .ceiling) (mostConstant + 1)
     && leb (h .count) mostEdges
 
--- the edge at the front of a table: source, target, symbol and reset mask in range
-abbrev pub fieldsGood : Head → List ℕ → Bool
-fieldsGood h t =
-    ltb (getD t 0 0) (h .locations) && ltb (getD t 1 0) (h .locations) && ltb (getD t 2 0) (h .symbols)
-    && ltb (getD t 3 0) (2 ^ h .clocks)
+-- the places of the atoms that the edge at the front of a table does not have
+abbrev pub unusedZero : List ℕ → Bool
+unusedZero t =
+    allZero (take (edgeWidth - (edgeFields + atomWidth * getD t 4 0)) (drop (edgeFields + atomWidth * getD t 4 0) t))
 
--- then at most 8 atoms, each in range, resets pinned, and the places of the atoms that it does not have zero
+-- the edge at the front of a table: its fields in range, at most 8 atoms, each in range, resets pinned, and its unused
+-- places zero
 unfoldable pub edgeGood : Head → List ℕ → Bool
 edgeGood h t =
-    fieldsGood h t && leb (getD t 4 0) mostAtoms && atomsOk (h .clocks) (atomsIn (getD t 4 0) (drop edgeFields t))
+    fieldsOk h t && leb (getD t 4 0) mostAtoms && atomsOk (h .clocks) (edgeIn t .atoms)
     && integerReset (edgeIn t)
-    && allZero (take (edgeWidth - (edgeFields + 3 * getD t 4 0)) (drop (edgeFields + 3 * getD t 4 0) t))
+    && unusedZero t
 
 -- the first n edges, and zeros up to the end of the table
 unfoldable pub edgesGood : Head → ℕ → List ℕ → Bool

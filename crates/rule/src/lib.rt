@@ -1,27 +1,37 @@
 // Whether a head record and an edge table are what reading some accepted file leaves: refusals 20 and 21.
 // A direct test in one pass; no file is built.
 ghost use mathlib.Core.Path.{_≡_};
-ghost use mathlib.Core.Bool.{_||_};
-ghost use Prim.Native.Nat.{_*_, _≤_};
-ghost use lib.Dec.{eqb};
+ghost use Prim.Native.Nat.{_≤_};
 ghost use lib.ListN.{length};
-ghost use Rattle.model.specs.Rules.{mostAtoms, mostEdges, atomsOk, hasEqual};
-ghost use Rattle.model.specs.Layout.{edgeNeed, edgeWidth, atomsIn, isReadable};
+ghost use Rattle.model.specs.Rules.{mostEdges};
+ghost use Rattle.model.specs.Layout.{edgeNeed, edgeWidth, isReadable};
 ghost use Rattle.model.specs.Promises.{ChecksRule};
-ghost use Rattle.rule.specs.Checks.{allZero, headGood, fieldsGood, edgeGood, edgesGood};
+ghost use Rattle.rule.specs.Checks.{allZero, headGood, edgeGood, edgesGood};
+use edges::checks::atoms_ok;
+use edges::checks::fields_ok;
+use edges::checks::pinned;
+use edges::fields::count_of;
+use edges::fields::resets_of;
 use edges::mask_ok;
 use edges::pairs_of;
 use edges::sizes_ok;
-use edges::wide16;
-use edges::wide32;
+use model::ATOM_WIDTH;
 use model::Answer;
+use model::EDGE_FIELDS;
+use model::EDGE_NEED;
+use model::EDGE_WIDTH;
 use model::Head;
+use model::MOST_ATOMS;
+use model::MOST_CONSTANT;
+use model::MOST_EDGES;
+use model::MOST_PAIRS;
+use numbers::wide32;
 
 // Refusal 20 or 21, or none.
 pub fn check_rule(head: Head, edges: &[u16]) -> Answer
     ensures { λ r. ⌜ ChecksRule head (now (edges .entry)) r ⌝ }
 {
-    if edges.len() < 7424 {
+    if edges.len() < EDGE_NEED {
         return Answer {
             number: 20,
             place: 0,
@@ -52,7 +62,7 @@ pub(crate) fn readable(head: Head, edges: &[u16]) -> bool
     if !edges_ok(head, edges) {
         return false;
     }
-    pairs_of(head, edges) <= 65536
+    pairs_of(head, edges) <= MOST_PAIRS
 }
 
 pub(crate) fn head_ok(head: Head) -> bool
@@ -68,10 +78,10 @@ pub(crate) fn head_ok(head: Head) -> bool
     if !mask_ok(wide32(head.ends), locations) {
         return false;
     }
-    if 31 < head.ceiling {
+    if MOST_CONSTANT + 1 < wide32(head.ceiling) {
         return false;
     }
-    head.count <= 256
+    wide32(head.count) <= MOST_EDGES
 }
 
 // Every edge, then zeros up to the end of the table.
@@ -82,13 +92,13 @@ pub(crate) fn edges_ok(head: Head, edges: &[u16]) -> bool
     let count = wide32(head.count);
     let mut e: usize = 0;
     while e < count {
-        let at = 29 * e;
+        let at = EDGE_WIDTH * e;
         if !edge_ok(head, &edges[at..]) {
             return false;
         }
         e += 1;
     }
-    let past = 29 * count;
+    let past = EDGE_WIDTH * count;
     all_zero(&edges[past..])
 }
 
@@ -100,77 +110,19 @@ pub(crate) fn edge_ok(head: Head, edge: &[u16]) -> bool
     if !fields_ok(head, edge) {
         return false;
     }
-    let count = wide16(edge[4]);
-    if 8 < count {
+    let count = count_of(edge, 0);
+    if MOST_ATOMS < count {
         return false;
     }
-    let atoms = &edge[5..];
-    if !atoms_ok(atoms, count, wide32(head.clocks)) {
+    let past = EDGE_FIELDS + ATOM_WIDTH * count;
+    let atoms = &edge[EDGE_FIELDS..past];
+    if !atoms_ok(atoms, wide32(head.clocks)) {
         return false;
     }
-    if !pinned(wide16(edge[3]), atoms, count) {
+    if !pinned(resets_of(edge, 0), atoms) {
         return false;
     }
-    let unused = 5 + 3 * count;
-    all_zero(&edge[unused..29])
-}
-
-// An edge's source, target, symbol and reset mask.
-pub(crate) fn fields_ok(head: Head, edge: &[u16]) -> bool
-    requires { ⌜ edgeWidth ≤ length (now edge) ⌝ }
-    ensures { λ r. ⌜ r ≡ fieldsGood head (now (edge .entry)) ⌝ }
-{
-    let locations = wide32(head.locations);
-    if locations <= wide16(edge[0]) {
-        return false;
-    }
-    if locations <= wide16(edge[1]) {
-        return false;
-    }
-    if wide32(head.symbols) <= wide16(edge[2]) {
-        return false;
-    }
-    mask_ok(wide16(edge[3]), wide32(head.clocks))
-}
-
-// Clock, relation and constant of each of the first `count` atoms.
-pub(crate) fn atoms_ok(atoms: &[u16], count: usize, clocks: usize) -> bool
-    requires { ⌜ (count ≤ mostAtoms) × (3 * count ≤ length (now atoms)) ⌝ }
-    ensures { λ r. ⌜ r ≡ atomsOk clocks (atomsIn count (now (atoms .entry))) ⌝ }
-{
-    let mut j: usize = 0;
-    while j < count {
-        let at = 3 * j;
-        if clocks <= wide16(atoms[at]) {
-            return false;
-        }
-        if 4 < atoms[at + 1] {
-            return false;
-        }
-        if 30 < atoms[at + 2] {
-            return false;
-        }
-        j += 1;
-    }
-    true
-}
-
-// An edge that resets any clock has an atom with relation 2.
-pub(crate) fn pinned(resets: usize, atoms: &[u16], count: usize) -> bool
-    requires { ⌜ (count ≤ mostAtoms) × (3 * count ≤ length (now atoms)) ⌝ }
-    ensures { λ r. ⌜ r ≡ (eqb resets 0 || hasEqual (atomsIn count (now (atoms .entry)))) ⌝ }
-{
-    if resets == 0 {
-        return true;
-    }
-    let mut j: usize = 0;
-    while j < count {
-        if atoms[3 * j + 1] == 2 {
-            return true;
-        }
-        j += 1;
-    }
-    false
+    all_zero(&edge[past..EDGE_WIDTH])
 }
 
 // No way out of the loop: many places are then looked at in one step.

@@ -16,6 +16,18 @@ Inv-loop file edges₀ cursor₀ edges cursor = (length edges ≡ length edges�
 abbrev μ-loop : tie.MeasureT-loop
 μ-loop file edges₀ cursor₀ edges cursor = length file - cursor .at
 
+-- what a step does, for the answer that it gave
+step-is :
+    (c : tie.After-step Inv-loop μ-loop) {x : Step} → c .step .result ≡ x
+    → let loop = c .before .before .before .before .loop in
+    let start = c .before .before .before .before .before .before .before .before in
+    StepIs (start .args .file .now) (loop .inv .1 .rule) (loop .cursor) (c .step .last .1 .1 .0) x
+step-is c {x} e =
+    let loop = c .before .before .before .before .loop in
+    let start = c .before .before .before .before .before .before .before .before in
+    subst (λ (y : Step). StepIs (start .args .file .now) (loop .inv .1 .rule) (loop .cursor) (c .step .last .1 .1 .0) y)
+    e (c .step .ensures (loop .inv .1 .rule) (loop .inv .1 .state))
+
 no-head-requires : tie.Need-no-head-requires Inv-loop μ-loop
 no-head-requires c κs = search needs
 
@@ -30,28 +42,17 @@ enum-known-step c = search needs
 
 loop-less : tie.Need-loop-less Inv-loop μ-loop
 loop-less c =
-    let step2 = c .before .step2 in
-    let step = c .before .before .before .before .before .step in
-    let l = c .before .before .before .before .before .before .before .before .before .loop in
-    let back = c .before .before .before .before .before .before .before .before .before in
-    let a = back .before .before .before .before .args in
-    next-less (l .inv .1)
-    (subst (λ (x : Step). StepIs (a .file .now) (l .inv .1 .rule) (l .cursor) (step .last .1 .1 .0) x)
-    (step2 .given .1) (step .ensures (l .inv .1 .rule) (l .inv .1 .state)))
+    let stepped = c .before .before .before .before .before in
+    let at-loop = stepped .before .before .before .before in
+    next-less (at-loop .loop .inv .1) (step-is stepped (c .before .step2 .given .1))
 
 loop-again : tie.Need-loop-again Inv-loop μ-loop
 loop-again c =
-    let step2 = c .before .step2 in
-    let step = c .before .before .before .before .before .step in
-    let if1 = c .before .before .before .before .before .before .before .if1 in
-    let l = c .before .before .before .before .before .before .before .before .before .loop in
-    let back = c .before .before .before .before .before .before .before .before .before in
-    let a = back .before .before .before .before .args in (
-      step .kept .1 .1 .0
-          ∙ l .inv .0,
-      reads-next (l .inv .1) (if1 .taken)
-          (subst (λ (x : Step). StepIs (a .file .now) (l .inv .1 .rule) (l .cursor) (step .last .1 .1 .0) x)
-          (step2 .given .1) (step .ensures (l .inv .1 .rule) (l .inv .1 .state))),
+    let stepped = c .before .before .before .before .before in
+    let at-loop = stepped .before .before .before .before in (
+      stepped .step .kept .1 .1 .0 ∙ at-loop .loop .inv .0,
+      reads-next (at-loop .loop .inv .1) (stepped .before .before .if1 .taken)
+          (step-is stepped (c .before .step2 .given .1)),
     )
 
 enum-known-step-2 : tie.Need-enum-known-step-2 Inv-loop μ-loop
@@ -62,22 +63,17 @@ refused-requires c κs = search needs
 
 same-length : tie.Need-same-length Inv-loop μ-loop
 same-length c =
-    let step = c .before .before .before .before .before .before .step in
-    let back = c .before .before .before .before .before .before .before .before .before in
-    let l = back .before .loop in
-    step .kept .1 .1 .0 ∙ l .inv .0
+    let stepped = c .before .before .before .before .before .before in
+    let at-loop = stepped .before .before .before .before in
+    stepped .step .kept .1 .1 .0 ∙ at-loop .loop .inv .0
 
 returns : tie.Need-returns Inv-loop μ-loop
 returns c =
-    let step3 = c .before .before .step3 in
-    let step = c .before .before .before .before .before .before .step in
-    let if1 = c .before .before .before .before .before .before .before .before .if1 in
-    let back = c .before .before .before .before .before .before .before .before .before in
-    let l = back .before .loop in
-    let a = back .before .before .before .before .before .args in
-    reads-stops (l .inv .1) _ (a .edges .now) _ (if1 .taken)
-    (subst (λ (x : Step). StepIs (a .file .now) (l .inv .1 .rule) (l .cursor) (step .last .1 .1 .0) x)
-    (step3 .given .1) (step .ensures (l .inv .1 .rule) (l .inv .1 .state))) (c .refused .ensures)
+    let stepped = c .before .before .before .before .before .before in
+    let at-loop = stepped .before .before .before .before in
+    let start = at-loop .before .before .before .before in
+    reads-stops (at-loop .loop .inv .1) _ (start .args .edges .now) _ (stepped .before .before .if1 .taken)
+    (step-is stepped (c .before .before .step3 .given .1)) (c .refused .ensures)
 
 finish-requires : tie.Need-finish-requires Inv-loop μ-loop
 finish-requires c κs = search needs
@@ -87,11 +83,10 @@ same-length-2 c = c .before .before .before .before .loop .inv .0
 
 returns-2 : tie.Need-returns-2 Inv-loop μ-loop
 returns-2 c =
-    let if1 = c .before .before .if1 in
-    let l = c .before .before .before .before .loop in
-    let a = c .before .before .before .before .before .before .before .before .args in
-    reads-ends (l .inv .1) (a .edges .now) (if1 .left) (l .inv .0)
-    (c .finish .ensures (l .inv .1 .rule) (l .inv .1 .state))
+    let at-loop = c .before .before .before .before in
+    let start = at-loop .before .before .before .before in
+    reads-ends (at-loop .loop .inv .1) (start .args .edges .now) (c .before .before .if1 .left) (at-loop .loop .inv .0)
+    (c .finish .ensures (at-loop .loop .inv .1 .rule) (at-loop .loop .inv .1 .state))
 
 pub read-records-spec : {M : Type 1} → statement M
 read-records-spec =

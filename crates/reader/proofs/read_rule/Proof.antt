@@ -11,50 +11,48 @@ refused-requires c κs = search needs
 
 returns : tie.Need-returns
 returns c =
-    let if1 = c .before .if1 in
-    let a = c .before .before .before .before .args in
-    reads-short (a .file .now) (a .edges .now) (if1 .taken) (c .refused .ensures)
+    let start = c .before .before .before .before in
+    reads-short (start .args .file .now) (start .args .edges .now) (c .before .if1 .taken) (c .refused .ensures)
 
-clear-requires : tie.Need-clear-requires
-clear-requires c κs = search needs
+clear16-requires : tie.Need-clear16-requires
+clear16-requires c κs = search needs
 
 read-records-requires : tie.Need-read-records-requires
 read-records-requires c κs =
-    let clear = c .before .before .before .clear in
-    let if1 = c .before .before .before .before .before .if1 in
-    let a = c .before .before .before .before .before .before .before .before .args in
-    is-cleared (a .file .now) (a .edges .now) (if1 .left) (clear .ensures)
+    let cleared = c .before .before .before in
+    let long = cleared .before .before in
+    let a = long .before .before .before .args in
+    is-cleared (a .file .now) (a .edges .now) (long .if1 .left) (cleared .clear16 .ensures)
 
-clear-requires-2 : tie.Need-clear-requires-2
-clear-requires-2 c κs = search needs
+clear16-requires-2 : tie.Need-clear16-requires-2
+clear16-requires-2 c κs = search needs
 
 same-length : tie.Need-same-length
 same-length c = search needs
 
 returns-2 : tie.Need-returns-2
 returns-2 c =
-    let clear2 = c .before .before .clear2 in
-    let if2 = c .before .before .before .before .if2 in
-    let read-records = c .before .before .before .before .before .before .before .before .read-records in
-    let back = c .before .before .before .before .before .before .before .before .before in
-    let clear = back .before .before .before .clear in
-    let if1 = back .before .before .before .before .before .if1 in
-    let a = back .before .before .before .before .before .before .before .before .args in
-    reads-refused (a .file .now) (a .edges .now) (if1 .left) (clear .kept .0) (read-records .ensures)
-    (if2 .taken) (clear2 .ensures ∙ ap zeros (read-records .kept .1 .0 ∙ clear .kept .0))
+    let again = c .before .before in
+    let refused = again .before .before in
+    let read = refused .before .before .before .before in
+    let cleared = read .before .before .before .before in
+    let long = cleared .before .before in
+    let a = long .before .before .before .args in
+    reads-refused (a .file .now) (a .edges .now) (long .if1 .left)
+    (cleared .clear16 .kept .0) (read .read-records .ensures) (refused .if2 .taken)
+    (again .clear162 .ensures ∙ ap zeros (read .read-records .kept .1 .0 ∙ cleared .clear16 .kept .0))
 
 same-length-2 : tie.Need-same-length-2
 same-length-2 c = search needs
 
 returns-3 : tie.Need-returns-3
 returns-3 c =
-    let read-records = c .before .before .before .before .read-records in
-    let clear = c .before .before .before .before .before .before .before .before .clear in
-    let back = c .before .before .before .before .before .before .before .before .before in
-    let if1 = back .before .if1 in
-    let a = back .before .before .before .before .args in
-    reads-rule (a .file .now) (a .edges .now) (if1 .left) (clear .kept .0) (read-records .ensures)
-    (c .if2 .left)
+    let read = c .before .before .before .before in
+    let cleared = read .before .before .before .before in
+    let long = cleared .before .before in
+    let a = long .before .before .before .args in
+    reads-rule (a .file .now) (a .edges .now) (long .if1 .left)
+    (cleared .clear16 .kept .0) (read .read-records .ensures) (c .if2 .left)
 
 pub read-rule-spec : {M : Type 1} → statement M
 read-rule-spec =
@@ -62,9 +60,9 @@ read-rule-spec =
     (tie.spec
     refused-requires
     returns
-    clear-requires
+    clear16-requires
     read-records-requires
-    clear-requires-2
+    clear16-requires-2
     same-length
     returns-2
     same-length-2

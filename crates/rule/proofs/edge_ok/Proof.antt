@@ -1,13 +1,36 @@
 -- `rule::edge_ok` meets its contract: its tests in the definition's order.
-use native.Mathlib.Omega.{arith}
-use lib.ListN.{getD}
-use borrow.Author.Tests.{le-leb, lt-leb}
+use mathlib.Core.Path.{_≡_}
 use borrow.Author.Needs.{needs}
+use Rattle.model.specs.Rules.{atomsOk, integerReset}
+use Rattle.model.specs.Layout.{edgeIn}
 use Rattle.numbers.proofs.Answers.{failed, passed}
 use Rattle.rule.specs.Checks.{edgeGood}
-use Rattle.rule.proofs.Laws.{edge-atoms, edge-pinned, edge-unused}
+use Rattle.rule.proofs.Laws.{count-high, count-low, edge-atoms, edge-pinned, edge-unused}
 use Rattle.rule.proofs.edge_ok.Statement.{statement}
 use Rattle.rule.proofs.edge_ok.Tie as tie
+
+-- what the tests of the atoms found
+atoms-at :
+    (c : tie.After-atoms-ok)
+    → let a = c .before .before .before .before .before .before .before .before .args in
+    c .atoms-ok .result ≡ atomsOk (a .head .clocks) (edgeIn (a .edge .now) .atoms)
+atoms-at c =
+    let counted = c .before .before .before .before in
+    let start = counted .before .before .before .before in
+    edge-atoms (start .args .head) (start .args .edge .now) (start .pre) _ (counted .count-of .ensures .0)
+    (c .before .before .before .if2 .left) _ (c .before .wide32 .ensures .0) (c .atoms-ok .ensures)
+
+pinned-at :
+    (c : tie.After-pinned)
+    → let counted = c .before .before .before .before .before .before .before in
+    let a = counted .before .before .before .before .args in
+    c .pinned .result ≡ integerReset (edgeIn (a .edge .now))
+pinned-at c =
+    let few = c .before .before .before .before .before .before in
+    let counted = few .before in
+    let start = counted .before .before .before .before in
+    edge-pinned (start .args .head) (start .args .edge .now) (start .pre) _ (counted .count-of .ensures .0)
+    (few .if2 .left) _ (c .before .resets-of .ensures .0) (c .pinned .ensures)
 
 fields-ok-requires : tie.Need-fields-ok-requires
 fields-ok-requires c κs = search needs
@@ -16,19 +39,26 @@ returns : tie.Need-returns
 unfolding edgeGood
 returns c = rw (failed (c .before .fields-ok .ensures) (c .if1 .taken))
 
-shared-slice-read-wide16 : tie.Need-shared-slice-read-wide16
-shared-slice-read-wide16 c = search needs
-
-wide16-requires : tie.Need-wide16-requires
-wide16-requires c κs = search needs
+count-of-requires : tie.Need-count-of-requires
+count-of-requires c κs = search needs
 
 returns-2 : tie.Need-returns-2
 unfolding edgeGood
 returns-2 c =
-    let if1 = c .before .before .before .if1 in
-    let fields-ok = c .before .before .before .before .fields-ok in
-    let a = c .before .before .before .before .before .before .args in
-    rw (passed (fields-ok .ensures) (if1 .left), lt-leb (getD (a .edge .now) 4 0) 8 (omega arith))
+    let counted = c .before in
+    let fields = counted .before .before in
+    let start = fields .before .before in
+    rw (
+      passed (fields .fields-ok .ensures) (counted .before .if1 .left),
+      count-high (start .args .head) (start .args .edge .now) (start .pre) _ (counted .count-of .ensures .0)
+          (c .if2 .taken),
+    )
+
+mul-past : tie.Need-mul-past
+mul-past c = search needs
+
+add-past : tie.Need-add-past
+add-past c = search needs
 
 sub-atoms : tie.Need-sub-atoms
 sub-atoms c = search needs
@@ -48,28 +78,20 @@ atoms-ok-requires c κs = search needs
 returns-3 : tie.Need-returns-3
 unfolding edgeGood
 returns-3 c =
-    let atoms-ok = c .before .atoms-ok in
-    let wide32 = c .before .before .wide32 in
-    let if2 = c .before .before .before .before .if2 in
-    let wide16 = c .before .before .before .before .before .wide16 in
-    let if1 = c .before .before .before .before .before .before .before .if1 in
-    let fields-ok = c .before .before .before .before .before .before .before .before .fields-ok in
-    let back = c .before .before .before .before .before .before .before .before .before in
-    let a = back .before .args in
-    let t = a .edge .now in
-    let h = a .head in
+    let atoms = c .before in
+    let few = atoms .before .before .before in
+    let counted = few .before in
+    let fields = counted .before .before in
+    let start = fields .before .before in
     rw (
-      passed (fields-ok .ensures) (if1 .left),
-      le-leb (getD t 4 0) 8 (omega (arith, if2 .left, wide16 .ensures .0)),
-      failed (edge-atoms h t (wide16 .result) (wide16 .ensures .0) (wide32 .result) (wide32 .ensures .0)
-          (atoms-ok .ensures)) (c .if3 .taken),
+      passed (fields .fields-ok .ensures) (counted .before .if1 .left),
+      count-low (start .args .head) (start .args .edge .now) (start .pre) _ (counted .count-of .ensures .0)
+          (few .if2 .left),
+      failed (atoms-at atoms) (c .if3 .taken),
     )
 
-shared-slice-read-wide16-2 : tie.Need-shared-slice-read-wide16-2
-shared-slice-read-wide16-2 c = search needs
-
-wide16-requires-2 : tie.Need-wide16-requires-2
-wide16-requires-2 c κs = search needs
+resets-of-requires : tie.Need-resets-of-requires
+resets-of-requires c κs = search needs
 
 pinned-requires : tie.Need-pinned-requires
 pinned-requires c κs = search needs
@@ -77,33 +99,19 @@ pinned-requires c κs = search needs
 returns-4 : tie.Need-returns-4
 unfolding edgeGood
 returns-4 c =
-    let pinned = c .before .pinned in
-    let wide162 = c .before .before .wide162 in
-    let if3 = c .before .before .before .before .if3 in
-    let atoms-ok = c .before .before .before .before .before .atoms-ok in
-    let wide32 = c .before .before .before .before .before .before .wide32 in
-    let if2 = c .before .before .before .before .before .before .before .before .if2 in
-    let wide16 = c .before .before .before .before .before .before .before .before .before .wide16 in
-    let back = c .before .before .before .before .before .before .before .before .before in
-    let if1 = back .before .before .if1 in
-    let fields-ok = back .before .before .before .fields-ok in
-    let a = back .before .before .before .before .before .args in
-    let t = a .edge .now in
-    let h = a .head in
+    let pins = c .before in
+    let atoms = pins .before .before .before in
+    let few = atoms .before .before .before in
+    let counted = few .before in
+    let fields = counted .before .before in
+    let start = fields .before .before in
     rw (
-      passed (fields-ok .ensures) (if1 .left),
-      le-leb (getD t 4 0) 8 (omega (arith, if2 .left, wide16 .ensures .0)),
-      passed (edge-atoms h t (wide16 .result) (wide16 .ensures .0) (wide32 .result) (wide32 .ensures .0)
-          (atoms-ok .ensures)) (if3 .left),
-      failed (edge-pinned h t (wide16 .result) (wide16 .ensures .0) (wide162 .result) (wide162 .ensures .0)
-          (pinned .ensures)) (c .if4 .taken),
+      passed (fields .fields-ok .ensures) (counted .before .if1 .left),
+      count-low (start .args .head) (start .args .edge .now) (start .pre) _ (counted .count-of .ensures .0)
+          (few .if2 .left),
+      passed (atoms-at atoms) (pins .before .before .if3 .left),
+      failed (pinned-at pins) (c .if4 .taken),
     )
-
-mul-unused : tie.Need-mul-unused
-mul-unused c = search needs
-
-add-unused : tie.Need-add-unused
-add-unused c = search needs
 
 mul-all-zero : tie.Need-mul-all-zero
 mul-all-zero c = search needs
@@ -123,29 +131,21 @@ all-zero-requires c κs = search needs
 returns-5 : tie.Need-returns-5
 unfolding edgeGood
 returns-5 c =
-    let if4 = c .before .before .if4 in
-    let pinned = c .before .before .before .pinned in
-    let wide162 = c .before .before .before .before .wide162 in
-    let if3 = c .before .before .before .before .before .before .if3 in
-    let atoms-ok = c .before .before .before .before .before .before .before .atoms-ok in
-    let wide32 = c .before .before .before .before .before .before .before .before .wide32 in
-    let back = c .before .before .before .before .before .before .before .before .before in
-    let if2 = back .before .if2 in
-    let wide16 = back .before .before .wide16 in
-    let if1 = back .before .before .before .before .if1 in
-    let fields-ok = back .before .before .before .before .before .fields-ok in
-    let a = back .before .before .before .before .before .before .before .args in
-    let t = a .edge .now in
-    let h = a .head in
+    let pins = c .before .before .before in
+    let atoms = pins .before .before .before in
+    let few = atoms .before .before .before in
+    let counted = few .before in
+    let fields = counted .before .before in
+    let start = fields .before .before in
     rw (
-      passed (fields-ok .ensures) (if1 .left),
-      le-leb (getD t 4 0) 8 (omega (arith, if2 .left, wide16 .ensures .0)),
-      passed (edge-atoms h t (wide16 .result) (wide16 .ensures .0) (wide32 .result) (wide32 .ensures .0)
-          (atoms-ok .ensures)) (if3 .left),
-      passed (edge-pinned h t (wide16 .result) (wide16 .ensures .0) (wide162 .result) (wide162 .ensures .0)
-          (pinned .ensures)) (if4 .left),
+      passed (fields .fields-ok .ensures) (counted .before .if1 .left),
+      count-low (start .args .head) (start .args .edge .now) (start .pre) _ (counted .count-of .ensures .0)
+          (few .if2 .left),
+      passed (atoms-at atoms) (pins .before .before .if3 .left),
+      passed (pinned-at pins) (c .before .before .if4 .left),
     )
-    (edge-unused h t (wide16 .result) (wide16 .ensures .0) (c .all-zero .ensures))
+    (edge-unused (start .args .head) (start .args .edge .now) (start .pre) _ (counted .count-of .ensures .0)
+    (few .if2 .left) (c .all-zero .ensures))
 
 pub edge-ok-spec : {M : Type 1} → statement M
 edge-ok-spec =
@@ -153,21 +153,19 @@ edge-ok-spec =
     (tie.spec
     fields-ok-requires
     returns
-    shared-slice-read-wide16
-    wide16-requires
+    count-of-requires
     returns-2
+    mul-past
+    add-past
     sub-atoms
     part-atoms-start
     part-atoms-end
     wide32-requires
     atoms-ok-requires
     returns-3
-    shared-slice-read-wide16-2
-    wide16-requires-2
+    resets-of-requires
     pinned-requires
     returns-4
-    mul-unused
-    add-unused
     mul-all-zero
     sub-all-zero
     part-all-zero-start

@@ -37,10 +37,9 @@ edge-ok-requires c κs = search needs
 
 returns : tie.Need-returns Inv-loop μ-loop
 returns c =
-    let edge-ok = c .before .edge-ok in
-    let l = c .before .before .before .before .loop in
-    let wide32 = c .before .before .before .before .before .wide32 in
-    edges-fail (l .inv) (search needs) (edge-ok .ensures) (c .if1 .taken) (wide32 .ensures .0)
+    let at-loop = c .before .before .before .before in
+    edges-fail (at-loop .loop .inv) (search needs) (c .before .edge-ok .ensures) (c .if1 .taken)
+    (at-loop .before .wide32 .ensures .0)
 
 add-e : tie.Need-add-e Inv-loop μ-loop
 add-e c = search needs

@@ -1,11 +1,45 @@
 -- `rule::head_ok` meets its contract: its tests in the definition's order.
+use mathlib.Core.Path.{_≡_, ap}
+use Prim.Native.Nat.{ℕ, _+_, _^_}
+use native.Mathlib.Omega.{arith}
+use lib.Dec.{ltb, leb}
 use borrow.Author.Tests.{le-leb, lt-leb}
 use borrow.Author.Needs.{needs}
+use Rattle.model.specs.Rules.{mostConstant, mostEdges, sizesOk}
 use Rattle.numbers.proofs.Answers.{failed, passed}
 use Rattle.rule.specs.Checks.{headGood}
 use Rattle.rule.proofs.Laws.{sizes-known, mask-known}
 use Rattle.rule.proofs.head_ok.Statement.{statement}
 use Rattle.rule.proofs.head_ok.Tie as tie
+
+-- what each test found, of the record's own numbers
+sizes-at :
+    (c : tie.After-sizes-ok)
+    → let h = c .before .before .before .before .args .head in
+    c .sizes-ok .result ≡ sizesOk (h .locations) (h .symbols) (h .clocks)
+sizes-at c =
+    let symbols = c .before .before in
+    sizes-known (c .sizes-ok .ensures) (symbols .before .wide32 .ensures .0) (symbols .wide322 .ensures .0)
+    (c .before .wide323 .ensures .0)
+
+starts-at :
+    (c : tie.After-mask-ok)
+    → let h = c .before .before .before .before .before .before .before .args .head in
+    c .mask-ok .result ≡ ltb (h .starts) (2 ^ h .locations)
+starts-at c =
+    let sizes = c .before .before .before in
+    mask-known (c .mask-ok .ensures) (c .before .wide324 .ensures .0)
+    (sizes .before .before .before .wide32 .ensures .0)
+
+ends-at :
+    (c : tie.After-mask-ok2)
+    → let sizes = c .before .before .before .before .before .before in
+    let h = sizes .before .before .before .before .args .head in
+    c .mask-ok2 .result ≡ ltb (h .ends) (2 ^ h .locations)
+ends-at c =
+    let sizes = c .before .before .before .before .before .before in
+    mask-known (c .mask-ok2 .ensures) (c .before .wide325 .ensures .0)
+    (sizes .before .before .before .wide32 .ensures .0)
 
 wide32-requires : tie.Need-wide32-requires
 wide32-requires c κs = search needs
@@ -21,14 +55,7 @@ sizes-ok-requires c κs = search needs
 
 returns : tie.Need-returns
 unfolding headGood
-returns c =
-    let sizes-ok = c .before .sizes-ok in
-    let wide323 = c .before .before .wide323 in
-    let wide322 = c .before .before .before .wide322 in
-    let wide32 = c .before .before .before .before .wide32 in
-    rw (failed
-    (sizes-known (sizes-ok .ensures) (wide32 .ensures .0) (wide322 .ensures .0) (wide323 .ensures .0))
-    (c .if1 .taken))
+returns c = rw (failed (sizes-at (c .before)) (c .if1 .taken))
 
 wide32-requires-4 : tie.Need-wide32-requires-4
 wide32-requires-4 c κs = search needs
@@ -39,17 +66,11 @@ mask-ok-requires c κs = search needs
 returns-2 : tie.Need-returns-2
 unfolding headGood
 returns-2 c =
-    let mask-ok = c .before .mask-ok in
-    let wide324 = c .before .before .wide324 in
-    let if1 = c .before .before .before .if1 in
-    let sizes-ok = c .before .before .before .before .sizes-ok in
-    let wide323 = c .before .before .before .before .before .wide323 in
-    let wide322 = c .before .before .before .before .before .before .wide322 in
-    let wide32 = c .before .before .before .before .before .before .before .wide32 in
+    let starts = c .before in
+    let sizes = starts .before .before .before in
     rw (
-      passed (sizes-known (sizes-ok .ensures) (wide32 .ensures .0) (wide322 .ensures .0) (wide323 .ensures .0))
-          (if1 .left),
-      failed (mask-known (mask-ok .ensures) (wide324 .ensures .0) (wide32 .ensures .0)) (c .if2 .taken),
+      passed (sizes-at sizes) (starts .before .before .if1 .left),
+      failed (starts-at starts) (c .if2 .taken),
     )
 
 wide32-requires-5 : tie.Need-wide32-requires-5
@@ -61,72 +82,53 @@ mask-ok-requires-2 c κs = search needs
 returns-3 : tie.Need-returns-3
 unfolding headGood
 returns-3 c =
-    let mask-ok2 = c .before .mask-ok2 in
-    let wide325 = c .before .before .wide325 in
-    let if2 = c .before .before .before .if2 in
-    let mask-ok = c .before .before .before .before .mask-ok in
-    let wide324 = c .before .before .before .before .before .wide324 in
-    let if1 = c .before .before .before .before .before .before .if1 in
-    let sizes-ok = c .before .before .before .before .before .before .before .sizes-ok in
-    let wide323 = c .before .before .before .before .before .before .before .before .wide323 in
-    let wide322 = c .before .before .before .before .before .before .before .before .before .wide322 in
-    let back = c .before .before .before .before .before .before .before .before .before in
-    let wide32 = back .before .wide32 in
+    let ends = c .before in
+    let starts = ends .before .before .before in
+    let sizes = starts .before .before .before in
     rw (
-      passed (sizes-known (sizes-ok .ensures) (wide32 .ensures .0) (wide322 .ensures .0) (wide323 .ensures .0))
-          (if1 .left),
-      passed (mask-known (mask-ok .ensures) (wide324 .ensures .0) (wide32 .ensures .0)) (if2 .left),
-      failed (mask-known (mask-ok2 .ensures) (wide325 .ensures .0) (wide32 .ensures .0)) (c .if3 .taken),
+      passed (sizes-at sizes) (starts .before .before .if1 .left),
+      passed (starts-at starts) (ends .before .before .if2 .left),
+      failed (ends-at ends) (c .if3 .taken),
     )
+
+add-if4 : tie.Need-add-if4
+add-if4 c = search needs
+
+wide32-requires-6 : tie.Need-wide32-requires-6
+wide32-requires-6 c κs = search needs
 
 returns-4 : tie.Need-returns-4
 unfolding headGood
 returns-4 c =
-    let if3 = c .before .before .if3 in
-    let mask-ok2 = c .before .before .before .mask-ok2 in
-    let wide325 = c .before .before .before .before .wide325 in
-    let if2 = c .before .before .before .before .before .if2 in
-    let mask-ok = c .before .before .before .before .before .before .mask-ok in
-    let wide324 = c .before .before .before .before .before .before .before .wide324 in
-    let if1 = c .before .before .before .before .before .before .before .before .if1 in
-    let sizes-ok = c .before .before .before .before .before .before .before .before .before .sizes-ok in
-    let back = c .before .before .before .before .before .before .before .before .before in
-    let wide323 = back .before .wide323 in
-    let wide322 = back .before .before .wide322 in
-    let wide32 = back .before .before .before .wide32 in
-    let a = back .before .before .before .before .args in
+    let ends = c .before .before .before in
+    let starts = ends .before .before .before in
+    let sizes = starts .before .before .before in
+    let h = sizes .before .before .before .before .args .head in
     rw (
-      passed (sizes-known (sizes-ok .ensures) (wide32 .ensures .0) (wide322 .ensures .0) (wide323 .ensures .0))
-          (if1 .left),
-      passed (mask-known (mask-ok .ensures) (wide324 .ensures .0) (wide32 .ensures .0)) (if2 .left),
-      passed (mask-known (mask-ok2 .ensures) (wide325 .ensures .0) (wide32 .ensures .0)) (if3 .left),
-      lt-leb (a .head .ceiling) 31 (c .if4 .taken),
+      passed (sizes-at sizes) (starts .before .before .if1 .left),
+      passed (starts-at starts) (ends .before .before .if2 .left),
+      passed (ends-at ends) (c .before .before .if3 .left),
+      lt-leb (h .ceiling) (mostConstant + 1) (omega arith),
     )
+
+wide32-requires-7 : tie.Need-wide32-requires-7
+wide32-requires-7 c κs = search needs
 
 returns-5 : tie.Need-returns-5
 unfolding headGood
 returns-5 c =
-    let if4 = c .before .if4 in
-    let if3 = c .before .before .before .if3 in
-    let mask-ok2 = c .before .before .before .before .mask-ok2 in
-    let wide325 = c .before .before .before .before .before .wide325 in
-    let if2 = c .before .before .before .before .before .before .if2 in
-    let mask-ok = c .before .before .before .before .before .before .before .mask-ok in
-    let wide324 = c .before .before .before .before .before .before .before .before .wide324 in
-    let if1 = c .before .before .before .before .before .before .before .before .before .if1 in
-    let back = c .before .before .before .before .before .before .before .before .before in
-    let sizes-ok = back .before .sizes-ok in
-    let wide323 = back .before .before .wide323 in
-    let wide322 = back .before .before .before .wide322 in
-    let wide32 = back .before .before .before .before .wide32 in
-    let a = back .before .before .before .before .before .args in
+    let ceiling = c .before in
+    let ends = ceiling .before .before .before in
+    let starts = ends .before .before .before in
+    let sizes = starts .before .before .before in
+    let h = sizes .before .before .before .before .args .head in
     rw (
-      passed (sizes-known (sizes-ok .ensures) (wide32 .ensures .0) (wide322 .ensures .0) (wide323 .ensures .0))
-          (if1 .left),
-      passed (mask-known (mask-ok .ensures) (wide324 .ensures .0) (wide32 .ensures .0)) (if2 .left),
-      passed (mask-known (mask-ok2 .ensures) (wide325 .ensures .0) (wide32 .ensures .0)) (if3 .left),
-      le-leb (a .head .ceiling) 31 (if4 .left),
+      passed (sizes-at sizes) (starts .before .before .if1 .left),
+      passed (starts-at starts) (ends .before .before .if2 .left),
+      passed (ends-at ends) (ceiling .before .before .if3 .left),
+      le-leb (h .ceiling) (mostConstant + 1) (omega arith),
     )
+    (ap (λ (n : ℕ). leb n mostEdges) (c .wide327 .ensures .0))
 
 pub head-ok-spec : {M : Type 1} → statement M
 head-ok-spec =
@@ -143,5 +145,8 @@ head-ok-spec =
     wide32-requires-5
     mask-ok-requires-2
     returns-3
+    add-if4
+    wide32-requires-6
     returns-4
+    wide32-requires-7
     returns-5)

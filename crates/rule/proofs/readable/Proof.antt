@@ -12,52 +12,45 @@ head-ok-requires c κs = search needs
 
 returns : tie.Need-returns
 returns c =
-    let head-ok = c .before .head-ok in
-    let a = c .before .before .before .args in
-    let good = c .before .before .before .good in
-    let asked = c .before .before .before .pre in
-    let h = a .head in
-    let t = a .edges .now in
-    sym (readable-is h t (omega (arith, good)) (omega (arith, good)) (asked)
-    ∙ rw (failed (head-ok .ensures) (c .if1 .taken)))
+    let head = c .before in
+    let start = head .before .before in
+    sym (readable-is (start .args .head) (start .args .edges .now) (omega (arith, start .good))
+    (omega (arith, start .good)) (start .pre)
+    ∙ rw (failed (head .head-ok .ensures) (c .if1 .taken)))
 
 edges-ok-requires : tie.Need-edges-ok-requires
 edges-ok-requires c κs =
-    let head-ok = c .before .head-ok in
-    let asked = c .before .before .before .pre in
-    (good-head _ (passed (head-ok .ensures) (c .if1 .left)) .count-most, asked)
+    let head = c .before in
+    (good-head _ (passed (head .head-ok .ensures) (c .if1 .left)) .count-most, head .before .before .pre)
 
 returns-2 : tie.Need-returns-2
 returns-2 c =
-    let edges-ok = c .before .edges-ok in
-    let if1 = c .before .before .if1 in
-    let head-ok = c .before .before .before .head-ok in
-    let a = c .before .before .before .before .before .args in
-    let good = c .before .before .before .before .before .good in
-    let asked = c .before .before .before .before .before .pre in
-    let h = a .head in
-    let t = a .edges .now in
-    sym (readable-is h t (omega (arith, good)) (omega (arith, good)) (asked)
-    ∙ rw (passed (head-ok .ensures) (if1 .left), failed (edges-ok .ensures) (c .if2 .taken)))
+    let edges = c .before in
+    let head = edges .before .before in
+    let start = head .before .before in
+    sym (readable-is (start .args .head) (start .args .edges .now) (omega (arith, start .good))
+    (omega (arith, start .good)) (start .pre)
+    ∙ rw (
+      passed (head .head-ok .ensures) (edges .before .if1 .left),
+      failed (edges .edges-ok .ensures) (c .if2 .taken),
+    ))
 
 pairs-of-requires : tie.Need-pairs-of-requires
 pairs-of-requires c κs = search needs
 
 returns-3 : tie.Need-returns-3
 returns-3 c =
-    let if2 = c .before .if2 in
-    let edges-ok = c .before .before .edges-ok in
-    let if1 = c .before .before .before .if1 in
-    let head-ok = c .before .before .before .before .head-ok in
-    let a = c .before .before .before .before .before .before .args in
-    let good = c .before .before .before .before .before .before .good in
-    let asked = c .before .before .before .before .before .before .pre in
-    let h = a .head in
-    let t = a .edges .now in
-    let head-good = passed (head-ok .ensures) (if1 .left) in
-    let edges-good = passed (edges-ok .ensures) (if2 .left) in
-    pairs-good h t (c .pairs-of .result) head-good (asked) edges-good (c .pairs-of .ensures)
-    ∙ sym (readable-is h t (omega (arith, good)) (omega (arith, good)) (asked) ∙ rw (head-good, edges-good))
+    let edges = c .before .before in
+    let head = edges .before .before in
+    let start = head .before .before in
+    let h = start .args .head in
+    let t = start .args .edges .now in
+    let head-good = passed (head .head-ok .ensures) (edges .before .if1 .left) in
+    let edges-good = passed (edges .edges-ok .ensures) (c .before .if2 .left) in
+    pairs-good h t _ head-good (start .pre) edges-good (c .pairs-of .ensures)
+    ∙ sym
+    (readable-is h t (omega (arith, start .good)) (omega (arith, start .good)) (start .pre)
+    ∙ rw (head-good, edges-good))
 
 pub readable-spec : {M : Type 1} → statement M
 readable-spec =

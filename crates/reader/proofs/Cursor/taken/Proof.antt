@@ -12,76 +12,76 @@ add-past-2 : tie.Need-add-past-2
 add-past-2 c = search needs
 
 with-sizes-requires : tie.Need-with-sizes-requires
-with-sizes-requires c κs = c .before .before .before .before .pre .sizes (c .match .keys1)
+with-sizes-requires c κs = c .before .before .before .before .before .pre .sizes (c .match .keys1)
 
 number-at-requires : tie.Need-number-at-requires
 number-at-requires c κs = search needs
 
 with-initial-requires : tie.Need-with-initial-requires
 with-initial-requires c κs =
-    let match = c .before .match in
-    let asked = c .before .before .before .before .before .pre in
-    rw (c .number-at .ensures .0) (asked .initial (match .keys2))
+    let kind = c .before in
+    let start = kind .before .before .before .before .before in
+    rw (c .number-at .ensures .0) (start .pre .initial (kind .match .keys2))
 
 number-at-requires-2 : tie.Need-number-at-requires-2
 number-at-requires-2 c κs = search needs
 
 with-final-requires : tie.Need-with-final-requires
 with-final-requires c κs =
-    let match = c .before .match in
-    let asked = c .before .before .before .before .before .pre in
-    rw (c .number-at2 .ensures .0) (asked .final (match .keys3))
+    let kind = c .before in
+    let start = kind .before .before .before .before .before in
+    rw (c .number-at2 .ensures .0) (start .pre .final (kind .match .keys3))
 
 number-at-requires-3 : tie.Need-number-at-requires-3
 number-at-requires-3 c κs = search needs
 
 with-ceiling-requires : tie.Need-with-ceiling-requires
 with-ceiling-requires c κs =
-    omega (arith, c .before .before .before .before .before .pre .ceiling (c .before .match .keys4))
+    let kind = c .before in
+    let start = kind .before .before .before .before .before in
+    rw (c .number-at3 .ensures .0) (start .pre .ceiling (kind .match .keys4))
 
 with-edge-requires : tie.Need-with-edge-requires
-with-edge-requires c κs = c .before .before .before .before .before .pre .edge (omega arith)
+with-edge-requires c κs = c .before .before .before .before .before .before .pre .edge (omega arith)
 
 returns : tie.Need-returns
 returns c =
-    let match = c .before .match in
-    let a = c .before .before .before .before .before .args in
+    let kind = c .before in
+    let a = kind .before .before .before .before .before .args in
     takes-sizes (a .self) (a .kind) (a .size) (a .body .now) (a .edges .now) _ (c .with-sizes .ensures .0)
-    (match .keys1) (c .with-sizes .ensures .1)
+    (kind .match .keys1) (c .with-sizes .ensures .1)
 
 returns-2 : tie.Need-returns-2
 returns-2 c =
-    let number-at = c .before .number-at in
-    let match = c .before .before .match in
-    let a = c .before .before .before .before .before .before .args in
+    let kind = c .before .before in
+    let a = kind .before .before .before .before .before .args in
     takes-initial (a .self) (a .kind) (a .size) (a .body .now) (a .edges .now) _ (c .with-initial .ensures .0) _
-    (match .keys2) (number-at .ensures .0) (c .with-initial .ensures .1)
+    (kind .match .keys2) (c .before .number-at .ensures .0) (c .with-initial .ensures .1)
 
 returns-3 : tie.Need-returns-3
 returns-3 c =
-    let number-at2 = c .before .number-at2 in
-    let match = c .before .before .match in
-    let a = c .before .before .before .before .before .before .args in
+    let kind = c .before .before in
+    let a = kind .before .before .before .before .before .args in
     takes-final (a .self) (a .kind) (a .size) (a .body .now) (a .edges .now) _ (c .with-final .ensures .0) _
-    (match .keys3) (number-at2 .ensures .0) (c .with-final .ensures .1)
+    (kind .match .keys3) (c .before .number-at2 .ensures .0) (c .with-final .ensures .1)
 
 returns-4 : tie.Need-returns-4
 returns-4 c =
-    let number-at3 = c .before .number-at3 in
-    let match = c .before .before .match in
-    let a = c .before .before .before .before .before .before .args in
+    let kind = c .before .before in
+    let a = kind .before .before .before .before .before .args in
     takes-ceiling (a .self) (a .kind) (a .size) (a .body .now) (a .edges .now) _ (c .with-ceiling .ensures .0) _
-    (match .keys4) (number-at3 .ensures .0) (c .with-ceiling .ensures .1)
+    (kind .match .keys4) (c .before .number-at3 .ensures .0) (c .with-ceiling .ensures .1)
 
 same-length : tie.Need-same-length
 same-length c = search needs
 
 returns-5 : tie.Need-returns-5
 returns-5 c =
-    let with-edge = c .before .before .with-edge in
-    let a = c .before .before .before .before .before .before .before .before .args in
-    takes-edge (a .self) (a .kind) (a .size) (a .body .now) (a .edges .now) _ _ (omega arith)
-    (with-edge .ensures)
+    let kind = c .before .before .before .before in
+    let start = kind .before .before .before .before .before in
+    let a = start .args in
+    takes-edge (a .self) (a .kind) (a .size) (a .body .now) (a .numbers .now) (a .edges .now) _ _ (omega arith)
+    (start .pre .edge-is (omega arith)) (c .before .before .with-edge .ensures)
 
 pub taken-spec : {M : Type 1} → statement M
 taken-spec =

@@ -15,8 +15,7 @@ returns : tie.Need-returns
 returns c =
     let a = c .before .before .args in (
       record { at-is = refl; last-is = refl },
-      λ r h. ceiling-held (a .self) r h (a .number) _
-          (c .narrow32 .ensures),
+      λ r h. ceiling-held (a .self) r h (a .number) _ (c .narrow32 .ensures .1 (search needs)),
     )
 
 pub with-ceiling-spec : {M : Type 1} → statement M

@@ -1,7 +1,7 @@
--- `reader::Cursor::with_edge` meets its contract: the table has the edge at its place.
+-- `reader::Cursor::with_edge` meets its contract.
 use mathlib.Core.Path.{refl}
 use borrow.Author.Needs.{needs}
-use Rattle.model.specs.Files.{edgeFrom}
+use Rattle.reader.specs.Bodies.{edgeSpelt}
 use Rattle.reader.proofs.Taken.{edge-held, edge-places, edge-put}
 use Rattle.reader.proofs.Cursor.with_edge.Statement.{statement}
 use Rattle.reader.proofs.Cursor.with_edge.Tie as tie
@@ -39,16 +39,14 @@ same-length c = search needs
 
 returns : tie.Need-returns
 returns c =
-    let store-edge = c .before .before .before .store-edge in
-    let wide32 = c .before .before .before .before .before .wide32 in
-    let a = c .before .before .before .before .before .before .before .before .before .args in
-    let asked = c .before .before .before .before .before .before .before .before .before .pre in
+    let stored = c .before .before .before in
+    let count = stored .before .before in
+    let start = count .before .before .before .before in
+    let a = start .args in
     record {
       stays = record { at-is = refl; last-is = refl };
-      holds = λ r h. edge-held (a .self) r h
-          (edgeFrom (a .size) (a .body .now));
-      table-is = edge-put (asked) _ (wide32 .ensures .0) _
-          (store-edge .ensures);
+      holds = λ r h. edge-held (a .self) r h (edgeSpelt (a .numbers .now));
+      table-is = edge-put (start .pre) _ (count .wide32 .ensures .0) _ (stored .store-edge .ensures);
     }
 
 pub with-edge-spec : {M : Type 1} → statement M

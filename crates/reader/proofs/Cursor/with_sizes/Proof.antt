@@ -25,16 +25,15 @@ narrow32-requires-3 c κs = search needs
 
 returns : tie.Need-returns
 returns c =
-    let number-at3 = c .before .number-at3 in
-    let narrow322 = c .before .before .narrow322 in
-    let number-at2 = c .before .before .before .number-at2 in
-    let narrow32 = c .before .before .before .before .narrow32 in
-    let number-at = c .before .before .before .before .before .number-at in
-    let a = c .before .before .before .before .before .before .before .args in (
+    let clocks = c .before in
+    let symbols = clocks .before .before in
+    let locations = symbols .before .before in
+    let a = locations .before .before .args in (
       record { at-is = refl; last-is = refl },
       sizes-held (a .self) (a .body .now) _ _ _
-          (narrow32 .ensures ∙ number-at .ensures .0) (narrow322 .ensures ∙ number-at2 .ensures .0)
-          (c .narrow323 .ensures ∙ number-at3 .ensures .0),
+          (symbols .before .narrow32 .ensures .1 (search needs) ∙ locations .number-at .ensures .0)
+          (clocks .before .narrow322 .ensures .1 (search needs) ∙ symbols .number-at2 .ensures .0)
+          (c .narrow323 .ensures .1 (search needs) ∙ clocks .number-at3 .ensures .0),
     )
 
 pub with-sizes-spec : {M : Type 1} → statement M

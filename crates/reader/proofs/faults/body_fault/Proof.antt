@@ -1,5 +1,6 @@
--- `reader::body_fault` meets its contract: the faults in their order.
+-- `reader::faults::body_fault` meets its contract: 3 to 7 in their order.
 use mathlib.Core.Path.{sym, _∙_}
+use native.Mathlib.Omega.{arith}
 use borrow.Author.Needs.{needs}
 use Rattle.reader.proofs.FaultLaws.{body-3, body-4, body-5, body-6, body-7, body-fine}
 use Rattle.reader.proofs.faults.body_fault.Statement.{statement}
@@ -10,90 +11,95 @@ out-of-order-requires c κs = search needs
 
 returns : tie.Need-returns
 returns c =
-    let out-of-order = c .before .out-of-order in
-    let a = c .before .before .before .args in
-    λ r h. body-3 _ _ r (a .kind) (a .size) (a .body .now) (sym (out-of-order .ensures r h) ∙ c .if1 .taken)
+    let order = c .before in
+    let start = order .before .before .before in
+    let a = start .args in
+    λ r h. body-3 _ _ r (a .kind) (a .size) (a .body .now)
+    (sym (order .out-of-order .ensures r h) ∙ c .if1 .taken)
 
 one-too-many-requires : tie.Need-one-too-many-requires
 one-too-many-requires c κs = search needs
 
 returns-2 : tie.Need-returns-2
 returns-2 c =
-    let one-too-many = c .before .one-too-many in
-    let if1 = c .before .before .before .if1 in
-    let out-of-order = c .before .before .before .before .out-of-order in
-    let a = c .before .before .before .before .before .before .args in
-    λ r h. body-4 _ _ r (a .kind) (a .size) (a .body .now) (sym (out-of-order .ensures r h) ∙ if1 .left)
-    (sym (one-too-many .ensures r (h .head-is)) ∙ c .if2 .taken)
+    let many = c .before in
+    let order = many .before .before .before in
+    let start = order .before .before .before in
+    let a = start .args in
+    λ r h. body-4 _ _ r (a .kind) (a .size) (a .body .now)
+    (sym (order .out-of-order .ensures r h) ∙ many .before .before .if1 .left)
+    (sym (many .one-too-many .ensures r (h .head-is)) ∙ c .if2 .taken)
 
 bad-sizes-requires : tie.Need-bad-sizes-requires
-bad-sizes-requires c κs = search needs
+bad-sizes-requires c κs =
+    let many = c .before in
+    let order = many .before .before .before in
+    let start = order .before .before .before in
+    λ k. omega (arith, start .pre .sizes k, start .pre .whole)
 
 returns-3 : tie.Need-returns-3
 returns-3 c =
-    let bad-sizes = c .before .bad-sizes in
-    let if2 = c .before .before .if2 in
-    let one-too-many = c .before .before .before .one-too-many in
-    let if1 = c .before .before .before .before .before .if1 in
-    let out-of-order = c .before .before .before .before .before .before .out-of-order in
-    let a = c .before .before .before .before .before .before .before .before .args in
-    λ r h. body-5 _ _ r (a .kind) (a .size) (a .body .now) (sym (out-of-order .ensures r h) ∙ if1 .left)
-    (sym (one-too-many .ensures r (h .head-is)) ∙ if2 .left) (sym (bad-sizes .ensures) ∙ c .if3 .taken)
+    let sizes = c .before in
+    let many = sizes .before .before in
+    let order = many .before .before .before in
+    let start = order .before .before .before in
+    let a = start .args in
+    λ r h. body-5 _ _ r (a .kind) (a .size) (a .body .now)
+    (sym (order .out-of-order .ensures r h) ∙ many .before .before .if1 .left)
+    (sym (many .one-too-many .ensures r (h .head-is)) ∙ sizes .before .if2 .left)
+    (sym (sizes .bad-sizes .ensures) ∙ c .if3 .taken)
 
 out-of-range-requires : tie.Need-out-of-range-requires
 out-of-range-requires c κs = search needs
 
 returns-4 : tie.Need-returns-4
 returns-4 c =
-    let out-of-range = c .before .out-of-range in
-    let if3 = c .before .before .if3 in
-    let bad-sizes = c .before .before .before .bad-sizes in
-    let if2 = c .before .before .before .before .if2 in
-    let one-too-many = c .before .before .before .before .before .one-too-many in
-    let if1 = c .before .before .before .before .before .before .before .if1 in
-    let out-of-order = c .before .before .before .before .before .before .before .before .out-of-order in
-    let back = c .before .before .before .before .before .before .before .before .before in
-    let a = back .before .args in
-    λ r h. body-6 _ _ r (a .kind) (a .size) (a .body .now) (sym (out-of-order .ensures r h) ∙ if1 .left)
-    (sym (one-too-many .ensures r (h .head-is)) ∙ if2 .left) (sym (bad-sizes .ensures) ∙ if3 .left)
-    (sym (out-of-range .ensures r (h .head-is)) ∙ c .if4 .taken)
+    let range = c .before in
+    let sizes = range .before .before in
+    let many = sizes .before .before in
+    let order = many .before .before .before in
+    let start = order .before .before .before in
+    let a = start .args in
+    λ r h. body-6 _ _ r (a .kind) (a .size) (a .body .now)
+    (sym (order .out-of-order .ensures r h) ∙ many .before .before .if1 .left)
+    (sym (many .one-too-many .ensures r (h .head-is)) ∙ sizes .before .if2 .left)
+    (sym (sizes .bad-sizes .ensures) ∙ range .before .if3 .left)
+    (sym (range .out-of-range .ensures r (h .head-is)) ∙ c .if4 .taken)
 
 not-pinned-requires : tie.Need-not-pinned-requires
 not-pinned-requires c κs = search needs
 
 returns-5 : tie.Need-returns-5
 returns-5 c =
-    let not-pinned = c .before .not-pinned in
-    let if4 = c .before .before .if4 in
-    let out-of-range = c .before .before .before .out-of-range in
-    let if3 = c .before .before .before .before .if3 in
-    let bad-sizes = c .before .before .before .before .before .bad-sizes in
-    let if2 = c .before .before .before .before .before .before .if2 in
-    let one-too-many = c .before .before .before .before .before .before .before .one-too-many in
-    let if1 = c .before .before .before .before .before .before .before .before .before .if1 in
-    let back = c .before .before .before .before .before .before .before .before .before in
-    let out-of-order = back .before .out-of-order in
-    let a = back .before .before .before .args in
-    λ r h. body-7 _ _ r (a .kind) (a .size) (a .body .now) (sym (out-of-order .ensures r h) ∙ if1 .left)
-    (sym (one-too-many .ensures r (h .head-is)) ∙ if2 .left) (sym (bad-sizes .ensures) ∙ if3 .left)
-    (sym (out-of-range .ensures r (h .head-is)) ∙ if4 .left) (sym (not-pinned .ensures) ∙ c .if5 .taken)
+    let pins = c .before in
+    let range = pins .before .before in
+    let sizes = range .before .before in
+    let many = sizes .before .before in
+    let order = many .before .before .before in
+    let start = order .before .before .before in
+    let a = start .args in
+    λ r h. body-7 _ _ r (a .kind) (a .size) (a .body .now)
+    (sym (order .out-of-order .ensures r h) ∙ many .before .before .if1 .left)
+    (sym (many .one-too-many .ensures r (h .head-is)) ∙ sizes .before .if2 .left)
+    (sym (sizes .bad-sizes .ensures) ∙ range .before .if3 .left)
+    (sym (range .out-of-range .ensures r (h .head-is)) ∙ pins .before .if4 .left)
+    (sym (pins .not-pinned .ensures) ∙ c .if5 .taken)
 
 returns-6 : tie.Need-returns-6
 returns-6 c =
-    let not-pinned = c .before .not-pinned in
-    let if4 = c .before .before .if4 in
-    let out-of-range = c .before .before .before .out-of-range in
-    let if3 = c .before .before .before .before .if3 in
-    let bad-sizes = c .before .before .before .before .before .bad-sizes in
-    let if2 = c .before .before .before .before .before .before .if2 in
-    let one-too-many = c .before .before .before .before .before .before .before .one-too-many in
-    let if1 = c .before .before .before .before .before .before .before .before .before .if1 in
-    let back = c .before .before .before .before .before .before .before .before .before in
-    let out-of-order = back .before .out-of-order in
-    let a = back .before .before .before .args in
-    λ r h. body-fine _ _ r (a .kind) (a .size) (a .body .now) (sym (out-of-order .ensures r h) ∙ if1 .left)
-    (sym (one-too-many .ensures r (h .head-is)) ∙ if2 .left) (sym (bad-sizes .ensures) ∙ if3 .left)
-    (sym (out-of-range .ensures r (h .head-is)) ∙ if4 .left) (sym (not-pinned .ensures) ∙ c .if5 .left)
+    let pins = c .before in
+    let range = pins .before .before in
+    let sizes = range .before .before in
+    let many = sizes .before .before in
+    let order = many .before .before .before in
+    let start = order .before .before .before in
+    let a = start .args in
+    λ r h. body-fine _ _ r (a .kind) (a .size) (a .body .now)
+    (sym (order .out-of-order .ensures r h) ∙ many .before .before .if1 .left)
+    (sym (many .one-too-many .ensures r (h .head-is)) ∙ sizes .before .if2 .left)
+    (sym (sizes .bad-sizes .ensures) ∙ range .before .if3 .left)
+    (sym (range .out-of-range .ensures r (h .head-is)) ∙ pins .before .if4 .left)
+    (sym (pins .not-pinned .ensures) ∙ c .if5 .left)
 
 pub body-fault-spec : {M : Type 1} → statement M
 body-fault-spec =

@@ -1,4 +1,4 @@
--- `reader::body_ok` meets its contract: each kind with its lengths.
+-- `reader::faults::body_ok` meets its contract: each kind with its lengths.
 use borrow.Author.Needs.{needs}
 use Rattle.reader.proofs.FaultLaws.{body-sizes, body-one, body-edge, body-low, body-high}
 use Rattle.reader.proofs.faults.body_ok.Statement.{statement}

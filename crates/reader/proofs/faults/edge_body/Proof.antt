@@ -1,22 +1,23 @@
--- `reader::edge_body` meets its contract.
+-- `reader::faults::edge_body` meets its contract.
 use borrow.Author.Tests.{le-leb, lt-leb}
+use Rattle.reader.specs.Bodies.{fieldsBody, mostBody}
 use Rattle.reader.proofs.faults.edge_body.Statement.{statement}
 use Rattle.reader.proofs.faults.edge_body.Tie as tie
 
 returns : tie.Need-returns
-returns c = rw (lt-leb 8 (c .before .args .size) (c .if1 .taken))
+returns c = rw (lt-leb fieldsBody (c .before .args .size) (c .if1 .taken))
 
 returns-2 : tie.Need-returns-2
 returns-2 c =
     let if1 = c .before .if1 in
     let a = c .before .before .args in
-    rw (le-leb 8 (a .size) (if1 .left), lt-leb (a .size) 56 (c .if2 .taken))
+    rw (le-leb fieldsBody (a .size) (if1 .left), lt-leb (a .size) mostBody (c .if2 .taken))
 
 returns-3 : tie.Need-returns-3
 returns-3 c =
     let if1 = c .before .if1 in
     let a = c .before .before .args in
-    rw (le-leb 8 (a .size) (if1 .left), le-leb (a .size) 56 (c .if2 .left))
+    rw (le-leb fieldsBody (a .size) (if1 .left), le-leb (a .size) mostBody (c .if2 .left))
 
 pub edge-body-spec : {M : Type 1} → statement M
 edge-body-spec = tie.close (tie.spec returns returns-2 returns-3)

@@ -1,11 +1,11 @@
--- `rule::pinned` meets its contract: no atom passed is an equality, so that the rest decides.
+-- `edges::checks::pinned` meets its contract: no atom passed is an equality, so that the rest decides.
 use mathlib.Core.Path.{_≡_}
 use Prim.Native.Nat.{_-_}
 use borrow.Author.Needs.{needs}
 use borrow.Author.Tests.{eq-eqb}
-use Rattle.rule.proofs.Laws.{Unpinned, unpinned-start, equal-found, unpinned-next, unpinned-end}
-use Rattle.rule.proofs.pinned.Statement.{statement}
-use Rattle.rule.proofs.pinned.Tie as tie
+use Rattle.edges.proofs.EdgeChecks.{Unpinned, unpinned-start, equal-found, unpinned-next, unpinned-end}
+use Rattle.edges.proofs.checks.pinned.Statement.{statement}
+use Rattle.edges.proofs.checks.pinned.Tie as tie
 
 abbrev Inv-loop : tie.InvT-loop
 Inv-loop resets atoms count j₀ j = (resets ≡ 0 → ⊥) × Unpinned count j atoms

@@ -1,0 +1,109 @@
+-- `edges::checks::atoms_ok` meets its contract: the atoms passed are in range, so that the rest decides.
+use Prim.Native.Nat.{_-_}
+use native.Mathlib.Omega.{arith}
+use borrow.Author.Needs.{needs}
+use Rattle.edges.proofs.EdgeChecks.{Atoms, atoms-start, atoms-clock, atoms-relation, atoms-constant}
+use Rattle.edges.proofs.EdgeChecks.{atoms-next, atoms-end}
+use Rattle.edges.proofs.checks.atoms_ok.Statement.{statement}
+use Rattle.edges.proofs.checks.atoms_ok.Tie as tie
+
+abbrev Inv-loop : tie.InvT-loop
+Inv-loop atoms clocks count j₀ j = Atoms clocks count j atoms
+
+abbrev μ-loop : tie.MeasureT-loop
+μ-loop atoms clocks count j₀ j = count - j
+
+loop-holds : tie.Need-loop-holds Inv-loop μ-loop
+loop-holds c = atoms-start _ _ _
+
+mul-at : tie.Need-mul-at Inv-loop μ-loop
+mul-at c = search needs
+
+mul-wide16 : tie.Need-mul-wide16 Inv-loop μ-loop
+mul-wide16 c = search needs
+
+shared-slice-read-wide16 : tie.Need-shared-slice-read-wide16 Inv-loop μ-loop
+shared-slice-read-wide16 c = search needs
+
+wide16-requires : tie.Need-wide16-requires Inv-loop μ-loop
+wide16-requires c κs = search needs
+
+returns : tie.Need-returns Inv-loop μ-loop
+returns c =
+    let inside = c .before .before .before in
+    atoms-clock (inside .before .loop .inv) (search needs) (omega arith)
+
+add-wide16 : tie.Need-add-wide16 Inv-loop μ-loop
+add-wide16 c = search needs
+
+mul-wide16-2 : tie.Need-mul-wide16-2 Inv-loop μ-loop
+mul-wide16-2 c = search needs
+
+shared-slice-read-wide16-2 : tie.Need-shared-slice-read-wide16-2 Inv-loop μ-loop
+shared-slice-read-wide16-2 c = search needs
+
+wide16-requires-2 : tie.Need-wide16-requires-2 Inv-loop μ-loop
+wide16-requires-2 c κs = search needs
+
+returns-2 : tie.Need-returns-2 Inv-loop μ-loop
+returns-2 c =
+    let inside = c .before .before .before .before .before .before in
+    atoms-relation (inside .before .loop .inv) (search needs) (omega arith) (omega arith)
+
+add-wide16-2 : tie.Need-add-wide16-2 Inv-loop μ-loop
+add-wide16-2 c = search needs
+
+mul-wide16-3 : tie.Need-mul-wide16-3 Inv-loop μ-loop
+mul-wide16-3 c = search needs
+
+shared-slice-read-wide16-3 : tie.Need-shared-slice-read-wide16-3 Inv-loop μ-loop
+shared-slice-read-wide16-3 c = search needs
+
+wide16-requires-3 : tie.Need-wide16-requires-3 Inv-loop μ-loop
+wide16-requires-3 c κs = search needs
+
+returns-3 : tie.Need-returns-3 Inv-loop μ-loop
+returns-3 c =
+    let inside = c .before .before .before .before .before .before .before .before .before in
+    atoms-constant (inside .before .loop .inv) (search needs) (omega arith) (omega arith) (omega arith)
+
+add-j : tie.Need-add-j Inv-loop μ-loop
+add-j c = search needs
+
+loop-less : tie.Need-loop-less Inv-loop μ-loop
+loop-less c = search needs
+
+loop-again : tie.Need-loop-again Inv-loop μ-loop
+loop-again c =
+    let inside = c .before .before .before .before .before .before .before .before .before in
+    atoms-next (inside .before .loop .inv) (search needs) (omega arith) (omega arith) (omega arith)
+
+returns-4 : tie.Need-returns-4 Inv-loop μ-loop
+returns-4 c = atoms-end (c .before .loop .inv) (search needs)
+
+pub atoms-ok-spec : {M : Type 1} → statement M
+atoms-ok-spec =
+    tie.close
+    (tie.spec
+    Inv-loop
+    μ-loop
+    loop-holds
+    mul-at
+    mul-wide16
+    shared-slice-read-wide16
+    wide16-requires
+    returns
+    add-wide16
+    mul-wide16-2
+    shared-slice-read-wide16-2
+    wide16-requires-2
+    returns-2
+    add-wide16-2
+    mul-wide16-3
+    shared-slice-read-wide16-3
+    wide16-requires-3
+    returns-3
+    add-j
+    loop-less
+    loop-again
+    returns-4)

@@ -1,0 +1,67 @@
+// Numbers of a file: two bytes each, low byte first. The names of the lengths have their twins in specs/Bodies.antt.
+ghost use mathlib.Core.Path.{_≡_};
+ghost use Prim.Native.Nat.{_+_, _*_, _^_, _≤_, _<_};
+ghost use lib.ListN.{length, take};
+ghost use Rattle.model.specs.Rules.{mostLocations};
+ghost use Rattle.model.specs.Files.{numberAt};
+ghost use Rattle.model.proofs.Bytes.{numbersOf};
+ghost use Rattle.reader.specs.Bodies.{bodyNumbers, numberBytes};
+use numbers::narrow16;
+use numbers::wide8;
+
+pub(crate) const NUMBER_BYTES: usize = 2;
+
+// Body length and kind, in front of every body.
+pub(crate) const RECORD_HEAD: usize = 4;
+
+// The bodies by their bytes: the sizes, an edge's four fields, an atom, the longest edge.
+pub(crate) const SIZES_BODY: usize = 6;
+
+pub(crate) const FIELDS_BODY: usize = 8;
+
+pub(crate) const ATOM_BODY: usize = 6;
+
+pub(crate) const MOST_BODY: usize = 56;
+
+// An edge's body by its numbers: four fields, then its atoms.
+pub(crate) const BODY_FIELDS: usize = 4;
+
+pub(crate) const BODY_NUMBERS: usize = 28;
+
+// Number `i` of a list of bytes.
+pub(crate) fn number_at(bytes: &[u8], i: usize) -> usize
+    requires { ⌜ numberBytes * i + 1 < length (now bytes) ⌝ }
+    ensures { λ r. ⌜ (r ≡ numberAt i (now (bytes .entry))) × (r < 2 ^ 16) ⌝ }
+{
+    wide8(bytes[NUMBER_BYTES * i]) + 256 * wide8(bytes[NUMBER_BYTES * i + 1])
+}
+
+// The mask of one location.
+pub(crate) fn mask_of(location: usize) -> u32
+    requires { ⌜ location < mostLocations ⌝ }
+    ensures { λ r. ⌜ r ≡ 2 ^ location ⌝ }
+{
+    1u32 << (location as u32)
+}
+
+// Fills a part of an array with the numbers of a list of bytes.
+pub(crate) fn copy_numbers(bytes: &[u8], out: &mut [u16])
+    requires { ⌜ numberBytes * length (now out) ≤ length (now bytes) ⌝ }
+    ensures { λ _. ⌜ now (out .exit) ≡ numbersOf (length (now (out .entry))) (now (bytes .entry)) ⌝ }
+{
+    let mut i: usize = 0;
+    while i < out.len() {
+        out[i] = narrow16(number_at(bytes, i));
+        i += 1;
+    }
+}
+
+// The numbers of a body, at the front of an array.
+pub(crate) fn body_numbers(body: &[u8], count: usize) -> [u16; BODY_NUMBERS]
+    requires { ⌜ (count ≤ bodyNumbers) × (numberBytes * count ≤ length (now body)) ⌝ }
+    ensures { λ r. ⌜ (take count r ≡ numbersOf count (now (body .entry))) × (length r ≡ bodyNumbers) ⌝ }
+{
+    let mut numbers = [0u16; BODY_NUMBERS];
+    copy_numbers(body, &mut numbers[0..count]);
+    numbers
+}
