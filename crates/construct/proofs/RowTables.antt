@@ -28,21 +28,6 @@ filled-set n xs a h =
     rw (e, length-append xs (a ∷ []), append-assoc xs (a ∷ []) (zeros (n - (length xs + 1))))
     (set-at xs 0 (zeros (n - (length xs + 1))) a (length xs) refl)
 
-drop-zeros : (m k : ℕ) → drop m (zeros k) ≡ zeros (k - m)
-drop-zeros zero k = let e : k - 0 ≡ k = omega arith in rw e
-drop-zeros (suc m) zero = let e : 0 - suc m ≡ 0 = omega arith in rw e
-drop-zeros (suc m) (suc k) = let e : suc k - suc m ≡ k - m = omega arith in rw e (drop-zeros m k)
-
-pub filled-lay :
-    (n : ℕ) (xs ys : List ℕ) → length xs + length ys ≤ n
-    → take (length xs) (filled n xs) ++ (ys ++ drop (length xs + length ys) (filled n xs)) ≡ filled n (xs ++ ys)
-filled-lay n xs ys h =
-    let e : n - length xs - length ys ≡ n - length (xs ++ ys) = rw (length-append xs ys) (omega arith) in
-    let rest : drop (length xs + length ys) (filled n xs) ≡ zeros (n - length (xs ++ ys)) =
-    drop-append-add xs (zeros (n - length xs)) (length ys) ∙ (drop-zeros (length ys) (n - length xs) ∙ ap zeros e) in
-    rw (take-append-seam xs (zeros (n - length xs)), rest)
-    (sym (append-assoc xs ys (zeros (n - length (xs ++ ys)))))
-
 -- one row more
 pub rows-append :
     (p : ℕ) (rs : List (List ℕ)) (x : List ℕ)
