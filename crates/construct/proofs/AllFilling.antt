@@ -8,6 +8,8 @@ use native.Mathlib.Nat.{mul-le-mul-right}
 use native.Mathlib.Numerals.{add-one}
 use lib.ListN.{length, take, length-replicate}
 use lib.Seq.{take-suc, take-append-le, take-all, length-take-le}
+use Rattle.numbers.specs.Lent.{laid}
+use Rattle.numbers.proofs.Laid.{laid-filled}
 use Rattle.model.specs.Basics.{zeros, filled}
 use Rattle.model.specs.Rules.{Rule}
 use Rattle.model.specs.Construction.{width, startRow, rowAt, bySymbols, rowsFrom, mostRows, rowsOf}
@@ -19,11 +21,10 @@ use Rattle.pairs.specs.declared.Scale.{Scale}
 use Rattle.construct.specs.declared.Progress.{Progress}
 use Rattle.construct.specs.Marks.{Ready}
 use Rattle.construct.specs.Rows.{rowsIn, Held, Grown}
-use Rattle.construct.specs.Lent.{laid}
 use Rattle.construct.specs.Cells.{CanFill, RowFilled, CanFillAll, AllFilled}
 use Rattle.construct.proofs.RowSearch.{rows-length}
 use Rattle.construct.proofs.TargetMarks.{ready-again}
-use Rattle.construct.proofs.Laying.{laid-filled, numbers-snoc}
+use Rattle.construct.proofs.Laying.{numbers-snoc}
 use Rattle.construct.proofs.SymbolFilling.{extends-more, unfit-extends}
 
 -- the rows of the rule, whatever rows and fuel are left

@@ -1,18 +1,13 @@
--- Numbers laid into a lent table one after another, and the cells of a row in this order.
-use mathlib.Core.Path.{_≡_, sym, _∙_, ap, ap₂}
+-- The cells of a symbol, of a row and of all rows, with one more at the end, and the number that a cell keeps.
+use mathlib.Core.Path.{_≡_, sym, _∙_, ap}
 use mathlib.Core.List.{List, [], _∷_, _++_, append-assoc, append-nil}
-use Prim.Native.Nat.{ℕ, zero, suc, _+_, _-_, _≤_, _<_}
+use Prim.Native.Nat.{ℕ, zero, suc, _+_}
 use native.Mathlib.Omega.{arith}
-use native.Mathlib.Nat.{add-zero, add-assoc}
-use lib.ListN.{length, getD, set, take, drop, length-append, take-append-drop}
-use lib.Seq.{set-at, take-at, drop-append-add, drop-drop, drop-cons, length-take-le}
-use Rattle.model.specs.Basics.{filled}
+use native.Mathlib.Nat.{add-zero}
 use Rattle.model.specs.Rules.{Rule}
 use Rattle.model.specs.Construction.{width, nextRow, numberOf, withRow, cellOf}
 use Rattle.model.specs.Tables.{cellsFrom, symbolCells, cellNumbers}
 use Rattle.model.proofs.RowNumbers.{number-stays, with-has, with-number}
-use Rattle.construct.specs.Lent.{laid}
-use Rattle.construct.proofs.RowTables.{filled-lay}
 
 -- the cells of one symbol, of one row, of all rows, with one more at the end
 module _ (r : Rule) (all-are : List (List ℕ)) where

@@ -4,12 +4,14 @@ use mathlib.Core.List.{List, [], _∷_, _++_, append-assoc}
 use Prim.Native.Nat.{ℕ, suc, _+_, _-_, _*_, _≤_, _<_}
 use native.Mathlib.Omega.{arith}
 use lib.Dec.{ltb}
-use lib.ListN.{length, set, take, drop, length-append, length-set}
+use lib.ListN.{length, set, length-append, length-set}
 use borrow.Author.Tests.{ltb-true, ltb-false}
+use Rattle.numbers.specs.Lent.{laid}
+use Rattle.numbers.proofs.Laid.{laid-filled}
 use Rattle.model.specs.Basics.{filled, refusal}
 use Rattle.model.specs.Rules.{mostPairs}
 use Rattle.model.specs.Construction.{numberOf, withRow}
-use Rattle.model.specs.Tables.{rowNumbers, poolNumbers, fitRefusal}
+use Rattle.model.specs.Tables.{rowWidth, rowNumbers, codesSay, poolNumbers, fitRefusal}
 use Rattle.model.proofs.Logic.{by-test}
 use Rattle.model.proofs.TablePlaces.{row-numbers-length}
 use Rattle.model.proofs.TableRoom.{fit-23, fit-24, fit-on}
@@ -20,7 +22,7 @@ use Rattle.construct.specs.declared.Progress.{Progress}
 use Rattle.construct.specs.declared.Placed.{Placed}
 use Rattle.construct.specs.Rows.{rowsIn, foundIn, Held, Unfit, Numbered}
 use Rattle.construct.proofs.RowSearch.{rows-length}
-use Rattle.construct.proofs.RowTables.{filled-length, filled-set, filled-lay, rows-append, pool-append}
+use Rattle.construct.proofs.RowTables.{filled-length, filled-set, rows-append, pool-append}
 use Rattle.construct.proofs.RowTables.{rows-again}
 
 -- rows that fit are passed
@@ -90,32 +92,32 @@ module _ {rows pool : List ℕ} {p : Progress} (held : Held rows pool p) where
   module _ (x rows′ pool′ : List ℕ) (a b : ℕ) (has-room : p .rows < p .room)
       (in-pool : p .total + length x ≤ length pool)
       (small : length x ≤ mostPairs) (is-a : a ≡ p .total) (is-b : b ≡ length x)
-      (rows-now : rows′ ≡ set (set rows (2 * p .rows) a) (2 * p .rows + 1) b)
-      (pool-now : pool′ ≡ take (p .total) pool ++ (x ++ drop (p .total + length x) pool)) where
+      (rows-now : rows′ ≡ set (set rows (rowWidth * p .rows) a) (rowWidth * p .rows + 1) b)
+      (pool-now : pool′ ≡ laid pool (p .total) x) where
     abbrev then-are : List (List ℕ)
     then-are = rowsIn (p .rows) rows pool ++ (x ∷ [])
 
-    numbers-long : length (rowNumbers 0 (rowsIn (p .rows) rows pool)) ≡ 2 * p .rows
+    numbers-long : length (rowNumbers codesSay 0 (rowsIn (p .rows) rows pool)) ≡ rowWidth * p .rows
     numbers-long = row-numbers-length 0 (rowsIn (p .rows) rows pool) ∙ rw count-is
 
-    new-rows : rows′ ≡ filled (length rows) (rowNumbers 0 (rowsIn (p .rows) rows pool ++ (x ∷ [])))
+    new-rows : rows′ ≡ filled (length rows) (rowNumbers codesSay 0 (rowsIn (p .rows) rows pool ++ (x ∷ [])))
     new-rows =
         let rs : List (List ℕ) = rowsIn (p .rows) rows pool in
-        let ns : List ℕ = rowNumbers 0 rs in
-        let fits : 2 * p .rows + 2 ≤ length rows = omega (arith, held .room-fits) in
-        let one : set rows (2 * p .rows) a ≡ filled (length rows) (ns ++ (a ∷ [])) =
+        let ns : List ℕ = rowNumbers codesSay 0 rs in
+        let fits : rowWidth * p .rows + rowWidth ≤ length rows = omega (arith, held .room-fits) in
+        let one : set rows (rowWidth * p .rows) a ≡ filled (length rows) (ns ++ (a ∷ [])) =
         ap₂ (λ (l : List ℕ) (k : ℕ). set l k a) (held .rows-are) (sym numbers-long)
         ∙ filled-set (length rows) ns a (omega (arith, numbers-long)) in
-        let longer : length (ns ++ (a ∷ [])) ≡ 2 * p .rows + 1 =
+        let longer : length (ns ++ (a ∷ [])) ≡ rowWidth * p .rows + 1 =
         length-append ns (a ∷ []) ∙ ap (λ (k : ℕ). k + 1) numbers-long in
         let two : List ℕ = (ns ++ (a ∷ [])) ++ (b ∷ []) in
-        let both : set (set rows (2 * p .rows) a) (2 * p .rows + 1) b ≡ filled (length rows) two =
+        let both : set (set rows (rowWidth * p .rows) a) (rowWidth * p .rows + 1) b ≡ filled (length rows) two =
         ap₂ (λ (l : List ℕ) (k : ℕ). set l k b) one (sym longer)
         ∙ filled-set (length rows) (ns ++ (a ∷ [])) b (omega (arith, longer)) in
-        let same-numbers : (ns ++ (a ∷ [])) ++ (b ∷ []) ≡ rowNumbers 0 (rs ++ (x ∷ [])) =
+        let same-numbers : (ns ++ (a ∷ [])) ++ (b ∷ []) ≡ rowNumbers codesSay 0 (rs ++ (x ∷ [])) =
         append-assoc ns (a ∷ []) (b ∷ [])
         ∙ (ap₂ (λ (u v : ℕ). ns ++ (u ∷ v ∷ [])) (is-a ∙ (held .total-is ∙ omega arith)) is-b
-        ∙ sym (rows-append 0 rs x)) in
+        ∙ sym (rows-append codesSay 0 rs x)) in
         rows-now ∙ (both ∙ ap (filled (length rows)) same-numbers)
 
     new-pool : pool′ ≡ filled (length pool) (poolNumbers (rowsIn (p .rows) rows pool ++ (x ∷ [])))
@@ -123,8 +125,8 @@ module _ {rows pool : List ℕ} {p : Progress} (held : Held rows pool p) where
         let rs : List (List ℕ) = rowsIn (p .rows) rows pool in
         let e : p .total ≡ length (poolNumbers rs) = held .total-is in
         pool-now
-        ∙ (ap₂ (λ (n : ℕ) (l : List ℕ). take n l ++ (x ++ drop (n + length x) l)) e (held .pool-is)
-        ∙ (filled-lay (length pool) (poolNumbers rs) x (omega (arith, in-pool, e))
+        ∙ (ap (λ (l : List ℕ). laid l (p .total) x) (held .pool-is)
+        ∙ (laid-filled (length pool) (p .total) (poolNumbers rs) x e (omega (arith, in-pool, e))
         ∙ ap (filled (length pool)) (sym (pool-append rs x))))
 
     total-then :
@@ -217,15 +219,18 @@ found-nothing x rs f e g =
     absurd (let z : _≡_ {A = ℕ} 0 1 = cc in omega arith))
     (λ t. ltb-false (numberOf x rs) (length rs) t)
 
-module _ {rows pool : List ℕ} {p : Progress} (held : Held rows pool p) (x : List ℕ) (f : Found)
-    (is-found : f ≡ foundIn x (rowsIn (p .rows) rows pool)) where
+module _ {rows pool : List ℕ} {p : Progress} (held : Held rows pool p) (x : List ℕ) (f : Found) (count : ℕ)
+    (is-count : count ≡ p .rows) (found : f ≡ foundIn x (rowsIn count rows pool)) where
+  is-found : f ≡ foundIn x (rowsIn (p .rows) rows pool)
+  is-found = found ∙ ap (λ (n : ℕ). foundIn x (rowsIn n rows pool)) is-count
+
   -- an equal row has a number: that one is used
   pub placed-found :
-      (row : ℕ) → f ≡ At row
+      (number row : ℕ) → f ≡ At number → row ≡ number
       → Numbered (p .room) (withRow x (rowsIn (p .rows) rows pool)) (numberOf x (rowsIn (p .rows) rows pool)) rows pool
       (record { row = row; progress = p })
-  placed-found row g =
-      let k = found-at x (rowsIn (p .rows) rows pool) f row is-found g in
+  placed-found number row g same =
+      let k = found-at x (rowsIn (p .rows) rows pool) f number is-found g in
       record {
         grown = record {
           held = λ e. held;
@@ -233,8 +238,8 @@ module _ {rows pool : List ℕ} {p : Progress} (held : Held rows pool p) (x : Li
           refused = λ e. absurd (e (held .going));
           room-kept = refl;
         };
-        row-is = λ e. k .1;
-        row-below = omega (arith, k .0, k .1, rows-length (p .rows) 0 rows pool, held .in-room, held .room-most);
+        row-is = λ e. same ∙ k .1;
+        row-below = omega (arith, k .0, same ∙ k .1, rows-length (p .rows) 0 rows pool, held .in-room, held .room-most);
       }
 
   -- none has: the next one is used

@@ -2,7 +2,7 @@
 use mathlib.Core.Path.{_≡_, sym, _∙_, ap, ap₂, subst⁻¹}
 use mathlib.Core.Bool.{true, false, not}
 use mathlib.Core.List.{List, [], _++_, append-nil}
-use Prim.Native.Nat.{ℕ, _+_, _-_, _≤_, _<_}
+use Prim.Native.Nat.{ℕ, _+_, _≤_, _<_}
 use native.Mathlib.Omega.{arith}
 use lib.Dec.{eqb, ltb, leb}
 use lib.ListN.{length}
@@ -15,8 +15,8 @@ use Rattle.model.specs.Basics.{zeros, filled, Refusal, refusal, fine, refuse}
 use Rattle.model.specs.Rules.{pairCount}
 use Rattle.model.specs.Construction.{rowsOf}
 use Rattle.model.specs.Layout.{edgeNeed, ruleIn, isReadable, ruleRefusal}
-use Rattle.model.specs.Tables.{cellNumbers, rowNumbers, poolNumbers, builtOf, tablesBy, tablesOf, rowRoom, fitRefusal}
-use Rattle.model.specs.Tables.{tableRefusal}
+use Rattle.model.specs.Tables.{cellNumbers, rowNumbers, codesSay, poolNumbers, builtOf, tablesBy, tablesOf, rowRoom}
+use Rattle.model.specs.Tables.{fitRefusal, tableRefusal}
 use Rattle.model.specs.Promises.{buildRefusal, BuildsTable, ChecksRule}
 use Rattle.model.proofs.Refusals.{on-pass, on-refused, refuse-fine, refuse-met}
 use Rattle.model.proofs.Numbers.{Among, none, some, among-refuse, among-then}
@@ -145,7 +145,8 @@ module _ (h : Head) (t scratch cells rows pool : List ℕ) (passed : ruleRefusal
                 cells-long);
             rows-are =
                 rw f
-                (held .rows-are ∙ ap₂ (λ (n : ℕ) (x : List (List ℕ)). filled n (rowNumbers 0 x)) rows-long are);
+                (held .rows-are
+                ∙ ap₂ (λ (n : ℕ) (x : List (List ℕ)). filled n (rowNumbers codesSay 0 x)) rows-long are);
             pool-is =
                 rw f
                 (held .pool-is ∙ ap₂ (λ (n : ℕ) (x : List (List ℕ)). filled n (poolNumbers x)) pool-long are);

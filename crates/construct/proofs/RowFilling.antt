@@ -7,6 +7,8 @@ use native.Mathlib.Omega.{arith}
 use native.Mathlib.Nat.{mul-le-mul-right}
 use native.Mathlib.Numerals.{add-one}
 use lib.ListN.{length, length-replicate}
+use Rattle.numbers.specs.Lent.{laid}
+use Rattle.numbers.proofs.Laid.{laid-none, laid-join}
 use Rattle.model.specs.Basics.{zeros}
 use Rattle.model.specs.Rules.{Rule}
 use Rattle.model.specs.Construction.{width, rowAt, byIntervals, bySymbols}
@@ -18,11 +20,10 @@ use Rattle.pairs.specs.declared.Scale.{Scale}
 use Rattle.construct.specs.declared.Progress.{Progress}
 use Rattle.construct.specs.Marks.{Ready}
 use Rattle.construct.specs.Rows.{rowsIn, Held, Grown}
-use Rattle.construct.specs.Lent.{laid}
 use Rattle.construct.specs.Cells.{CanFill, SymbolFilled, RowFilled}
 use Rattle.construct.proofs.RowSearch.{rows-length}
 use Rattle.construct.proofs.TargetMarks.{ready-again}
-use Rattle.construct.proofs.Laying.{laid-none, laid-join, symbols-snoc}
+use Rattle.construct.proofs.Laying.{symbols-snoc}
 use Rattle.construct.proofs.SymbolFilling.{extends-more, unfit-extends}
 
 -- the cells of the first s symbols of a row lie in the table

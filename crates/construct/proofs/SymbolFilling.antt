@@ -7,10 +7,12 @@ use native.Mathlib.Omega.{arith}
 use native.Mathlib.Nat.{mul-le-mul, mul-le-mul-right}
 use native.Mathlib.Numerals.{add-one}
 use lib.ListN.{length, set, length-set, length-replicate}
+use Rattle.numbers.specs.Lent.{laid}
+use Rattle.numbers.proofs.Laid.{laid-none, laid-store}
 use Rattle.model.specs.declared.Head.{Head}
 use Rattle.model.specs.Basics.{zeros}
-use Rattle.model.specs.Rules.{Rule}
-use Rattle.model.specs.Construction.{width, nextRow, rowAt, withRow, byIntervals, cellOf}
+use Rattle.model.specs.Rules.{Rule, mostSymbols}
+use Rattle.model.specs.Construction.{width, nextRow, rowAt, withRow, byIntervals, mostRows, cellOf}
 use Rattle.model.specs.Tables.{cellsFrom}
 use Rattle.model.specs.Layout.{ruleIn}
 use Rattle.model.proofs.Valid.{valid-of}
@@ -23,11 +25,10 @@ use Rattle.construct.specs.declared.Progress.{Progress}
 use Rattle.construct.specs.declared.Filled.{Filled}
 use Rattle.construct.specs.Marks.{Ready}
 use Rattle.construct.specs.Rows.{rowsIn, Held, Unfit, Grown}
-use Rattle.construct.specs.Lent.{laid}
 use Rattle.construct.specs.Cells.{CanLeave, CellMade, CanFill, SymbolFilled}
 use Rattle.construct.proofs.RowSearch.{rows-length}
 use Rattle.construct.proofs.TargetMarks.{ready-again}
-use Rattle.construct.proofs.Laying.{laid-none, laid-store, cells-snoc, cell-stays}
+use Rattle.construct.proofs.Laying.{cells-snoc, cell-stays}
 
 pub extends-more :
     {rs after : List (List ℕ)} (e : Extends rs after) (more : List (List ℕ)) → after ++ more ≡ rs ++ (e .added ++ more)
@@ -252,7 +253,7 @@ unfolding ruleIn
 symbols-of h t = refl
 
 pub symbols-few :
-    (h : Head) (t : List ℕ) {z : Scale} {marks : List ℕ} → Ready (ruleIn h t) z marks → h .symbols ≤ 16
+    (h : Head) (t : List ℕ) {z : Scale} {marks : List ℕ} → Ready (ruleIn h t) z marks → h .symbols ≤ mostSymbols
 symbols-few h t ready =
     omega (arith, symbols-of h t, valid-of (ruleIn h t) (ready .valid) .sizes .symbols-most)
 
@@ -262,15 +263,15 @@ width-is top ready e = rw (e, ready .scaled .top-is)
 
 -- the products of a place fit
 pub place-most :
-    (row symbols s wide : ℕ) → row < 4096 → symbols < 65536 → s < 65536 → wide < 65536
+    (row symbols s wide : ℕ) → row < mostRows → symbols < 2 ^ 16 → s < 2 ^ 16 → wide < 2 ^ 16
     → (row * symbols ≤ 2 ^ 28) × ((row * symbols + s) * wide ≤ 2 ^ 45)
 place-most row symbols s wide h g k l =
-    let a : row ≤ 4096 = omega arith in
-    let b : symbols ≤ 65536 = omega arith in
-    let c : row * symbols ≤ 4096 * 65536 = mul-le-mul a b in
+    let a : row ≤ mostRows = omega arith in
+    let b : symbols ≤ 2 ^ 16 = omega arith in
+    let c : row * symbols ≤ mostRows * 2 ^ 16 = mul-le-mul a b in
     let d : row * symbols + s ≤ 2 ^ 29 = omega arith in
-    let e : wide ≤ 65536 = omega arith in
-    let f : (row * symbols + s) * wide ≤ 2 ^ 29 * 65536 = mul-le-mul d e in
+    let e : wide ≤ 2 ^ 16 = omega arith in
+    let f : (row * symbols + s) * wide ≤ 2 ^ 29 * 2 ^ 16 = mul-le-mul d e in
     (omega arith, omega arith)
 
 pub place-known :

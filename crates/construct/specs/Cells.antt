@@ -4,6 +4,7 @@ use mathlib.Core.Path.{_≡_}
 use mathlib.Core.List.{List, [], _∷_, _++_}
 use Prim.Native.Nat.{ℕ, _+_, _*_, _≤_, _<_}
 use lib.ListN.{length}
+use Rattle.numbers.specs.Lent.{laid}
 use Rattle.model.specs.Basics.{zeros, filled}
 use Rattle.model.specs.Rules.{Rule}
 use Rattle.model.specs.Construction.{width, startRow, nextRow, rowAt, withRow, byIntervals, bySymbols, rowsOf, cellOf}
@@ -12,7 +13,6 @@ use Rattle.pairs.specs.declared.Scale.{Scale}
 use Rattle.pairs.specs.declared.Input.{Input}
 use Rattle.construct.specs.declared.Progress.{Progress}
 use Rattle.construct.specs.declared.Filled.{Filled}
-use Rattle.construct.specs.Lent.{laid}
 use Rattle.construct.specs.Marks.{Ready}
 use Rattle.construct.specs.Rows.{rowsIn, Held, Grown}
 

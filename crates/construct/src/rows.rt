@@ -2,8 +2,8 @@
 ghost use mathlib.Core.Path.{_≡_};
 ghost use mathlib.Core.List.{_∷_, _++_, []};
 ghost use Prim.Native.Nat.{_+_, _≤_};
-ghost use Rattle.construct.specs.Lent.{laid};
 ghost use lib.ListN.{length};
+ghost use Rattle.numbers.specs.Lent.{laid};
 ghost use Rattle.model.specs.Rules.{mostPairs};
 ghost use Rattle.model.specs.Construction.{numberOf, withRow};
 ghost use Rattle.construct.specs.Marks.{codesIn, InSpan};
@@ -12,24 +12,28 @@ use crate::Found;
 use crate::Placed;
 use crate::Progress;
 use crate::Span;
-use crate::lent::clear;
-use crate::lent::narrow32;
 use crate::marks::gather;
-use edges::wide32;
+use model::ROW_LENGTH;
+use model::ROW_WIDTH;
+use numbers::clear32;
+use numbers::narrow32;
+use numbers::wide32;
+use tables::row_length;
+use tables::row_start;
 
 // The first row that holds exactly `codes`.
-pub(crate) fn find_row(rows: &[u32], pool: &[u32], count: usize, codes: &[u32]) -> Found
+pub(crate) fn find_row(rows: &[u32], pool: &[u32], count: u32, codes: &[u32]) -> Found
     requires { ⌜ Within count (now rows) (now pool) ⌝ }
     ensures { λ r. ⌜ r ≡ foundIn (now (codes .entry)) (rowsIn count (now (rows .entry)) (now (pool .entry))) ⌝ }
 {
-    let mut row: usize = 0;
+    let mut row: u32 = 0;
     loop {
         if count <= row {
             break Found::Nothing;
         }
-        let start = wide32(rows[2 * row]);
-        let size = wide32(rows[2 * row + 1]);
+        let size = row_length(rows, row);
         if size == codes.len() {
+            let start = row_start(rows, row);
             let mut j: usize = 0;
             'codes: while j < size {
                 if pool[start + j] != codes[j] {
@@ -91,8 +95,8 @@ pub(crate) fn add_row(codes: &[u32], rows: &mut [u32], pool: &mut [u32], p: Prog
             },
         };
     }
-    rows[2 * row] = narrow32(total);
-    rows[2 * row + 1] = narrow32(codes.len());
+    rows[ROW_WIDTH * row] = narrow32(total);
+    rows[ROW_WIDTH * row + ROW_LENGTH] = narrow32(codes.len());
     copy_codes(codes, pool, total);
     Placed {
         row,
@@ -115,11 +119,15 @@ pub(crate) fn place_row(codes: &[u32], rows: &mut [u32], pool: &mut [u32], p: Pr
         (numberOf (now (codes .entry)) (rowsIn (p .rows) (now (rows .entry)) (now (pool .entry))))
         (now (rows .exit)) (now (pool .exit)) r ⌝ }
 {
-    let found = find_row(rows, pool, p.rows, codes);
+    let count = narrow32(p.rows);
+    let found = find_row(rows, pool, count, codes);
     let Found::At(row) = found else {
         return add_row(codes, rows, pool, p);
     };
-    Placed { row, progress: p }
+    Placed {
+        row: wide32(row),
+        progress: p,
+    }
 }
 
 // The number of the row that is marked; the marks are zero again.
@@ -140,6 +148,6 @@ pub(crate) fn place_marks(
 {
     let count = gather(marks, span);
     let placed = place_row(&marks[..count], rows, pool, p);
-    clear(&mut marks[..count]);
+    clear32(&mut marks[..count]);
     placed
 }

@@ -61,7 +61,8 @@ loop-less c = search needs
 loop-again : tie.Need-loop-again Inv-loop μ-loop
 loop-again c =
     let l = c .before .before .loop in
-    let fits : c .narrow16 .result ≡ l .rest % _ = c .narrow16 .ensures .1 (omega (arith, mod-lt (l .rest) (l .inv .0))) in
+    let fits : c .narrow16 .result ≡ l .rest % _ =
+    c .narrow16 .ensures .1 (omega (arith, mod-lt (l .rest) (l .inv .0))) in
     (search needs, search needs, taking-next (l .inv .2) _ (l .inv .0) (search needs) fits)
 
 returns : tie.Need-returns Inv-loop μ-loop

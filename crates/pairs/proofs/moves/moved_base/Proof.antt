@@ -10,8 +10,9 @@ has-bit-requires c κs = search needs
 
 returns : tie.Need-returns
 returns c =
-    moved-zero (c .before .before .args .mask) _ (c .before .before .args .timer) (c .before .before .args .top)
-    (c .before .before .args .interval) (c .before .before .args .base) (sym (c .before .has-bit .ensures) ∙ c .if1 .taken)
+    let a = c .before .before .args in
+    moved-zero (a .mask) _ (a .timer) (a .top) (a .interval) (a .base)
+    (sym (c .before .has-bit .ensures) ∙ c .if1 .taken)
 
 advance-requires : tie.Need-advance-requires
 advance-requires c κs = search needs
