@@ -59,16 +59,16 @@ unfolding rowsOf
 rows-begin r = grows-extends (rows-grow (suc mostRows) 0 r (startRow r ∷ []))
 
 module _
-    (r : Rule) {starts weight room : ℕ} {marks marks₁ rows₁ pool₁ : List ℕ} {p : Progress}
+    {says : List ℕ → List ℕ} (r : Rule) {starts weight room : ℕ} {marks marks₁ rows₁ pool₁ : List ℕ} {p : Progress}
     (is-start : startCodesBy weight (locationsIn starts) ≡ startRow r)
-    (placed : StartPlaced starts weight room marks marks₁ rows₁ pool₁ p) where
-  grown-start : Grown room (startRow r ∷ []) rows₁ pool₁ p
-  grown-start = subst (λ (x : List ℕ). Grown room (x ∷ []) rows₁ pool₁ p) is-start (placed .grown)
+    (placed : StartPlaced says starts weight room marks marks₁ rows₁ pool₁ p) where
+  grown-start : Grown says room (startRow r ∷ []) rows₁ pool₁ p
+  grown-start = subst (λ (x : List ℕ). Grown says room (x ∷ []) rows₁ pool₁ p) is-start (placed .grown)
 
   -- the start row does not fit
   pub start-refused :
       (cells : List ℕ) (whole : ℕ) → room ≡ whole → (p .number ≡ 0 → ⊥)
-      → AllFilled r whole marks marks₁ cells cells rows₁ pool₁ p
+      → AllFilled says r whole marks marks₁ cells cells rows₁ pool₁ p
   start-refused cells whole e n = record {
     marks-zero = placed .marks-zero;
     grown = record {
@@ -87,7 +87,7 @@ module _
       → each ≡ r .symbols * width r
       → room * each ≤ length cells
       → p .number ≡ 0
-      → CanFillAll r z marks₁ cells rows₁ pool₁ p
+      → CanFillAll says r z marks₁ cells rows₁ pool₁ p
   start-fills each can long e fits q = record {
     ready = ready-again marks₁ (can .ready) long;
     marks-zero = placed .marks-zero ∙ ap zeros (sym long);
@@ -100,11 +100,11 @@ module _
   pub start-done :
       {marks′ cells cells′ rows′ pool′ : List ℕ} {p′ : Progress} (whole : ℕ) → length marks₁ ≡ length marks
       → room ≡ whole
-      → AllFilled r (p .room) marks₁ marks′ cells cells′ rows′ pool′ p′
-      → AllFilled r whole marks marks′ cells cells′ rows′ pool′ p′
+      → AllFilled says r (p .room) marks₁ marks′ cells cells′ rows′ pool′ p′
+      → AllFilled says r whole marks marks′ cells cells′ rows′ pool′ p′
   start-done {rows′ = rows′} {pool′ = pool′} {p′ = p′} whole long e all = record {
     marks-zero = all .marks-zero ∙ ap zeros long;
-    grown = subst (λ (n : ℕ). Grown n (rowsOf r) rows′ pool′ p′) (grown-start .room-kept ∙ e) (all .grown);
+    grown = subst (λ (n : ℕ). Grown says n (rowsOf r) rows′ pool′ p′) (grown-start .room-kept ∙ e) (all .grown);
     cells-are = all .cells-are;
   }
 

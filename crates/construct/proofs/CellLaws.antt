@@ -46,22 +46,25 @@ part-is rows pool x p row number start n below is-row is-start is-length e =
     (sym (held-at (p .rows) 0 row rows pool below ∙ ap (codesAt rows pool) z))
 
 pub cell-made :
-    (r : Rule) (row : ℕ) (at : Input) (rs : List (List ℕ)) {room : ℕ} {x marks marks₁ marks′ rows′ pool′ : List ℕ}
+    {says : List ℕ → List ℕ} (r : Rule) (row : ℕ) (at : Input) (rs : List (List ℕ)) {room : ℕ}
+    {x marks marks₁ marks′ rows′ pool′ : List ℕ}
     (marked : Marked) (placed : Placed) (cell : ℕ)
     → x ≡ rowAt rs row
     → length marks₁ ≡ length marks
     → NextMarked r at x marks₁ marked
-    → MarksNumbered room (withRow (codesIn marks₁) rs) (numberOf (codesIn marks₁) rs) marks₁ marks′ rows′ pool′ placed
+    → MarksNumbered says room (withRow (codesIn marks₁) rs) (numberOf (codesIn marks₁) rs) marks₁ marks′ rows′ pool′
+    placed
     → cell ≡ 2 * placed .row + oneIf (marked .timer)
-    → CellMade r row at rs room marks marks′ rows′ pool′ (record { cell = cell; progress = placed .progress })
+    → CellMade says r row at rs room marks marks′ rows′ pool′ (record { cell = cell; progress = placed .progress })
 unfolding cellOf
-cell-made r row at rs {room} {x} {marks} {marks₁} {marks′} {rows′} {pool′} marked placed cell e long next put c =
+cell-made {says} r row at rs {room} {x} {marks} {marks₁} {marks′} {rows′} {pool′} marked placed cell e long next put c =
     let codes : codesIn marks₁ ≡ nextRow r (at .symbol) (at .interval) (rowAt rs row) =
     next .marks-are .codes-are ∙ ap (nextRow r (at .symbol) (at .interval)) e in
     record {
       marks-zero = put .marks-zero ∙ ap zeros long;
       grown =
-          subst (λ (l : List ℕ). Grown room (withRow l rs) rows′ pool′ (placed .progress)) codes (put .numbered .grown);
+          subst (λ (l : List ℕ). Grown says room (withRow l rs) rows′ pool′ (placed .progress)) codes
+          (put .numbered .grown);
       cell-is = λ z.
           c
           ∙ ap₂ (λ (n : ℕ) (b : Bool). 2 * n + oneIf b)

@@ -90,11 +90,11 @@ module _ (h : Head) (t scratch cells rows pool : List ℕ) (passed : ruleRefusal
         (scaled : Scaled (ruleIn h t) z) (is-room : room ≡ rowRoom (ruleIn h t) (length cells) (length rows))
         (scratch-long : length scratch₁ ≡ length scratch) (cells-long : length cells₁ ≡ length cells)
         (rows-long : length rows′ ≡ length rows) (pool-long : length pool′ ≡ length pool)
-        (all-are : AllFilled (ruleIn h t) room scratch₁ scratch′ cells₁ cells′ rows′ pool′ p) where
+        (all-are : AllFilled codesSay (ruleIn h t) room scratch₁ scratch′ cells₁ cells′ rows′ pool′ p) where
       fits : p .number ≡ 0 → buildRefusal h t scratch cells rows pool ≡ fine
       unfolding fitRefusal
       fits e =
-          let held : Held rows′ pool′ p = all-are .grown .held e in
+          let held : Held codesSay rows′ pool′ p = all-are .grown .held e in
           let same-room : p .room ≡ rowRoom (ruleIn h t) (length cells) (length rows) =
           all-are .grown .room-kept ∙ is-room in
           let rs : rowsIn (p .rows) rows′ pool′ ++ [] ≡ rowsOf (ruleIn h t) =
@@ -114,7 +114,7 @@ module _ (h : Head) (t scratch cells rows pool : List ℕ) (passed : ruleRefusal
       built-is : p .number ≡ 0 → builtFrom h z p ≡ builtOf (ruleIn h t)
       unfolding builtOf
       built-is e =
-          let held : Held rows′ pool′ p = all-are .grown .held e in
+          let held : Held codesSay rows′ pool′ p = all-are .grown .held e in
           let are : rowsIn (p .rows) rows′ pool′ ≡ rowsOf (ruleIn h t) = all-are .grown .rows-are e in
           let count : p .rows ≡ length (rowsOf (ruleIn h t)) =
           sym (rows-length (p .rows) 0 rows′ pool′) ∙ ap length are in
@@ -133,7 +133,7 @@ module _ (h : Head) (t scratch cells rows pool : List ℕ) (passed : ruleRefusal
       unfolding tablesOf tablesBy
       builds-done e =
           let f : buildRefusal h t scratch cells rows pool ≡ fine = fits e in
-          let held : Held rows′ pool′ p = all-are .grown .held e in
+          let held : Held codesSay rows′ pool′ p = all-are .grown .held e in
           let are : rowsIn (p .rows) rows′ pool′ ≡ rowsOf (ruleIn h t) = all-are .grown .rows-are e in
           record {
             answer-is = rw (f, built-is e);

@@ -93,7 +93,8 @@ rows-again rs rows pool n l m e f g =
 
 -- every row lies in the pool
 pub row-within :
-    {rows pool : List ℕ} {p : Progress} → Held rows pool p → (count : ℕ) → count ≡ p .rows → Within count rows pool
+    {rows pool : List ℕ} {p : Progress} → Held codesSay rows pool p → (count : ℕ) → count ≡ p .rows → Within count rows
+    pool
 row-within {rows} {pool} {p} held below is-count =
     let rs : List (List ℕ) = rowsIn (p .rows) rows pool in
     let count : length rs ≡ p .rows = rows-length (p .rows) 0 rows pool in

@@ -162,8 +162,9 @@ can-start h t z marks ready zero-marks =
 
 -- no row yet
 pub held-none :
-    (rows pool : List ℕ) (room : ℕ) → rows ≡ zeros (length rows) → pool ≡ zeros (length pool) → RoomIn room rows
-    → Held rows pool (record { number = 0; rows = 0; total = 0; room = room })
+    {says : List ℕ → List ℕ} (rows pool : List ℕ) (room : ℕ) → rows ≡ zeros (length rows) → pool ≡ zeros (length pool)
+    → RoomIn room rows
+    → Held says rows pool (record { number = 0; rows = 0; total = 0; room = room })
 held-none rows pool room a b c =
     let e : length rows - 0 ≡ length rows = omega arith in
     let f : length pool - 0 ≡ length pool = omega arith in
@@ -180,15 +181,17 @@ held-none rows pool room a b c =
     }
 
 pub start-placed :
-    (starts weight room : ℕ) {marks marks₁ marks′ rows′ pool′ : List ℕ} {span : Span} (placed : Placed)
+    {says : List ℕ → List ℕ} (starts weight room : ℕ) {marks marks₁ marks′ rows′ pool′ : List ℕ} {span : Span}
+    (placed : Placed)
     → length marks₁ ≡ length marks
     → MarksAre (startCodesBy weight (locationsIn starts)) marks₁ span
-    → MarksNumbered room (codesIn marks₁ ∷ []) 0 marks₁ marks′ rows′ pool′ placed
-    → StartPlaced starts weight room marks marks′ rows′ pool′ (placed .progress)
-start-placed starts weight room {rows′ = rows′} {pool′ = pool′} placed long m n = record {
+    → MarksNumbered says room (codesIn marks₁ ∷ []) 0 marks₁ marks′ rows′ pool′ placed
+    → StartPlaced says starts weight room marks marks′ rows′ pool′ (placed .progress)
+start-placed {says} starts weight room {rows′ = rows′} {pool′ = pool′} placed long m n = record {
   marks-zero = n .marks-zero ∙ ap zeros long;
   grown =
-      subst (λ (x : List ℕ). Grown room (x ∷ []) rows′ pool′ (placed .progress)) (m .codes-are) (n .numbered .grown);
+      subst (λ (x : List ℕ). Grown says room (x ∷ []) rows′ pool′ (placed .progress)) (m .codes-are)
+      (n .numbered .grown);
 }
 
 pub pairs-few : (h : Head) (t : List ℕ) → ruleRefusal h t .number ≡ 0 → pairCount (ruleIn h t) ≤ mostPairs

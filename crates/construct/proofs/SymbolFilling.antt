@@ -53,12 +53,12 @@ place-fits row symbols s wide i room n h g l f =
     omega arith
 
 pub record Filling
-    (r : Rule) (row s at : ℕ) (rs : List (List ℕ)) (room : ℕ) (marks₀ cells₀ : List ℕ) (i : ℕ)
+    (says : List ℕ → List ℕ) (r : Rule) (row s at : ℕ) (rs : List (List ℕ)) (room : ℕ) (marks₀ cells₀ : List ℕ) (i : ℕ)
     (marks cells rows pool : List ℕ) (p : Progress) : Type 0 where
   pub turns : i ≤ width r
   pub marks-zero : marks ≡ zeros (length marks₀)
   pub cells-long : length cells ≡ length cells₀
-  pub held : Held rows pool p
+  pub held : Held says rows pool p
   pub room-kept : p .room ≡ room
   pub row-below : row < p .rows
   pub row-is : rowAt (rowsIn (p .rows) rows pool) row ≡ rowAt rs row
@@ -70,9 +70,9 @@ pub record Filling
       → cells ≡ laid cells₀ at (cellsFrom i 0 r (rowsIn (p .rows) rows pool ++ more) (rowAt rs row) s)
 
 pub filling-start :
-    (r : Rule) (z : Scale) (row s at : ℕ) (marks cells rows pool : List ℕ) (p : Progress)
-    → CanFill r z marks cells rows pool p row
-    → Filling r row s at (rowsIn (p .rows) rows pool) (p .room) marks cells 0 marks cells rows pool p
+    {says : List ℕ → List ℕ} (r : Rule) (z : Scale) (row s at : ℕ) (marks cells rows pool : List ℕ) (p : Progress)
+    → CanFill says r z marks cells rows pool p row
+    → Filling says r row s at (rowsIn (p .rows) rows pool) (p .room) marks cells 0 marks cells rows pool p
 filling-start r z row s at marks cells rows pool p can =
     let e : width r - 0 ≡ width r = omega arith in
     record {
@@ -88,11 +88,11 @@ filling-start r z row s at marks cells rows pool p can =
     }
 
 module _
-    {r : Rule} {row s at : ℕ} {rs : List (List ℕ)} {room : ℕ} {marks₀ cells₀ : List ℕ} {i : ℕ}
+    {says : List ℕ → List ℕ} {r : Rule} {row s at : ℕ} {rs : List (List ℕ)} {room : ℕ} {marks₀ cells₀ : List ℕ} {i : ℕ}
     {marks cells rows pool : List ℕ} {p : Progress}
-    (inv : Filling r row s at rs room marks₀ cells₀ i marks cells rows pool p) where
+    (inv : Filling says r row s at rs room marks₀ cells₀ i marks cells rows pool p) where
   pub filling-leave :
-      {z : Scale} → Ready r z marks₀ → CanLeave r z marks rows pool p row
+      {z : Scale} → Ready r z marks₀ → CanLeave says r z marks rows pool p row
   filling-leave ready =
       let long : length marks ≡ length marks₀ = ap length (inv .marks-zero) ∙ length-replicate (length marks₀) 0 in
       record {
@@ -108,20 +108,21 @@ module _
 
   module _ {at′ : Input} {marks′ rows′ pool′ : List ℕ} {answer : Filled} (l : i < width r)
       (is-symbol : at′ .symbol ≡ s) (is-interval : at′ .interval ≡ i)
-      (made : CellMade r row at′ (rowsIn (p .rows) rows pool) (p .room) marks marks′ rows′ pool′ answer) where
+      (made : CellMade says r row at′ (rowsIn (p .rows) rows pool) (p .room) marks marks′ rows′ pool′ answer) where
     same-next :
         nextRow r (at′ .symbol) (at′ .interval) (rowAt (rowsIn (p .rows) rows pool) row)
         ≡ nextRow r s i (rowAt rs row)
     same-next = rw (is-symbol, is-interval, inv .row-is)
 
     grown-is :
-        Grown room (withRow (nextRow r s i (rowAt rs row)) (rowsIn (p .rows) rows pool)) rows′ pool′ (answer .progress)
+        Grown says room (withRow (nextRow r s i (rowAt rs row)) (rowsIn (p .rows) rows pool)) rows′ pool′
+        (answer .progress)
     grown-is =
-        subst (λ (x : List ℕ). Grown room (withRow x (rowsIn (p .rows) rows pool)) rows′ pool′ (answer .progress))
+        subst (λ (x : List ℕ). Grown says room (withRow x (rowsIn (p .rows) rows pool)) rows′ pool′ (answer .progress))
         same-next
         (subst
         (λ (n : ℕ).
-        Grown n
+        Grown says n
         (withRow (nextRow r (at′ .symbol) (at′ .interval) (rowAt (rowsIn (p .rows) rows pool) row))
         (rowsIn (p .rows) rows pool))
         rows′ pool′ (answer .progress))
@@ -142,7 +143,7 @@ module _
     -- a row that does not fit ends the work
     pub filling-refused :
         (answer .progress .number ≡ 0 → ⊥)
-        → SymbolFilled r row s rs room marks₀ marks′ cells₀ cells rows′ pool′ (answer .progress)
+        → SymbolFilled says r row s rs room marks₀ marks′ cells₀ cells rows′ pool′ (answer .progress)
     filling-refused n = record {
       marks-zero = marks-zero-still;
       grown = record {
@@ -195,7 +196,7 @@ module _
     pub filling-next :
         (cells′ : List ℕ) → answer .progress .number ≡ 0 → at + i < length cells₀
         → cells′ ≡ set cells (at + i) (answer .cell)
-        → Filling r row s at rs room marks₀ cells₀ (i + 1) marks′ cells′ rows′ pool′ (answer .progress)
+        → Filling says r row s at rs room marks₀ cells₀ (i + 1) marks′ cells′ rows′ pool′ (answer .progress)
     filling-next cells′ e fits w =
         let old : List (List ℕ) = rowsIn (p .rows) rows pool in
         let new : List (List ℕ) = withRow (nextRow r s i (rowAt rs row)) old in
@@ -231,7 +232,7 @@ module _
 
   pub filling-end :
       width r ≤ i → at ≡ (row * r .symbols + s) * width r
-      → SymbolFilled r row s rs room marks₀ marks cells₀ cells rows pool p
+      → SymbolFilled says r row s rs room marks₀ marks cells₀ cells rows pool p
   filling-end l place =
       let full : i ≡ width r = omega (arith, inv .turns) in
       let are : rowsIn (p .rows) rows pool ≡ byIntervals (width r) 0 r s (rowAt rs row) rs =

@@ -7,7 +7,7 @@ ghost use Rattle.model.specs.Basics.{lesser as lesserOf, quotient as quotientOf
 ghost use Rattle.model.specs.Rules.{mostPairs, pairCount};
 ghost use Rattle.model.specs.Construction.{mostRows};
 ghost use Rattle.model.specs.Layout.{ruleIn, ruleRefusal};
-ghost use Rattle.model.specs.Tables.{rowRoom, rowWidth};
+ghost use Rattle.model.specs.Tables.{codesSay, rowRoom, rowWidth};
 ghost use Rattle.model.specs.Promises.{BuildsTable};
 ghost use Rattle.pairs.specs.Pairs.{Scaled};
 ghost use Rattle.construct.specs.Cells.{AllFilled};
@@ -51,8 +51,8 @@ pub(crate) fn place_start(
 ) -> Progress
     requires { ⌜ CanPlaceStart starts weight (now marks) (now rows) (now pool) room ⌝ }
     ensures { λ r.
-        ⌜ StartPlaced starts weight room (now (marks .entry)) (now (marks .exit)) (now (rows .exit)) (now (pool .exit))
-        r ⌝ }
+        ⌜ StartPlaced codesSay starts weight room (now (marks .entry)) (now (marks .exit)) (now (rows .exit))
+        (now (pool .exit)) r ⌝ }
 {
     let span = mark_starts(starts, weight, marks);
     let none = Progress {
@@ -77,7 +77,7 @@ pub(crate) fn fill_tables(
 ) -> Progress
     requires { ⌜ CanBuild (ruleIn head (now edges)) scale (now marks) (now cells) (now rows) (now pool) ⌝ }
     ensures { λ r.
-        ⌜ AllFilled (ruleIn head (now (edges .entry)))
+        ⌜ AllFilled codesSay (ruleIn head (now (edges .entry)))
         (rowRoom (ruleIn head (now (edges .entry))) (length (now (cells .entry))) (length (now (rows .entry))))
         (now (marks .entry)) (now (marks .exit)) (now (cells .entry)) (now (cells .exit)) (now (rows .exit))
         (now (pool .exit)) r ⌝ }

@@ -4,6 +4,7 @@ ghost use Prim.Native.Nat.{_+_, _*_, _^_, _<_};
 ghost use Rattle.model.specs.Basics.{oneIf};
 ghost use Rattle.model.specs.Construction.{mostRows};
 ghost use Rattle.model.specs.Layout.{ruleIn};
+ghost use Rattle.model.specs.Tables.{codesSay};
 ghost use Rattle.construct.specs.Leaving.{Linked};
 ghost use Rattle.construct.specs.Rows.{rowsIn};
 ghost use Rattle.construct.specs.Cells.{CanLeave, CellMade, CanFill, SymbolFilled, RowFilled, CanFillAll};
@@ -46,10 +47,10 @@ pub(crate) fn make_cell(
     pool: &mut [u32],
     p: Progress,
 ) -> Filled
-    requires { ⌜ CanLeave (ruleIn head (now edges)) scale (now marks) (now rows) (now pool) p row ⌝ }
+    requires { ⌜ CanLeave codesSay (ruleIn head (now edges)) scale (now marks) (now rows) (now pool) p row ⌝ }
     requires { ⌜ Linked (ruleIn head (now edges)) (now links) ⌝ }
     ensures { λ r.
-        ⌜ CellMade (ruleIn head (now (edges .entry))) row input
+        ⌜ CellMade codesSay (ruleIn head (now (edges .entry))) row input
         (rowsIn (p .rows) (now (rows .entry)) (now (pool .entry))) (p .room) (now (marks .entry)) (now (marks .exit))
         (now (rows .exit)) (now (pool .exit)) r ⌝ }
 {
@@ -88,11 +89,11 @@ pub(crate) fn fill_symbol(
     pool: &mut [u32],
     p: Progress,
 ) -> Progress
-    requires { ⌜ CanFill (ruleIn head (now edges)) scale (now marks) (now cells) (now rows) (now pool) p row ⌝ }
+    requires { ⌜ CanFill codesSay (ruleIn head (now edges)) scale (now marks) (now cells) (now rows) (now pool) p row ⌝ }
     requires { ⌜ symbol < head .symbols ⌝ }
     requires { ⌜ Linked (ruleIn head (now edges)) (now links) ⌝ }
     ensures { λ r.
-        ⌜ SymbolFilled (ruleIn head (now (edges .entry))) row symbol
+        ⌜ SymbolFilled codesSay (ruleIn head (now (edges .entry))) row symbol
         (rowsIn (p .rows) (now (rows .entry)) (now (pool .entry))) (p .room) (now (marks .entry)) (now (marks .exit))
         (now (cells .entry)) (now (cells .exit)) (now (rows .exit)) (now (pool .exit)) r ⌝ }
 {
@@ -140,10 +141,10 @@ pub(crate) fn fill_row(
     pool: &mut [u32],
     p: Progress,
 ) -> Progress
-    requires { ⌜ CanFill (ruleIn head (now edges)) scale (now marks) (now cells) (now rows) (now pool) p row ⌝ }
+    requires { ⌜ CanFill codesSay (ruleIn head (now edges)) scale (now marks) (now cells) (now rows) (now pool) p row ⌝ }
     requires { ⌜ Linked (ruleIn head (now edges)) (now links) ⌝ }
     ensures { λ r.
-        ⌜ RowFilled (ruleIn head (now (edges .entry))) row
+        ⌜ RowFilled codesSay (ruleIn head (now (edges .entry))) row
         (rowsIn (p .rows) (now (rows .entry)) (now (pool .entry))) (p .room) (now (marks .entry)) (now (marks .exit))
         (now (cells .entry)) (now (cells .exit)) (now (rows .exit)) (now (pool .exit)) r ⌝ }
 {
@@ -183,10 +184,10 @@ pub(crate) fn fill_rows(
     pool: &mut [u32],
     p: Progress,
 ) -> Progress
-    requires { ⌜ CanFillAll (ruleIn head (now edges)) scale (now marks) (now cells) (now rows) (now pool) p ⌝ }
+    requires { ⌜ CanFillAll codesSay (ruleIn head (now edges)) scale (now marks) (now cells) (now rows) (now pool) p ⌝ }
     requires { ⌜ Linked (ruleIn head (now edges)) (now links) ⌝ }
     ensures { λ r.
-        ⌜ AllFilled (ruleIn head (now (edges .entry))) (p .room) (now (marks .entry)) (now (marks .exit))
+        ⌜ AllFilled codesSay (ruleIn head (now (edges .entry))) (p .room) (now (marks .entry)) (now (marks .exit))
         (now (cells .entry)) (now (cells .exit)) (now (rows .exit)) (now (pool .exit)) r ⌝ }
 {
     let mut progress = p;

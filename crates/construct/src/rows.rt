@@ -6,6 +6,7 @@ ghost use lib.ListN.{length};
 ghost use Rattle.numbers.specs.Lent.{laid};
 ghost use Rattle.model.specs.Rules.{mostPairs};
 ghost use Rattle.model.specs.Construction.{numberOf, withRow};
+ghost use Rattle.model.specs.Tables.{codesSay};
 ghost use Rattle.construct.specs.Marks.{codesIn, InSpan};
 ghost use Rattle.construct.specs.Rows.{rowsIn, foundIn, Within, Held, Numbered, MarksNumbered};
 use crate::Found;
@@ -63,10 +64,10 @@ pub(crate) fn copy_codes(codes: &[u32], pool: &mut [u32], at: usize)
 
 // Gives `codes` the next number: 23 where there is no room for it, else 24 where the pool is too short.
 pub(crate) fn add_row(codes: &[u32], rows: &mut [u32], pool: &mut [u32], p: Progress) -> Placed
-    requires { ⌜ Held (now rows) (now pool) p ⌝ }
+    requires { ⌜ Held codesSay (now rows) (now pool) p ⌝ }
     requires { ⌜ length (now codes) ≤ mostPairs ⌝ }
     ensures { λ r.
-        ⌜ Numbered (p .room)
+        ⌜ Numbered codesSay (p .room)
         (rowsIn (p .rows) (now (rows .entry)) (now (pool .entry)) ++ (now (codes .entry) ∷ [])) (p .rows)
         (now (rows .exit)) (now (pool .exit)) r ⌝ }
 {
@@ -111,10 +112,10 @@ pub(crate) fn add_row(codes: &[u32], rows: &mut [u32], pool: &mut [u32], p: Prog
 
 // The number of the row that holds `codes`: if an equal set has a number that one, else the next.
 pub(crate) fn place_row(codes: &[u32], rows: &mut [u32], pool: &mut [u32], p: Progress) -> Placed
-    requires { ⌜ Held (now rows) (now pool) p ⌝ }
+    requires { ⌜ Held codesSay (now rows) (now pool) p ⌝ }
     requires { ⌜ length (now codes) ≤ mostPairs ⌝ }
     ensures { λ r.
-        ⌜ Numbered (p .room)
+        ⌜ Numbered codesSay (p .room)
         (withRow (now (codes .entry)) (rowsIn (p .rows) (now (rows .entry)) (now (pool .entry))))
         (numberOf (now (codes .entry)) (rowsIn (p .rows) (now (rows .entry)) (now (pool .entry))))
         (now (rows .exit)) (now (pool .exit)) r ⌝ }
@@ -139,9 +140,9 @@ pub(crate) fn place_marks(
     p: Progress,
 ) -> Placed
     requires { ⌜ InSpan (now marks) span ⌝ }
-    requires { ⌜ Held (now rows) (now pool) p ⌝ }
+    requires { ⌜ Held codesSay (now rows) (now pool) p ⌝ }
     ensures { λ r.
-        ⌜ MarksNumbered (p .room)
+        ⌜ MarksNumbered codesSay (p .room)
         (withRow (codesIn (now (marks .entry))) (rowsIn (p .rows) (now (rows .entry)) (now (pool .entry))))
         (numberOf (codesIn (now (marks .entry))) (rowsIn (p .rows) (now (rows .entry)) (now (pool .entry))))
         (now (marks .entry)) (now (marks .exit)) (now (rows .exit)) (now (pool .exit)) r ⌝ }
