@@ -8,6 +8,8 @@ use native.Mathlib.Nat.{mul-le-mul-right}
 use native.Mathlib.Numerals.{add-one}
 use lib.ListN.{length, take, length-replicate}
 use lib.Seq.{take-suc, take-append-le, take-all, length-take-le}
+use Rattle.numbers.specs.Lent.{laid}
+use Rattle.numbers.proofs.Laid.{laid-filled}
 use Rattle.model.specs.Basics.{zeros, filled}
 use Rattle.model.specs.Rules.{Rule}
 use Rattle.model.specs.Construction.{width, startRow, rowAt, bySymbols, rowsFrom, mostRows, rowsOf}
@@ -19,21 +21,20 @@ use Rattle.pairs.specs.declared.Scale.{Scale}
 use Rattle.construct.specs.declared.Progress.{Progress}
 use Rattle.construct.specs.Marks.{Ready}
 use Rattle.construct.specs.Rows.{rowsIn, Held, Grown}
-use Rattle.construct.specs.Lent.{laid}
 use Rattle.construct.specs.Cells.{CanFill, RowFilled, CanFillAll, AllFilled}
 use Rattle.construct.proofs.RowSearch.{rows-length}
 use Rattle.construct.proofs.TargetMarks.{ready-again}
-use Rattle.construct.proofs.Laying.{laid-filled, numbers-snoc}
+use Rattle.construct.proofs.Laying.{numbers-snoc}
 use Rattle.construct.proofs.SymbolFilling.{extends-more, unfit-extends}
 
 -- the rows of the rule, whatever rows and fuel are left
 pub record FillingAll
-    (r : Rule) (fuel : ℕ) (all-are : List (List ℕ)) (room : ℕ) (marks₀ cells₀ : List ℕ) (n : ℕ)
+    (says : List ℕ → List ℕ) (r : Rule) (fuel : ℕ) (all-are : List (List ℕ)) (room : ℕ) (marks₀ cells₀ : List ℕ) (n : ℕ)
     (marks cells rows pool : List ℕ) (p : Progress) : Type 0 where
   pub turns : n ≤ p .rows
   pub marks-zero : marks ≡ zeros (length marks₀)
   pub cells-long : length cells ≡ length cells₀
-  pub held : Held rows pool p
+  pub held : Held says rows pool p
   pub room-kept : p .room ≡ room
   pub rest-is : rowsFrom (fuel - n) n r (rowsIn (p .rows) rows pool) ≡ all-are
   pub cells-are :
@@ -43,9 +44,9 @@ pub record FillingAll
       (cellNumbers r (rowsIn (p .rows) rows pool ++ more) (take n (rowsIn (p .rows) rows pool)))
 
 module _
-    {r : Rule} {fuel : ℕ} {all-are : List (List ℕ)} {room : ℕ} {marks₀ cells₀ : List ℕ} {n : ℕ}
+    {says : List ℕ → List ℕ} {r : Rule} {fuel : ℕ} {all-are : List (List ℕ)} {room : ℕ} {marks₀ cells₀ : List ℕ} {n : ℕ}
     {marks cells rows pool : List ℕ} {p : Progress} (enough : mostRows < fuel)
-    (inv : FillingAll r fuel all-are room marks₀ cells₀ n marks cells rows pool p) where
+    (inv : FillingAll says r fuel all-are room marks₀ cells₀ n marks cells rows pool p) where
   marks-long : length marks ≡ length marks₀
   marks-long = ap length (inv .marks-zero) ∙ length-replicate (length marks₀) 0
 
@@ -54,7 +55,7 @@ module _
 
   pub all-can :
       {z : Scale} → Ready r z marks₀ → room * (r .symbols * width r) ≤ length cells₀ → n < p .rows
-      → CanFill r z marks cells rows pool p n
+      → CanFill says r z marks cells rows pool p n
   all-can ready f l = record {
     leave = record {
       ready = ready-again marks ready marks-long;
@@ -66,14 +67,15 @@ module _
   }
 
   module _ {marks′ cells′ rows′ pool′ : List ℕ} {p′ : Progress} (l : n < p .rows)
-      (filled-row : RowFilled r n (rowsIn (p .rows) rows pool) (p .room) marks marks′ cells cells′ rows′ pool′ p′) where
+      (filled-row : RowFilled says r n (rowsIn (p .rows) rows pool) (p .room) marks marks′ cells cells′ rows′ pool′
+      p′) where
     grown-is :
-        Grown room (bySymbols (r .symbols) 0 r (rowAt (rowsIn (p .rows) rows pool) n) (rowsIn (p .rows) rows pool))
+        Grown says room (bySymbols (r .symbols) 0 r (rowAt (rowsIn (p .rows) rows pool) n) (rowsIn (p .rows) rows pool))
         rows′ pool′ p′
     grown-is =
         subst
         (λ (k : ℕ).
-        Grown k (bySymbols (r .symbols) 0 r (rowAt (rowsIn (p .rows) rows pool) n) (rowsIn (p .rows) rows pool))
+        Grown says k (bySymbols (r .symbols) 0 r (rowAt (rowsIn (p .rows) rows pool) n) (rowsIn (p .rows) rows pool))
         rows′ pool′ p′)
         (inv .room-kept)
         (filled-row .grown)
@@ -94,7 +96,7 @@ module _
         ∙ (rw a at (inv .rest-is)))
 
     pub all-refused :
-        (p′ .number ≡ 0 → ⊥) → (all-are ≡ rowsOf r) → AllFilled r room marks₀ marks′ cells₀ cells′ rows′ pool′ p′
+        (p′ .number ≡ 0 → ⊥) → (all-are ≡ rowsOf r) → AllFilled says r room marks₀ marks′ cells₀ cells′ rows′ pool′ p′
     all-refused m whole = record {
       marks-zero = marks-zero-still;
       grown = record {
@@ -151,7 +153,7 @@ module _
 
     pub all-next :
         p′ .number ≡ 0 → length cells′ ≡ length cells → room * (r .symbols * width r) ≤ length cells₀
-        → FillingAll r fuel all-are room marks₀ cells₀ (n + 1) marks′ cells′ rows′ pool′ p′
+        → FillingAll says r fuel all-are room marks₀ cells₀ (n + 1) marks′ cells′ rows′ pool′ p′
     all-next e long fits =
         let old : List (List ℕ) = rowsIn (p .rows) rows pool in
         let new : List (List ℕ) = bySymbols (r .symbols) 0 r (rowAt old n) old in
@@ -169,7 +171,7 @@ module _
         }
 
   pub all-end :
-      p .rows ≤ n → all-are ≡ rowsOf r → AllFilled r room marks₀ marks cells₀ cells rows pool p
+      p .rows ≤ n → all-are ≡ rowsOf r → AllFilled says r room marks₀ marks cells₀ cells rows pool p
   all-end l whole =
       let rs : List (List ℕ) = rowsIn (p .rows) rows pool in
       let few : p .rows ≤ mostRows = omega (arith, inv .held .in-room, inv .held .room-most) in
@@ -192,9 +194,9 @@ module _
 
 -- from the start row on
 all-begins :
-    (r : Rule) (fuel : ℕ) (z : Scale) (marks cells rows pool : List ℕ) (p : Progress)
-    → CanFillAll r z marks cells rows pool p
-    → FillingAll r fuel (rowsFrom fuel 0 r (startRow r ∷ [])) (p .room) marks cells 0 marks cells rows pool p
+    {says : List ℕ → List ℕ} (r : Rule) (fuel : ℕ) (z : Scale) (marks cells rows pool : List ℕ) (p : Progress)
+    → CanFillAll says r z marks cells rows pool p
+    → FillingAll says r fuel (rowsFrom fuel 0 r (startRow r ∷ [])) (p .room) marks cells 0 marks cells rows pool p
 all-begins r fuel z marks cells rows pool p can =
     let e : fuel - 0 ≡ fuel = omega arith in
     let f : length cells - 0 ≡ length cells = omega arith in
@@ -209,7 +211,8 @@ all-begins r fuel z marks cells rows pool p can =
     }
 
 pub all-start :
-    (r : Rule) (z : Scale) (marks cells rows pool : List ℕ) (p : Progress) → CanFillAll r z marks cells rows pool p
-    → FillingAll r (suc mostRows) (rowsOf r) (p .room) marks cells 0 marks cells rows pool p
+    {says : List ℕ → List ℕ} (r : Rule) (z : Scale) (marks cells rows pool : List ℕ) (p : Progress)
+    → CanFillAll says r z marks cells rows pool p
+    → FillingAll says r (suc mostRows) (rowsOf r) (p .room) marks cells 0 marks cells rows pool p
 unfolding rowsOf
 all-start r z marks cells rows pool p can = all-begins r (suc mostRows) z marks cells rows pool p can

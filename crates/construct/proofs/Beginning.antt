@@ -1,7 +1,7 @@
 -- Before all rows are filled: the tables cleared, the room for rows, the start row refused at once or given number 0.
 use mathlib.Core.Path.{_≡_, sym, _∙_, ap, ap₂, subst}
 use mathlib.Core.List.{List, [], _∷_}
-use Prim.Native.Nat.{ℕ, zero, suc, _+_, _-_, _*_, _/_, _≤_}
+use Prim.Native.Nat.{ℕ, zero, suc, _+_, _*_, _/_, _≤_}
 use native.Mathlib.Omega.{arith}
 use native.Mathlib.Nat.{mul-le-mul-right, div-add-mod'}
 use lib.ListN.{length, length-replicate}
@@ -10,7 +10,7 @@ use Rattle.model.specs.Basics.{lesser, quotient, zeros}
 use Rattle.model.specs.Rules.{Rule, pairCount}
 use Rattle.model.specs.Construction.{width, startRow, mostRows, rowsOf}
 use Rattle.model.specs.Layout.{ruleIn, ruleRefusal, locationsIn}
-use Rattle.model.specs.Tables.{rowRoom}
+use Rattle.model.specs.Tables.{rowWidth, rowRoom}
 use Rattle.model.proofs.Logic.{lesser-left, lesser-right}
 use Rattle.model.proofs.Readable.{passes-valid}
 use Rattle.model.proofs.RowNumbers.{Extends}
@@ -30,23 +30,25 @@ below-quotient : (n a b : ℕ) → n ≤ quotient a b → n * b ≤ a
 below-quotient n a zero h = omega arith
 below-quotient n a (suc b) h = omega (arith, mul-le-mul-right (suc b) h, div-add-mod' a (suc b))
 
-module _ (cells rows each room : ℕ) (is-room : room ≡ lesser mostRows (lesser (rows / 2) (quotient cells each))) where
-  inner-most : room ≤ lesser (rows / 2) (quotient cells each)
-  inner-most = rw is-room (lesser-right mostRows (lesser (rows / 2) (quotient cells each)))
+module _
+    (cells rows each room : ℕ)
+    (is-room : room ≡ lesser mostRows (lesser (rows / rowWidth) (quotient cells each))) where
+  inner-most : room ≤ lesser (rows / rowWidth) (quotient cells each)
+  inner-most = rw is-room (lesser-right mostRows (lesser (rows / rowWidth) (quotient cells each)))
 
   pub room-few : room ≤ mostRows
-  room-few = rw is-room (lesser-left mostRows (lesser (rows / 2) (quotient cells each)))
+  room-few = rw is-room (lesser-left mostRows (lesser (rows / rowWidth) (quotient cells each)))
 
-  pub room-rows : 2 * room ≤ rows
-  room-rows = omega (arith, inner-most, lesser-left (rows / 2) (quotient cells each))
+  pub room-rows : rowWidth * room ≤ rows
+  room-rows = omega (arith, inner-most, lesser-left (rows / rowWidth) (quotient cells each))
 
   pub room-cells : room * each ≤ cells
   room-cells =
-      below-quotient room cells each (omega (arith, inner-most, lesser-right (rows / 2) (quotient cells each)))
+      below-quotient room cells each (omega (arith, inner-most, lesser-right (rows / rowWidth) (quotient cells each)))
 
 pub room-of :
     (r : Rule) (cells rows each room : ℕ) → each ≡ r .symbols * width r
-    → room ≡ lesser mostRows (lesser (rows / 2) (quotient cells each))
+    → room ≡ lesser mostRows (lesser (rows / rowWidth) (quotient cells each))
     → room ≡ rowRoom r cells rows
 unfolding rowRoom
 room-of r cells rows each room e h = h ∙ rw e
@@ -57,16 +59,16 @@ unfolding rowsOf
 rows-begin r = grows-extends (rows-grow (suc mostRows) 0 r (startRow r ∷ []))
 
 module _
-    (r : Rule) {starts weight room : ℕ} {marks marks₁ rows₁ pool₁ : List ℕ} {p : Progress}
+    {says : List ℕ → List ℕ} (r : Rule) {starts weight room : ℕ} {marks marks₁ rows₁ pool₁ : List ℕ} {p : Progress}
     (is-start : startCodesBy weight (locationsIn starts) ≡ startRow r)
-    (placed : StartPlaced starts weight room marks marks₁ rows₁ pool₁ p) where
-  grown-start : Grown room (startRow r ∷ []) rows₁ pool₁ p
-  grown-start = subst (λ (x : List ℕ). Grown room (x ∷ []) rows₁ pool₁ p) is-start (placed .grown)
+    (placed : StartPlaced says starts weight room marks marks₁ rows₁ pool₁ p) where
+  grown-start : Grown says room (startRow r ∷ []) rows₁ pool₁ p
+  grown-start = subst (λ (x : List ℕ). Grown says room (x ∷ []) rows₁ pool₁ p) is-start (placed .grown)
 
   -- the start row does not fit
   pub start-refused :
       (cells : List ℕ) (whole : ℕ) → room ≡ whole → (p .number ≡ 0 → ⊥)
-      → AllFilled r whole marks marks₁ cells cells rows₁ pool₁ p
+      → AllFilled says r whole marks marks₁ cells cells rows₁ pool₁ p
   start-refused cells whole e n = record {
     marks-zero = placed .marks-zero;
     grown = record {
@@ -85,7 +87,7 @@ module _
       → each ≡ r .symbols * width r
       → room * each ≤ length cells
       → p .number ≡ 0
-      → CanFillAll r z marks₁ cells rows₁ pool₁ p
+      → CanFillAll says r z marks₁ cells rows₁ pool₁ p
   start-fills each can long e fits q = record {
     ready = ready-again marks₁ (can .ready) long;
     marks-zero = placed .marks-zero ∙ ap zeros (sym long);
@@ -98,11 +100,11 @@ module _
   pub start-done :
       {marks′ cells cells′ rows′ pool′ : List ℕ} {p′ : Progress} (whole : ℕ) → length marks₁ ≡ length marks
       → room ≡ whole
-      → AllFilled r (p .room) marks₁ marks′ cells cells′ rows′ pool′ p′
-      → AllFilled r whole marks marks′ cells cells′ rows′ pool′ p′
+      → AllFilled says r (p .room) marks₁ marks′ cells cells′ rows′ pool′ p′
+      → AllFilled says r whole marks marks′ cells cells′ rows′ pool′ p′
   start-done {rows′ = rows′} {pool′ = pool′} {p′ = p′} whole long e all = record {
     marks-zero = all .marks-zero ∙ ap zeros long;
-    grown = subst (λ (n : ℕ). Grown n (rowsOf r) rows′ pool′ p′) (grown-start .room-kept ∙ e) (all .grown);
+    grown = subst (λ (n : ℕ). Grown says n (rowsOf r) rows′ pool′ p′) (grown-start .room-kept ∙ e) (all .grown);
     cells-are = all .cells-are;
   }
 

@@ -3,18 +3,18 @@
 use mathlib.Core.Path.{_≡_, refl, sym, _∙_, ap, ap₂}
 use mathlib.Core.Bool.{Bool, true, false, _&&_, _||_}
 use mathlib.Core.List.{List, [], _∷_}
-use Prim.Native.Nat.{ℕ, suc, _+_, _*_, _%_, _≤_, _<_}
+use Prim.Native.Nat.{ℕ, suc, _+_, _%_, _≤_, _<_}
 use native.Mathlib.Omega.{arith}
 use native.Mathlib.Numerals.{add-one}
 use borrow.Author.Tests.{ltb-true, ltb-false, ne-eqb}
 use lib.Dec.{eqb, ltb, leb}
 use lib.ListN.{length, getD, drop, drop-of-length-le}
-use lib.Seq.{drop-cons, getD-drop}
+use lib.Seq.{drop-cons}
 use Rattle.model.specs.declared.Head.{Head}
 use Rattle.edges.specs.Leaving.{leavesOn}
-use Rattle.model.specs.Rules.{Edge, Rule, validRule}
+use Rattle.model.specs.Rules.{Edge, Rule, mostLocations, mostSymbols, mostEdges, validRule}
 use Rattle.model.specs.Runs.{noEdge}
-use Rattle.model.specs.Layout.{edgeWidth, edgeIn, edgesIn, ruleIn}
+use Rattle.model.specs.Layout.{edgeAt, edgesIn, ruleIn}
 use Rattle.model.specs.Construction.{locationOf, allows, pairResets, rowResets, targetOf, pairTargets}
 use Rattle.model.proofs.Logic.{by-test, In, here, there, in-at}
 use Rattle.model.proofs.Valid.{valid-of, Valid, EdgeIn}
@@ -37,19 +37,19 @@ pub edge-count : (h : Head) (t : List ℕ) → length (ruleIn h t .edges) ≡ h 
 edge-count h t = ap length (edges-of h t) ∙ edges-length (h .count) t
 
 edge-of :
-    (h : Head) (t : List ℕ) (n : ℕ) → n < h .count → edgeIn (drop (edgeWidth * n) t) ≡ edgeOf (ruleIn h t .edges) n
+    (h : Head) (t : List ℕ) (n : ℕ) → n < h .count → edgeAt n t ≡ edgeOf (ruleIn h t .edges) n
 edge-of h t n l = rw (edges-of h t) (sym (edge-at (h .count) n t l))
 
-pub edges-few : (h : Head) (t : List ℕ) → validRule (ruleIn h t) ≡ true → h .count ≤ 256
+pub edges-few : (h : Head) (t : List ℕ) → validRule (ruleIn h t) ≡ true → h .count ≤ mostEdges
 edges-few h t valid = omega (arith, edge-count h t, valid-of (ruleIn h t) valid .edges-most)
 
--- Source and symbol of edge n, where the table has them.
+-- Source and symbol of edge n, as the table has them; both have a place among the links.
 pub record Fields (t : List ℕ) (es : List Edge) (n : ℕ) : Type 0 where
   pub inside : n < length es
-  pub source-is : getD t (edgeWidth * n) 0 ≡ edgeOf es n .source
-  pub symbol-is : getD t (edgeWidth * n + 2) 0 ≡ edgeOf es n .symbol
-  pub source-few : edgeOf es n .source < 32
-  pub symbol-few : edgeOf es n .symbol < 16
+  pub source-is : edgeAt n t .source ≡ edgeOf es n .source
+  pub symbol-is : edgeAt n t .symbol ≡ edgeOf es n .symbol
+  pub source-few : edgeOf es n .source < mostLocations
+  pub symbol-few : edgeOf es n .symbol < mostSymbols
 
 pub fields-of :
     (h : Head) (t : List ℕ) (count n : ℕ) → validRule (ruleIn h t) ≡ true → count ≡ h .count → n < count
@@ -59,13 +59,12 @@ fields-of h t count n valid q l =
     let v : Valid (ruleIn h t) = valid-of (ruleIn h t) valid in
     let k : n < length es = omega (arith, edges-length (h .count) t) in
     let e : EdgeIn (ruleIn h t) (edgeOf es n) = v .edges-in (edgeOf es n) (rw (edges-of h t) (in-at noEdge es n k)) in
-    let z : edgeWidth * n + 0 ≡ edgeWidth * n = omega arith in
-    let at : edgeOf es n ≡ edgeIn (drop (edgeWidth * n) t) = edge-at (h .count) n t (omega arith) in
+    let same-edge : edgeAt n t ≡ edgeOf es n = sym (edge-at (h .count) n t (omega arith)) in
     rw q
     (record {
       inside = k;
-      source-is = rw (at, getD-drop (edgeWidth * n) t 0 0, z);
-      symbol-is = rw (at, getD-drop (edgeWidth * n) t 2 0);
+      source-is = ap (λ (f : Edge). f .source) same-edge;
+      symbol-is = ap (λ (f : Edge). f .symbol) same-edge;
       source-few = omega (arith, e .source-below, v .sizes .locations-most);
       symbol-few = omega (arith, e .symbol-below, v .sizes .symbols-most);
     })
@@ -90,23 +89,24 @@ pub first-link :
     (r : Rule) (l s : ℕ) (links : List ℕ) → Valid r → Linked r links
     → firstLink (length (r .edges)) l s links ≡ leavingFrom (r .edges) l s 0
 first-link r l s links v linked =
-    by-test (ltb l 32)
+    by-test (ltb l mostLocations)
     (λ p.
-    by-test (ltb s 16) (λ q. rw (p, q) (linked .firsts l s (ltb-true l 32 p) (ltb-true s 16 q)))
+    by-test (ltb s mostSymbols)
+    (λ q. rw (p, q) (linked .firsts l s (ltb-true l mostLocations p) (ltb-true s mostSymbols q)))
     (λ q.
     rw (p, q)
     (none-first l s (r .edges)
     (λ e i.
     not-on (eqb (e .source) l) (eqb (e .symbol) s)
     (ne-eqb (e .symbol) s
-    (λ k. omega (arith, k, ltb-false s 16 q, v .edges-in e i .symbol-below, v .sizes .symbols-most)))))))
+    (λ k. omega (arith, k, ltb-false s mostSymbols q, v .edges-in e i .symbol-below, v .sizes .symbols-most)))))))
     (λ p.
     rw p
     (none-first l s (r .edges)
     (λ e i.
     rw
     (ne-eqb (e .source) l
-    (λ k. omega (arith, k, ltb-false l 32 p, v .edges-in e i .source-below, v .sizes .locations-most))))))
+    (λ k. omega (arith, k, ltb-false l mostLocations p, v .edges-in e i .source-below, v .sizes .locations-most))))))
 
 -- the first edge for the pair of a code
 pub first-at :
@@ -164,7 +164,7 @@ module _
 
   pub allowed-is :
       (at : Input) (x : ℕ) (p : Pair) (b : Bool) → p ≡ unpacked z x
-      → b ≡ pairAllows (z .top) at p (edgeIn (drop (edgeWidth * n) t))
+      → b ≡ pairAllows (z .top) at p (edgeAt n t)
       → b ≡ allows (ruleIn h t) (at .symbol) (at .interval) x (edgeOf (ruleIn h t .edges) n)
   allowed-is at x p b u q =
       q
@@ -173,18 +173,18 @@ module _
 
   pub resets-is :
       (at : Input) (x : ℕ) (p : Pair) (b : Bool) → p ≡ unpacked z x
-      → b ≡ pairResetsOn (z .top) at p (edgeIn (drop (edgeWidth * n) t))
+      → b ≡ pairResetsOn (z .top) at p (edgeAt n t)
       → b
       ≡ leb 1 (edgeOf (ruleIn h t .edges) n .resets)
       && allows (ruleIn h t) (at .symbol) (at .interval) x (edgeOf (ruleIn h t .edges) n)
   resets-is at x p b u q =
       q
       ∙ ap₂ (λ (f : Edge) (a : Bool). leb 1 (f .resets) && a) (edge-of h t n inside)
-      (allowed-is at x p (pairAllows (z .top) at p (edgeIn (drop (edgeWidth * n) t))) u refl)
+      (allowed-is at x p (pairAllows (z .top) at p (edgeAt n t)) u refl)
 
   pub to-is :
       (i : ℕ) (timer : Bool) (x : ℕ) (p : Pair) (to : ℕ) → p ≡ unpacked z x
-      → to ≡ pairTarget z i timer p (edgeIn (drop (edgeWidth * n) t))
+      → to ≡ pairTarget z i timer p (edgeAt n t)
       → to ≡ targetOf (ruleIn h t) i timer x (edgeOf (ruleIn h t .edges) n)
   to-is i timer x p to u q =
       q

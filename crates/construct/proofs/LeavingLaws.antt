@@ -10,11 +10,11 @@ use lib.ListN.{length, getD, drop, set, length-drop, length-set, drop-of-length-
 use lib.Seq.{drop-cons, getD-set-same, getD-set-other}
 use Rattle.edges.specs.Leaving.{leavesOn}
 use Rattle.model.specs.Basics.{pick}
-use Rattle.model.specs.Rules.{Edge}
+use Rattle.model.specs.Rules.{Edge, mostLocations, mostSymbols, mostEdges}
 use Rattle.model.specs.Runs.{noEdge}
 use Rattle.model.proofs.Logic.{no-way, by-test, and-left, and-right, and-both, Cmp, cmp, is-lt, is-eq, is-gt}
 use Rattle.construct.specs.Leaving.{firstLeaving, leavingFrom, edgeOf, firstPlace, nextPlace, firstLink}
-use Rattle.construct.specs.Leaving.{LinkedFrom}
+use Rattle.construct.specs.Leaving.{linkCount, LinkedFrom}
 
 first-least : (l s n : ℕ) (es : List Edge) → n ≤ firstLeaving l s n es
 first-least l s n [] = omega arith
@@ -94,21 +94,22 @@ module _
   from-first es n = skipped n (drop n es) es refl
 
 -- a first link, by place
-pub far-location : (count l s : ℕ) (links : List ℕ) → 31 < l → count ≡ firstLink count l s links
-far-location count l s links h = rw (le-ltb l 32 h)
+pub far-location : (count l s : ℕ) (links : List ℕ) → mostLocations ≤ l → count ≡ firstLink count l s links
+far-location count l s links h = rw (le-ltb l mostLocations h)
 
-pub far-symbol : (count l s : ℕ) (links : List ℕ) → 15 < s → count ≡ firstLink count l s links
+pub far-symbol : (count l s : ℕ) (links : List ℕ) → mostSymbols ≤ s → count ≡ firstLink count l s links
 far-symbol count l s links h =
-    by-test (ltb l 32) (λ q. rw (q, le-ltb s 16 h)) (λ q. rw q)
+    by-test (ltb l mostLocations) (λ q. rw (q, le-ltb s mostSymbols h)) (λ q. rw q)
 
 pub near-link :
-    (count l s : ℕ) (links : List ℕ) → l ≤ 31 → s ≤ 15 → getD links (firstPlace l s) 0 ≡ firstLink count l s links
-near-link count l s links h g = rw (lt-ltb l 32 (omega arith), lt-ltb s 16 (omega arith))
+    (count l s : ℕ) (links : List ℕ) → l < mostLocations → s < mostSymbols
+    → getD links (firstPlace l s) 0 ≡ firstLink count l s links
+near-link count l s links h g = rw (lt-ltb l mostLocations h, lt-ltb s mostSymbols g)
 
 -- Links made from the last edge to the first.
 pub linked-none :
-    (es : List Edge) (n : ℕ) (links : List ℕ) → n ≡ length es → length links ≡ 768
-    → ((k : ℕ) → k < 768 → getD links k 0 ≡ n)
+    (es : List Edge) (n : ℕ) (links : List ℕ) → n ≡ length es → length links ≡ linkCount
+    → ((k : ℕ) → k < linkCount → getD links k 0 ≡ n)
     → LinkedFrom es n links
 linked-none es n links e long all-none = record {
   long = long;
@@ -120,7 +121,8 @@ linked-none es n links e long all-none = record {
 
 module _
     {es : List Edge} {n : ℕ} {links : List ℕ} (linked : LinkedFrom es (suc n) links) (inside : n < length es)
-    (few : n < 256) (first : ℕ) (location : edgeOf es n .source < 32) (symbol : edgeOf es n .symbol < 16)
+    (few : n < mostEdges) (first : ℕ)
+    (location : edgeOf es n .source < mostLocations) (symbol : edgeOf es n .symbol < mostSymbols)
     (first-is : first ≡ firstPlace (edgeOf es n .source) (edgeOf es n .symbol)) where
   abbrev e : Edge
   e = edgeOf es n
@@ -137,12 +139,12 @@ module _
       getD-set-other (set links (nextPlace n) (getD links first 0)) first k n 0 a
       ∙ getD-set-other links (nextPlace n) k (getD links first 0) 0 b
 
-  long′ : length links′ ≡ 768
+  long′ : length links′ ≡ linkCount
   long′ =
       length-set (set links (nextPlace n) (getD links first 0)) first n
       ∙ (length-set links (nextPlace n) (getD links first 0) ∙ linked .long)
 
-  first′ : (l s : ℕ) → l < 32 → s < 16 → getD links′ (firstPlace l s) 0 ≡ leavingFrom es l s n
+  first′ : (l s : ℕ) → l < mostLocations → s < mostSymbols → getD links′ (firstPlace l s) 0 ≡ leavingFrom es l s n
   first′ l s hl hs =
       by-test (leavesOn l s e)
       (λ q.
@@ -183,13 +185,14 @@ module _
 
 -- the same, as the loop counts
 pub link-step :
-    (es : List Edge) (n first value : ℕ) (links : List ℕ) → LinkedFrom es n links → 0 < n → n ≤ 256
+    (es : List Edge) (n at first value : ℕ) (links : List ℕ) → LinkedFrom es n links → 0 < n → n ≤ mostEdges
     → n - 1 < length es
-    → edgeOf es (n - 1) .source < 32
-    → edgeOf es (n - 1) .symbol < 16
+    → edgeOf es (n - 1) .source < mostLocations
+    → edgeOf es (n - 1) .symbol < mostSymbols
     → first ≡ firstPlace (edgeOf es (n - 1) .source) (edgeOf es (n - 1) .symbol)
+    → at ≡ n - 1
     → value ≡ n - 1
-    → LinkedFrom es (n - 1) (set (set links (nextPlace (n - 1)) (getD links first 0)) first value)
-link-step es n first value links linked some few inside location symbol first-is value-is =
+    → LinkedFrom es (n - 1) (set (set links (nextPlace at) (getD links first 0)) first value)
+link-step es n at first value links linked some few inside location symbol first-is at-is value-is =
     let s : n ≡ suc (n - 1) = omega arith in
-    rw value-is (linked-next (rw s at linked) inside (omega arith) first location symbol first-is)
+    rw (at-is, value-is) (linked-next (rw s at linked) inside (omega arith) first location symbol first-is)

@@ -1,6 +1,6 @@
 -- Marks as a set: the codes that are marked rise, and one mark more puts one code in.
 use mathlib.Core.Path.{_≡_, refl, sym, _∙_, ap}
-use mathlib.Core.Bool.{true, false}
+use mathlib.Core.Bool.{Bool, true, false}
 use mathlib.Core.List.{List, [], _∷_, _++_}
 use Prim.Native.Nat.{ℕ, zero, suc, _+_, _-_, _*_, _≤_, _<_}
 use native.Mathlib.Omega.{arith}
@@ -9,10 +9,10 @@ use native.Mathlib.Numerals.{add-one}
 use lib.Dec.{eqb}
 use lib.ListN.{length, getD, set, length-set, length-replicate, List·getD-eq-default, getD-replicate}
 use lib.Seq.{getD-set-other}
-use borrow.Author.Tests.{lt-ltb, le-ltb, le-leb, lt-leb, eq-eqb, ne-eqb}
-use Rattle.model.specs.Basics.{pick, lesser, zeros, bit, bitsFrom}
+use borrow.Author.Tests.{lt-ltb, le-ltb, eq-eqb, ne-eqb}
+use Rattle.model.specs.Basics.{pick, zeros, bit, bitsFrom}
 use Rattle.model.specs.Layout.{locationsIn}
-use Rattle.model.specs.Rules.{mostPairs}
+use Rattle.model.specs.Rules.{mostLocations, mostPairs}
 use Rattle.model.specs.Construction.{withCode}
 use Rattle.model.proofs.Logic.{by-test, two, less, least}
 use Rattle.model.proofs.Masks.{Asc}
@@ -111,36 +111,34 @@ no-marks marks e = record {
   };
 }
 
--- the lesser of two, as a branch finds it
-pub lesser-first : (a b : ℕ) → a ≤ b → a ≡ lesser a b
-lesser-first a b h = rw (le-leb a b h)
-
-pub lesser-second : (a b : ℕ) → b < a → b ≡ lesser a b
-lesser-second a b h = rw (lt-leb a b h)
+-- a bit of a mask, from a test of its widened number
+pub known-bit : {mask starts : ℕ} (k : ℕ) {r b : Bool} → mask ≡ starts → r ≡ bit k mask → r ≡ b → bit k starts ≡ b
+known-bit k e f g = ap (bit k) (sym e) ∙ (sym f ∙ g)
 
 -- the start row from the highest location down: the bits from `l` on are marked
 pub record Starting (starts weight l : ℕ) (marks : List ℕ) (span : Span) : Type 0 where
-  pub turns : l ≤ 32
-  pub marks-are : MarksAre (startCodesBy weight (bitsFrom (32 - l) l starts)) marks span
+  pub turns : l ≤ mostLocations
+  pub marks-are : MarksAre (startCodesBy weight (bitsFrom (mostLocations - l) l starts)) marks span
 
 pub starting :
     (starts weight : ℕ) (marks : List ℕ) → marks ≡ zeros (length marks)
-    → Starting starts weight 32 marks (record { low = length marks; past = 0 })
+    → Starting starts weight mostLocations marks (record { low = length marks; past = 0 })
 unfolding bitsFrom
 starting starts weight marks z = record { turns = omega arith; marks-are = no-marks marks z }
 
 bits-head :
-    (l starts : ℕ) → l < 32
-    → bitsFrom (32 - l) l starts ≡ pick (bit l starts) (l ∷ []) [] ++ bitsFrom (32 - (l + 1)) (l + 1) starts
+    (l starts : ℕ) → l < mostLocations
+    → bitsFrom (mostLocations - l) l starts
+    ≡ pick (bit l starts) (l ∷ []) [] ++ bitsFrom (mostLocations - (l + 1)) (l + 1) starts
 unfolding bitsFrom
-bits-head l starts h = let a : 32 - l ≡ suc (32 - (l + 1)) = omega arith in rw (a, add-one l)
+bits-head l starts h = let a : mostLocations - l ≡ suc (mostLocations - (l + 1)) = omega arith in rw (a, add-one l)
 
 module _ {starts weight l : ℕ} {marks : List ℕ} {span : Span} (inv : Starting starts weight l marks span) where
   back : 0 < l → l - 1 + 1 ≡ l
   back h = omega arith
 
   pub starting-can :
-      {marks₀ : List ℕ} (k w : ℕ) → CanStart marks₀ starts weight → length marks ≡ length marks₀ → k < 32
+      {marks₀ : List ℕ} (k w : ℕ) → CanStart marks₀ starts weight → length marks ≡ length marks₀ → k < mostLocations
       → bit k starts ≡ true
       → w ≡ weight
       → CanMark marks span (k * w)

@@ -4,12 +4,14 @@ use mathlib.Core.List.{List, [], _∷_, _++_, append-assoc}
 use Prim.Native.Nat.{ℕ, suc, _+_, _-_, _*_, _≤_, _<_}
 use native.Mathlib.Omega.{arith}
 use lib.Dec.{ltb}
-use lib.ListN.{length, set, take, drop, length-append, length-set}
+use lib.ListN.{length, set, length-append, length-set}
 use borrow.Author.Tests.{ltb-true, ltb-false}
+use Rattle.numbers.specs.Lent.{laid}
+use Rattle.numbers.proofs.Laid.{laid-filled}
 use Rattle.model.specs.Basics.{filled, refusal}
 use Rattle.model.specs.Rules.{mostPairs}
 use Rattle.model.specs.Construction.{numberOf, withRow}
-use Rattle.model.specs.Tables.{rowNumbers, poolNumbers, fitRefusal}
+use Rattle.model.specs.Tables.{rowWidth, rowNumbers, codesSay, poolNumbers, fitRefusal}
 use Rattle.model.proofs.Logic.{by-test}
 use Rattle.model.proofs.TablePlaces.{row-numbers-length}
 use Rattle.model.proofs.TableRoom.{fit-23, fit-24, fit-on}
@@ -20,7 +22,7 @@ use Rattle.construct.specs.declared.Progress.{Progress}
 use Rattle.construct.specs.declared.Placed.{Placed}
 use Rattle.construct.specs.Rows.{rowsIn, foundIn, Held, Unfit, Numbered}
 use Rattle.construct.proofs.RowSearch.{rows-length}
-use Rattle.construct.proofs.RowTables.{filled-length, filled-set, filled-lay, rows-append, pool-append}
+use Rattle.construct.proofs.RowTables.{filled-length, filled-set, rows-append, pool-append}
 use Rattle.construct.proofs.RowTables.{rows-again}
 
 -- rows that fit are passed
@@ -39,10 +41,7 @@ fit-through n room used pool (x ∷ rs) more h g =
     fit-on n room used pool x (rs ++ more) (omega arith) (omega arith)
     ∙ (fit-through (suc n) room (used + length x) pool rs more (omega arith) (omega arith) ∙ rw (a, b))
 
-module _ {rows pool : List ℕ} {p : Progress} (held : Held rows pool p) where
-  abbrev so-far : List (List ℕ)
-  so-far = rowsIn (p .rows) rows pool
-
+module _ {says : List ℕ → List ℕ} {rows pool : List ℕ} {p : Progress} (held : Held says rows pool p) where
   count-is : length (rowsIn (p .rows) rows pool) ≡ p .rows
   count-is = rows-length (p .rows) 0 rows pool
 
@@ -86,103 +85,102 @@ module _ {rows pool : List ℕ} {p : Progress} (held : Held rows pool p) where
         (λ more. fit-24 (p .rows) (p .room) (p .total) (length pool) x more h (omega (arith, held .in-pool)));
   }
 
-  -- the tables after one row more
-  module _ (x rows′ pool′ : List ℕ) (a b : ℕ) (has-room : p .rows < p .room)
-      (in-pool : p .total + length x ≤ length pool)
-      (small : length x ≤ mostPairs) (is-a : a ≡ p .total) (is-b : b ≡ length x)
-      (rows-now : rows′ ≡ set (set rows (2 * p .rows) a) (2 * p .rows + 1) b)
-      (pool-now : pool′ ≡ take (p .total) pool ++ (x ++ drop (p .total + length x) pool)) where
-    abbrev then-are : List (List ℕ)
-    then-are = rowsIn (p .rows) rows pool ++ (x ∷ [])
+-- The tables after one row more, whose codes say how many they are.
+module _
+    {rows pool : List ℕ} {p : Progress} (held : Held codesSay rows pool p) (x rows′ pool′ : List ℕ) (a b : ℕ)
+    (has-room : p .rows < p .room)
+    (in-pool : p .total + length x ≤ length pool)
+    (small : length x ≤ mostPairs) (is-a : a ≡ p .total) (is-b : b ≡ length x)
+    (rows-now : rows′ ≡ set (set rows (rowWidth * p .rows) a) (rowWidth * p .rows + 1) b)
+    (pool-now : pool′ ≡ laid pool (p .total) x) where
+  numbers-long : length (rowNumbers codesSay 0 (rowsIn (p .rows) rows pool)) ≡ rowWidth * p .rows
+  numbers-long = row-numbers-length 0 (rowsIn (p .rows) rows pool) ∙ rw (count-is held)
 
-    numbers-long : length (rowNumbers 0 (rowsIn (p .rows) rows pool)) ≡ 2 * p .rows
-    numbers-long = row-numbers-length 0 (rowsIn (p .rows) rows pool) ∙ rw count-is
+  new-rows : rows′ ≡ filled (length rows) (rowNumbers codesSay 0 (rowsIn (p .rows) rows pool ++ (x ∷ [])))
+  new-rows =
+      let rs : List (List ℕ) = rowsIn (p .rows) rows pool in
+      let ns : List ℕ = rowNumbers codesSay 0 rs in
+      let fits : rowWidth * p .rows + rowWidth ≤ length rows = omega (arith, held .room-fits) in
+      let one : set rows (rowWidth * p .rows) a ≡ filled (length rows) (ns ++ (a ∷ [])) =
+      ap₂ (λ (l : List ℕ) (k : ℕ). set l k a) (held .rows-are) (sym numbers-long)
+      ∙ filled-set (length rows) ns a (omega (arith, numbers-long)) in
+      let longer : length (ns ++ (a ∷ [])) ≡ rowWidth * p .rows + 1 =
+      length-append ns (a ∷ []) ∙ ap (λ (k : ℕ). k + 1) numbers-long in
+      let two : List ℕ = (ns ++ (a ∷ [])) ++ (b ∷ []) in
+      let both : set (set rows (rowWidth * p .rows) a) (rowWidth * p .rows + 1) b ≡ filled (length rows) two =
+      ap₂ (λ (l : List ℕ) (k : ℕ). set l k b) one (sym longer)
+      ∙ filled-set (length rows) (ns ++ (a ∷ [])) b (omega (arith, longer)) in
+      let same-numbers : (ns ++ (a ∷ [])) ++ (b ∷ []) ≡ rowNumbers codesSay 0 (rs ++ (x ∷ [])) =
+      append-assoc ns (a ∷ []) (b ∷ [])
+      ∙ (ap₂ (λ (u v : ℕ). ns ++ (u ∷ v ∷ [])) (is-a ∙ (held .total-is ∙ omega arith)) is-b
+      ∙ sym (rows-append codesSay 0 rs x)) in
+      rows-now ∙ (both ∙ ap (filled (length rows)) same-numbers)
 
-    new-rows : rows′ ≡ filled (length rows) (rowNumbers 0 (rowsIn (p .rows) rows pool ++ (x ∷ [])))
-    new-rows =
-        let rs : List (List ℕ) = rowsIn (p .rows) rows pool in
-        let ns : List ℕ = rowNumbers 0 rs in
-        let fits : 2 * p .rows + 2 ≤ length rows = omega (arith, held .room-fits) in
-        let one : set rows (2 * p .rows) a ≡ filled (length rows) (ns ++ (a ∷ [])) =
-        ap₂ (λ (l : List ℕ) (k : ℕ). set l k a) (held .rows-are) (sym numbers-long)
-        ∙ filled-set (length rows) ns a (omega (arith, numbers-long)) in
-        let longer : length (ns ++ (a ∷ [])) ≡ 2 * p .rows + 1 =
-        length-append ns (a ∷ []) ∙ ap (λ (k : ℕ). k + 1) numbers-long in
-        let two : List ℕ = (ns ++ (a ∷ [])) ++ (b ∷ []) in
-        let both : set (set rows (2 * p .rows) a) (2 * p .rows + 1) b ≡ filled (length rows) two =
-        ap₂ (λ (l : List ℕ) (k : ℕ). set l k b) one (sym longer)
-        ∙ filled-set (length rows) (ns ++ (a ∷ [])) b (omega (arith, longer)) in
-        let same-numbers : (ns ++ (a ∷ [])) ++ (b ∷ []) ≡ rowNumbers 0 (rs ++ (x ∷ [])) =
-        append-assoc ns (a ∷ []) (b ∷ [])
-        ∙ (ap₂ (λ (u v : ℕ). ns ++ (u ∷ v ∷ [])) (is-a ∙ (held .total-is ∙ omega arith)) is-b
-        ∙ sym (rows-append 0 rs x)) in
-        rows-now ∙ (both ∙ ap (filled (length rows)) same-numbers)
+  new-pool : pool′ ≡ filled (length pool) (poolNumbers (rowsIn (p .rows) rows pool ++ (x ∷ [])))
+  new-pool =
+      let rs : List (List ℕ) = rowsIn (p .rows) rows pool in
+      let e : p .total ≡ length (poolNumbers rs) = held .total-is in
+      pool-now
+      ∙ (ap (λ (l : List ℕ). laid l (p .total) x) (held .pool-is)
+      ∙ (laid-filled (length pool) (p .total) (poolNumbers rs) x e (omega (arith, in-pool, e))
+      ∙ ap (filled (length pool)) (sym (pool-append rs x))))
 
-    new-pool : pool′ ≡ filled (length pool) (poolNumbers (rowsIn (p .rows) rows pool ++ (x ∷ [])))
-    new-pool =
-        let rs : List (List ℕ) = rowsIn (p .rows) rows pool in
-        let e : p .total ≡ length (poolNumbers rs) = held .total-is in
-        pool-now
-        ∙ (ap₂ (λ (n : ℕ) (l : List ℕ). take n l ++ (x ++ drop (n + length x) l)) e (held .pool-is)
-        ∙ (filled-lay (length pool) (poolNumbers rs) x (omega (arith, in-pool, e))
-        ∙ ap (filled (length pool)) (sym (pool-append rs x))))
+  total-then :
+      length (poolNumbers (rowsIn (p .rows) rows pool ++ (x ∷ []))) ≡ p .total + length x
+  total-then =
+      let rs : List (List ℕ) = rowsIn (p .rows) rows pool in
+      ap length (pool-append rs x)
+      ∙ (length-append (poolNumbers rs) x ∙ ap (λ (k : ℕ). k + length x) (sym (held .total-is)))
 
-    total-then :
-        length (poolNumbers (rowsIn (p .rows) rows pool ++ (x ∷ []))) ≡ p .total + length x
-    total-then =
-        let rs : List (List ℕ) = rowsIn (p .rows) rows pool in
-        ap length (pool-append rs x)
-        ∙ (length-append (poolNumbers rs) x ∙ ap (λ (k : ℕ). k + length x) (sym (held .total-is)))
+  rows-long : length rows′ ≡ length rows
+  rows-long = ap length rows-now ∙ simp length-set
 
-    rows-long : length rows′ ≡ length rows
-    rows-long = ap length rows-now ∙ simp length-set
+  pool-long : length pool′ ≡ length pool
+  pool-long =
+      ap length new-pool
+      ∙ filled-length (length pool) (poolNumbers (rowsIn (p .rows) rows pool ++ (x ∷ [])))
+      (omega (arith, total-then, in-pool))
 
-    pool-long : length pool′ ≡ length pool
-    pool-long =
-        ap length new-pool
-        ∙ filled-length (length pool) (poolNumbers (rowsIn (p .rows) rows pool ++ (x ∷ [])))
-        (omega (arith, total-then, in-pool))
+  rows-then : rowsIn (p .rows + 1) rows′ pool′ ≡ rowsIn (p .rows) rows pool ++ (x ∷ [])
+  rows-then =
+      rows-again (rowsIn (p .rows) rows pool ++ (x ∷ [])) rows′ pool′ (p .rows + 1) (length rows) (length pool)
+      (sym (length-append (rowsIn (p .rows) rows pool) (x ∷ []) ∙ ap (λ (k : ℕ). k + 1) (count-is held)))
+      new-rows
+      new-pool
 
-    rows-then : rowsIn (p .rows + 1) rows′ pool′ ≡ rowsIn (p .rows) rows pool ++ (x ∷ [])
-    rows-then =
-        rows-again (rowsIn (p .rows) rows pool ++ (x ∷ [])) rows′ pool′ (p .rows + 1) (length rows) (length pool)
-        (sym (length-append (rowsIn (p .rows) rows pool) (x ∷ []) ∙ ap (λ (k : ℕ). k + 1) count-is))
-        new-rows
-        new-pool
-
-    pub row-added :
-        Numbered (p .room) (rowsIn (p .rows) rows pool ++ (x ∷ [])) (p .rows) rows′ pool′
-        (record {
-          row = p .rows;
-          progress = record { number = 0; rows = p .rows + 1; total = p .total + length x; room = p .room };
-        })
-    row-added = record {
-      grown = record {
-        held = λ e. record {
-          rows-are = rw (rows-then, rows-long) new-rows;
-          pool-is = rw (rows-then, pool-long) new-pool;
-          total-is =
-              rw rows-then (sym total-then);
-          in-room = omega arith;
-          in-pool = rw pool-long in-pool;
-          total-most = omega (arith, held .total-most);
-          room-most = held .room-most;
-          room-fits = rw rows-long (held .room-fits);
-          going = refl;
-        };
-        rows-are = λ e. rows-then;
-        refused = λ e. absurd (e refl);
-        room-kept = refl;
+  pub row-added :
+      Numbered codesSay (p .room) (rowsIn (p .rows) rows pool ++ (x ∷ [])) (p .rows) rows′ pool′
+      (record {
+        row = p .rows;
+        progress = record { number = 0; rows = p .rows + 1; total = p .total + length x; room = p .room };
+      })
+  row-added = record {
+    grown = record {
+      held = λ e. record {
+        rows-are = rw (rows-then, rows-long) new-rows;
+        pool-is = rw (rows-then, pool-long) new-pool;
+        total-is =
+            rw rows-then (sym total-then);
+        in-room = omega arith;
+        in-pool = rw pool-long in-pool;
+        total-most = omega (arith, held .total-most);
+        room-most = held .room-most;
+        room-fits = rw rows-long (held .room-fits);
+        going = refl;
       };
-      row-is = λ e. refl;
-      row-below = omega (arith, held .room-most);
-    }
+      rows-are = λ e. rows-then;
+      refused = λ e. absurd (e refl);
+      room-kept = refl;
+    };
+    row-is = λ e. refl;
+    row-below = omega (arith, held .room-most);
+  }
 
 -- a row that does not fit has no number
 pub unplaced :
-    {room number : ℕ} {after : List (List ℕ)} {rows pool : List ℕ} (n count total : ℕ)
+    {says : List ℕ → List ℕ} {room number : ℕ} {after : List (List ℕ)} {rows pool : List ℕ} (n count total : ℕ)
     → Unfit room (length pool) number after
-    → Numbered room after n rows pool
+    → Numbered says room after n rows pool
     (record { row = 0; progress = record { number = number; rows = count; total = total; room = room } })
 unplaced n count total u = record {
   grown = record {
@@ -217,15 +215,21 @@ found-nothing x rs f e g =
     absurd (let z : _≡_ {A = ℕ} 0 1 = cc in omega arith))
     (λ t. ltb-false (numberOf x rs) (length rs) t)
 
-module _ {rows pool : List ℕ} {p : Progress} (held : Held rows pool p) (x : List ℕ) (f : Found)
-    (is-found : f ≡ foundIn x (rowsIn (p .rows) rows pool)) where
+module _
+    {says : List ℕ → List ℕ} {rows pool : List ℕ} {p : Progress} (held : Held says rows pool p) (x : List ℕ)
+    (f : Found) (count : ℕ)
+    (is-count : count ≡ p .rows) (found : f ≡ foundIn x (rowsIn count rows pool)) where
+  is-found : f ≡ foundIn x (rowsIn (p .rows) rows pool)
+  is-found = found ∙ ap (λ (n : ℕ). foundIn x (rowsIn n rows pool)) is-count
+
   -- an equal row has a number: that one is used
   pub placed-found :
-      (row : ℕ) → f ≡ At row
-      → Numbered (p .room) (withRow x (rowsIn (p .rows) rows pool)) (numberOf x (rowsIn (p .rows) rows pool)) rows pool
+      (number row : ℕ) → f ≡ At number → row ≡ number
+      → Numbered says (p .room) (withRow x (rowsIn (p .rows) rows pool)) (numberOf x (rowsIn (p .rows) rows pool)) rows
+      pool
       (record { row = row; progress = p })
-  placed-found row g =
-      let k = found-at x (rowsIn (p .rows) rows pool) f row is-found g in
+  placed-found number row g same =
+      let k = found-at x (rowsIn (p .rows) rows pool) f number is-found g in
       record {
         grown = record {
           held = λ e. held;
@@ -233,15 +237,15 @@ module _ {rows pool : List ℕ} {p : Progress} (held : Held rows pool p) (x : Li
           refused = λ e. absurd (e (held .going));
           room-kept = refl;
         };
-        row-is = λ e. k .1;
-        row-below = omega (arith, k .0, k .1, rows-length (p .rows) 0 rows pool, held .in-room, held .room-most);
+        row-is = λ e. same ∙ k .1;
+        row-below = omega (arith, k .0, same ∙ k .1, rows-length (p .rows) 0 rows pool, held .in-room, held .room-most);
       }
 
   -- none has: the next one is used
   pub placed-new :
       (rows′ pool′ : List ℕ) (answer : Placed) → f ≡ Nothing
-      → Numbered (p .room) (rowsIn (p .rows) rows pool ++ (x ∷ [])) (p .rows) rows′ pool′ answer
-      → Numbered (p .room) (withRow x (rowsIn (p .rows) rows pool)) (numberOf x (rowsIn (p .rows) rows pool)) rows′
+      → Numbered says (p .room) (rowsIn (p .rows) rows pool ++ (x ∷ [])) (p .rows) rows′ pool′ answer
+      → Numbered says (p .room) (withRow x (rowsIn (p .rows) rows pool)) (numberOf x (rowsIn (p .rows) rows pool)) rows′
       pool′ answer
   placed-new rows′ pool′ answer g added =
       let rs : List (List ℕ) = rowsIn (p .rows) rows pool in

@@ -2,7 +2,7 @@
 use mathlib.Core.Path.{_≡_, sym, _∙_, ap, ap₂, subst⁻¹}
 use mathlib.Core.Bool.{true, false, not}
 use mathlib.Core.List.{List, [], _++_, append-nil}
-use Prim.Native.Nat.{ℕ, _+_, _-_, _≤_, _<_}
+use Prim.Native.Nat.{ℕ, _+_, _≤_, _<_}
 use native.Mathlib.Omega.{arith}
 use lib.Dec.{eqb, ltb, leb}
 use lib.ListN.{length}
@@ -15,8 +15,8 @@ use Rattle.model.specs.Basics.{zeros, filled, Refusal, refusal, fine, refuse}
 use Rattle.model.specs.Rules.{pairCount}
 use Rattle.model.specs.Construction.{rowsOf}
 use Rattle.model.specs.Layout.{edgeNeed, ruleIn, isReadable, ruleRefusal}
-use Rattle.model.specs.Tables.{cellNumbers, rowNumbers, poolNumbers, builtOf, tablesBy, tablesOf, rowRoom, fitRefusal}
-use Rattle.model.specs.Tables.{tableRefusal}
+use Rattle.model.specs.Tables.{cellNumbers, rowNumbers, codesSay, poolNumbers, builtOf, tablesBy, tablesOf, rowRoom}
+use Rattle.model.specs.Tables.{fitRefusal, tableRefusal}
 use Rattle.model.specs.Promises.{buildRefusal, BuildsTable, ChecksRule}
 use Rattle.model.proofs.Refusals.{on-pass, on-refused, refuse-fine, refuse-met}
 use Rattle.model.proofs.Numbers.{Among, none, some, among-refuse, among-then}
@@ -90,11 +90,11 @@ module _ (h : Head) (t scratch cells rows pool : List ℕ) (passed : ruleRefusal
         (scaled : Scaled (ruleIn h t) z) (is-room : room ≡ rowRoom (ruleIn h t) (length cells) (length rows))
         (scratch-long : length scratch₁ ≡ length scratch) (cells-long : length cells₁ ≡ length cells)
         (rows-long : length rows′ ≡ length rows) (pool-long : length pool′ ≡ length pool)
-        (all-are : AllFilled (ruleIn h t) room scratch₁ scratch′ cells₁ cells′ rows′ pool′ p) where
+        (all-are : AllFilled codesSay (ruleIn h t) room scratch₁ scratch′ cells₁ cells′ rows′ pool′ p) where
       fits : p .number ≡ 0 → buildRefusal h t scratch cells rows pool ≡ fine
       unfolding fitRefusal
       fits e =
-          let held : Held rows′ pool′ p = all-are .grown .held e in
+          let held : Held codesSay rows′ pool′ p = all-are .grown .held e in
           let same-room : p .room ≡ rowRoom (ruleIn h t) (length cells) (length rows) =
           all-are .grown .room-kept ∙ is-room in
           let rs : rowsIn (p .rows) rows′ pool′ ++ [] ≡ rowsOf (ruleIn h t) =
@@ -114,7 +114,7 @@ module _ (h : Head) (t scratch cells rows pool : List ℕ) (passed : ruleRefusal
       built-is : p .number ≡ 0 → builtFrom h z p ≡ builtOf (ruleIn h t)
       unfolding builtOf
       built-is e =
-          let held : Held rows′ pool′ p = all-are .grown .held e in
+          let held : Held codesSay rows′ pool′ p = all-are .grown .held e in
           let are : rowsIn (p .rows) rows′ pool′ ≡ rowsOf (ruleIn h t) = all-are .grown .rows-are e in
           let count : p .rows ≡ length (rowsOf (ruleIn h t)) =
           sym (rows-length (p .rows) 0 rows′ pool′) ∙ ap length are in
@@ -133,7 +133,7 @@ module _ (h : Head) (t scratch cells rows pool : List ℕ) (passed : ruleRefusal
       unfolding tablesOf tablesBy
       builds-done e =
           let f : buildRefusal h t scratch cells rows pool ≡ fine = fits e in
-          let held : Held rows′ pool′ p = all-are .grown .held e in
+          let held : Held codesSay rows′ pool′ p = all-are .grown .held e in
           let are : rowsIn (p .rows) rows′ pool′ ≡ rowsOf (ruleIn h t) = all-are .grown .rows-are e in
           record {
             answer-is = rw (f, built-is e);
@@ -145,7 +145,8 @@ module _ (h : Head) (t scratch cells rows pool : List ℕ) (passed : ruleRefusal
                 cells-long);
             rows-are =
                 rw f
-                (held .rows-are ∙ ap₂ (λ (n : ℕ) (x : List (List ℕ)). filled n (rowNumbers 0 x)) rows-long are);
+                (held .rows-are
+                ∙ ap₂ (λ (n : ℕ) (x : List (List ℕ)). filled n (rowNumbers codesSay 0 x)) rows-long are);
             pool-is =
                 rw f
                 (held .pool-is ∙ ap₂ (λ (n : ℕ) (x : List (List ℕ)). filled n (poolNumbers x)) pool-long are);

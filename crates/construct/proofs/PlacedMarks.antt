@@ -37,11 +37,12 @@ module _ {row m gathered : List ℕ} {n : ℕ} (g : Gathered row m gathered n) (
       rw (e, ← front-length, rest) (replicate-append-replicate n (length m - length row) 0 ∙ ap zeros k)
 
   pub marks-placed :
-      {room : ℕ} (rs : List (List ℕ)) {rows′ pool′ : List ℕ} {answer : Placed} (z : List ℕ)
-      → Numbered room (withRow (take n gathered) rs) (numberOf (take n gathered) rs) rows′ pool′ answer
+      {says : List ℕ → List ℕ} {room : ℕ} (rs : List (List ℕ)) {rows′ pool′ : List ℕ} {answer : Placed} (z : List ℕ)
+      → Numbered says room (withRow (take n gathered) rs) (numberOf (take n gathered) rs) rows′ pool′ answer
       → z ≡ zeros (length (take n gathered))
-      → MarksNumbered room (withRow row rs) (numberOf row rs) m (z ++ drop n gathered) rows′ pool′ answer
-  marks-placed {room} rs {rows′} {pool′} {answer} z placed e = record {
-    numbered = subst (λ (l : List ℕ). Numbered room (withRow l rs) (numberOf l rs) rows′ pool′ answer) front placed;
+      → MarksNumbered says room (withRow row rs) (numberOf row rs) m (z ++ drop n gathered) rows′ pool′ answer
+  marks-placed {says} {room} rs {rows′} {pool′} {answer} z placed e = record {
+    numbered = subst (λ (l : List ℕ). Numbered says room (withRow l rs) (numberOf l rs) rows′ pool′ answer) front
+        placed;
     marks-zero = zero-again z e;
   }

@@ -2,7 +2,7 @@
 use mathlib.Core.Path.{_≡_, refl, sym, _∙_, ap}
 use mathlib.Core.Bool.{true, false}
 use mathlib.Core.List.{List, _∷_}
-use Prim.Native.Nat.{ℕ, zero, suc, _+_, _-_, _*_, _≤_, _<_}
+use Prim.Native.Nat.{ℕ, zero, suc, _+_, _-_, _≤_, _<_}
 use native.Mathlib.Omega.{arith}
 use native.Mathlib.Numerals.{add-one}
 use lib.ListN.{length, getD, take, drop, length-take, length-drop}
@@ -10,9 +10,10 @@ use lib.Seq.{ext-getD, getD-take, getD-drop}
 use borrow.Author.Tests.{lt-ltb, le-ltb}
 use Rattle.model.specs.Basics.{same}
 use Rattle.model.specs.Construction.{numberFrom, numberOf}
+use Rattle.model.specs.Tables.{rowStart, rowLength, codesAt}
 use Rattle.model.proofs.Logic.{by-test, same-equal, same-self}
 use Rattle.construct.specs.declared.Found.the-variants.{At, Nothing}
-use Rattle.construct.specs.Rows.{rowIn, rowsHeld, rowsIn, foundIn, Within}
+use Rattle.construct.specs.Rows.{rowsHeld, rowsIn, foundIn, Within}
 
 pub rows-length : (n i : ℕ) (rows pool : List ℕ) → length (rowsHeld n i rows pool) ≡ n
 rows-length zero i rows pool = refl
@@ -42,28 +43,28 @@ module _ {count row : ℕ} {rows pool codes : List ℕ} (inv : Searching count r
   rows-rest :
       row < count
       → rowsHeld (count - row) row rows pool
-      ≡ rowIn rows pool row ∷ rowsHeld (count - (row + 1)) (row + 1) rows pool
+      ≡ codesAt rows pool row ∷ rowsHeld (count - (row + 1)) (row + 1) rows pool
   rows-rest h = let a : count - row ≡ suc (count - (row + 1)) = omega arith in rw (a, add-one row)
 
   pub search-next :
-      row < count → (codes ≡ rowIn rows pool row → ⊥) → Searching count (row + 1) rows pool codes
+      row < count → (codes ≡ codesAt rows pool row → ⊥) → Searching count (row + 1) rows pool codes
   search-next h n = record {
     turns = omega arith;
     rest-is =
         rw (add-one row)
         (sym
         (rw (rows-rest h, add-one row)
-        (number-there row codes (rowIn rows pool row) (rowsHeld (count - suc row) (suc row) rows pool) n))
+        (number-there row codes (codesAt rows pool row) (rowsHeld (count - suc row) (suc row) rows pool) n))
         ∙ inv .rest-is);
   }
 
   pub search-found :
-      row < count → codes ≡ rowIn rows pool row → At row ≡ foundIn codes (rowsIn count rows pool)
+      row < count → codes ≡ codesAt rows pool row → At row ≡ foundIn codes (rowsIn count rows pool)
   search-found h e =
       let n : numberOf codes (rowsIn count rows pool) ≡ row =
       sym (inv .rest-is)
       ∙ (rw (rows-rest h)
-      (number-here row codes (rowIn rows pool row) (rowsHeld (count - (row + 1)) (row + 1) rows pool) e)) in
+      (number-here row codes (codesAt rows pool row) (rowsHeld (count - (row + 1)) (row + 1) rows pool) e)) in
       let l : row < length (rowsIn count rows pool) = rw (rows-length count 0 rows pool) h in
       rw (n, lt-ltb row (length (rowsIn count rows pool)) l)
 
@@ -95,20 +96,20 @@ module _ (pool codes : List ℕ) (start n : ℕ) (fits : start + n ≤ length po
 -- The same of a row by its two numbers.
 module _
     {count row : ℕ} {rows pool : List ℕ} (codes : List ℕ) (start n : ℕ) (within : Within count rows pool)
-    (h : row < count) (is-start : start ≡ getD rows (2 * row) 0) (is-length : n ≡ getD rows (2 * row + 1) 0) where
+    (h : row < count) (is-start : start ≡ rowStart rows row) (is-length : n ≡ rowLength rows row) where
   pub row-fits : start + n ≤ length pool
   row-fits = omega (arith, within .in-pool row h, is-start, is-length)
 
-  row-part : rowIn rows pool row ≡ take n (drop start pool)
+  row-part : codesAt rows pool row ≡ take n (drop start pool)
   row-part = rw (is-start, is-length)
 
   pub row-is :
-      n ≡ length codes → ((j : ℕ) → j < n → getD pool (start + j) 0 ≡ getD codes j 0) → codes ≡ rowIn rows pool row
+      n ≡ length codes → ((j : ℕ) → j < n → getD pool (start + j) 0 ≡ getD codes j 0) → codes ≡ codesAt rows pool row
   row-is e all = part-is pool codes start n row-fits e all ∙ sym row-part
 
   pub row-differs :
-      (j : ℕ) → j < n → (getD pool (start + j) 0 ≡ getD codes j 0 → ⊥) → codes ≡ rowIn rows pool row → ⊥
+      (j : ℕ) → j < n → (getD pool (start + j) 0 ≡ getD codes j 0 → ⊥) → codes ≡ codesAt rows pool row → ⊥
   row-differs j l d e = part-differs pool codes start n row-fits j l d (e ∙ row-part)
 
-  pub row-longer : (n ≡ length codes → ⊥) → codes ≡ rowIn rows pool row → ⊥
+  pub row-longer : (n ≡ length codes → ⊥) → codes ≡ codesAt rows pool row → ⊥
   row-longer d e = part-longer pool codes start n row-fits d (e ∙ row-part)

@@ -1,19 +1,19 @@
--- The row table and the pool as rows are put in: they spell the rows that they hold, and one row more is two numbers
+-- The row table and the pool as rows are put in: they spell the rows that they hold, and one row more is its numbers
 -- and its codes.
 use mathlib.Core.Path.{_≡_, refl, sym, _∙_, ap}
 use mathlib.Core.List.{List, [], _∷_, _++_, append-assoc, append-nil}
 use Prim.Native.Nat.{ℕ, zero, suc, _+_, _-_, _*_, _≤_, _<_}
 use native.Mathlib.Omega.{arith}
 use native.Mathlib.Nat.{add-zero}
-use lib.ListN.{length, getD, set, take, drop, length-append, length-replicate, drop-of-length-le}
-use lib.Seq.{set-at, take-append-seam, drop-append-add, drop-cons}
+use lib.ListN.{length, set, drop, length-append, length-replicate, drop-of-length-le}
+use lib.Seq.{set-at, drop-cons}
 use Rattle.model.specs.Basics.{zeros, filled}
 use Rattle.model.specs.Construction.{rowAt}
-use Rattle.model.specs.Tables.{rowWidth, rowNumbers, poolNumbers}
+use Rattle.model.specs.Tables.{rowWidth, rowStart, rowLength, codesAt, rowNumbers, codesSay, poolNumbers}
 use Rattle.model.proofs.Logic.{first-part}
 use Rattle.model.proofs.TablePlaces.{startOf, start-number, length-number, row-numbers-length, pool-at}
 use Rattle.construct.specs.declared.Progress.{Progress}
-use Rattle.construct.specs.Rows.{rowIn, rowsHeld, rowsIn, Within, Held}
+use Rattle.construct.specs.Rows.{rowsHeld, rowsIn, Within, Held}
 use Rattle.construct.proofs.RowSearch.{rows-length}
 
 -- a table that begins with a list, and one number or one list more
@@ -28,30 +28,17 @@ filled-set n xs a h =
     rw (e, length-append xs (a ∷ []), append-assoc xs (a ∷ []) (zeros (n - (length xs + 1))))
     (set-at xs 0 (zeros (n - (length xs + 1))) a (length xs) refl)
 
-drop-zeros : (m k : ℕ) → drop m (zeros k) ≡ zeros (k - m)
-drop-zeros zero k = let e : k - 0 ≡ k = omega arith in rw e
-drop-zeros (suc m) zero = let e : 0 - suc m ≡ 0 = omega arith in rw e
-drop-zeros (suc m) (suc k) = let e : suc k - suc m ≡ k - m = omega arith in rw e (drop-zeros m k)
-
-pub filled-lay :
-    (n : ℕ) (xs ys : List ℕ) → length xs + length ys ≤ n
-    → take (length xs) (filled n xs) ++ (ys ++ drop (length xs + length ys) (filled n xs)) ≡ filled n (xs ++ ys)
-filled-lay n xs ys h =
-    let e : n - length xs - length ys ≡ n - length (xs ++ ys) = rw (length-append xs ys) (omega arith) in
-    let rest : drop (length xs + length ys) (filled n xs) ≡ zeros (n - length (xs ++ ys)) =
-    drop-append-add xs (zeros (n - length xs)) (length ys) ∙ (drop-zeros (length ys) (n - length xs) ∙ ap zeros e) in
-    rw (take-append-seam xs (zeros (n - length xs)), rest)
-    (sym (append-assoc xs ys (zeros (n - length (xs ++ ys)))))
-
 -- one row more
 pub rows-append :
-    (p : ℕ) (rs : List (List ℕ)) (x : List ℕ)
-    → rowNumbers p (rs ++ (x ∷ [])) ≡ rowNumbers p rs ++ ((p + length (poolNumbers rs)) ∷ length x ∷ [])
-rows-append p [] x = rw (add-zero p)
-rows-append p (y ∷ rs) x =
+    (says : List ℕ → List ℕ) (p : ℕ) (rs : List (List ℕ)) (x : List ℕ)
+    → rowNumbers says p (rs ++ (x ∷ [])) ≡ rowNumbers says p rs ++ ((p + length (poolNumbers rs)) ∷ says x)
+rows-append says p [] x = rw (add-zero p, append-nil (says x))
+rows-append says p (y ∷ rs) x =
     let e : p + length y + length (poolNumbers rs) ≡ p + length (y ++ poolNumbers rs) =
     rw (length-append y (poolNumbers rs)) (omega arith) in
-    rw (rows-append (p + length y) rs x, e)
+    let last : List ℕ = (p + length (y ++ poolNumbers rs)) ∷ says x in
+    rw (rows-append says (p + length y) rs x, e)
+    (ap (λ (l : List ℕ). p ∷ l) (sym (append-assoc (says y) (rowNumbers says (p + length y) rs) last)))
 
 pub pool-append : (rs : List (List ℕ)) (x : List ℕ) → poolNumbers (rs ++ (x ∷ [])) ≡ poolNumbers rs ++ x
 pool-append [] x = append-nil x
@@ -59,19 +46,21 @@ pool-append (y ∷ rs) x = rw (pool-append rs x) (sym (append-assoc y (poolNumbe
 
 -- the row with a number, where the tables begin with the rows
 module _ (rs : List (List ℕ)) (l m : ℕ) where
-  start-is : (n : ℕ) → n < length rs → getD (filled l (rowNumbers 0 rs)) (rowWidth * n) 0 ≡ startOf n rs
+  start-is : (n : ℕ) → n < length rs → rowStart (filled l (rowNumbers codesSay 0 rs)) n ≡ startOf n rs
   start-is n h =
-      first-part 0 (rowNumbers 0 rs) (zeros (l - length (rowNumbers 0 rs))) (rowWidth * n)
+      first-part 0 (rowNumbers codesSay 0 rs) (zeros (l - length (rowNumbers codesSay 0 rs))) (rowWidth * n)
       (omega (arith, row-numbers-length 0 rs))
       ∙ (start-number 0 rs n h ∙ omega arith)
 
-  length-is : (n : ℕ) → n < length rs → getD (filled l (rowNumbers 0 rs)) (rowWidth * n + 1) 0 ≡ length (rowAt rs n)
+  length-is : (n : ℕ) → n < length rs → rowLength (filled l (rowNumbers codesSay 0 rs)) n ≡ length (rowAt rs n)
   length-is n h =
-      first-part 0 (rowNumbers 0 rs) (zeros (l - length (rowNumbers 0 rs))) (rowWidth * n + 1)
+      first-part 0 (rowNumbers codesSay 0 rs) (zeros (l - length (rowNumbers codesSay 0 rs))) (rowWidth * n + 1)
       (omega (arith, row-numbers-length 0 rs))
       ∙ length-number 0 rs n h
 
-  row-in : (n : ℕ) → n < length rs → rowIn (filled l (rowNumbers 0 rs)) (filled m (poolNumbers rs)) n ≡ rowAt rs n
+  row-in :
+      (n : ℕ) → n < length rs
+      → codesAt (filled l (rowNumbers codesSay 0 rs)) (filled m (poolNumbers rs)) n ≡ rowAt rs n
   row-in n h =
       rw (start-is n h, length-is n h) (pool-at rs n (zeros (m - length (poolNumbers rs))) h)
 
@@ -86,7 +75,7 @@ start-within (suc n) (x ∷ xs) h =
 -- the rows that such tables hold are the rows
 held-from :
     (n i : ℕ) (rows pool : List ℕ) (rs : List (List ℕ)) → i + n ≡ length rs
-    → ((k : ℕ) → k < length rs → rowIn rows pool k ≡ rowAt rs k)
+    → ((k : ℕ) → k < length rs → codesAt rows pool k ≡ rowAt rs k)
     → rowsHeld n i rows pool ≡ drop i rs
 held-from zero i rows pool rs e h = let l : length rs ≤ i = omega arith in sym (drop-of-length-le rs l)
 held-from (suc n) i rows pool rs e h =
@@ -94,25 +83,27 @@ held-from (suc n) i rows pool rs e h =
     rw (h i l, held-from n (suc i) rows pool rs (omega arith) h) (sym (drop-cons rs i [] l))
 
 pub rows-again :
-    (rs : List (List ℕ)) (rows pool : List ℕ) (n l m : ℕ) → n ≡ length rs → rows ≡ filled l (rowNumbers 0 rs)
+    (rs : List (List ℕ)) (rows pool : List ℕ) (n l m : ℕ) → n ≡ length rs → rows ≡ filled l (rowNumbers codesSay 0 rs)
     → pool ≡ filled m (poolNumbers rs)
     → rowsIn n rows pool ≡ rs
 rows-again rs rows pool n l m e f g =
     rw (e, f, g)
-    (held-from (length rs) 0 (filled l (rowNumbers 0 rs)) (filled m (poolNumbers rs)) rs (omega arith) (row-in rs l m))
+    (held-from (length rs) 0 (filled l (rowNumbers codesSay 0 rs)) (filled m (poolNumbers rs)) rs (omega arith)
+    (row-in rs l m))
 
 -- every row lies in the pool
-pub row-within : {rows pool : List ℕ} {p : Progress} → Held rows pool p → Within (p .rows) rows pool
-row-within {rows} {pool} {p} held =
+pub row-within :
+    {rows pool : List ℕ} {p : Progress} → Held codesSay rows pool p → (count : ℕ) → count ≡ p .rows → Within count rows
+    pool
+row-within {rows} {pool} {p} held below is-count =
     let rs : List (List ℕ) = rowsIn (p .rows) rows pool in
     let count : length rs ≡ p .rows = rows-length (p .rows) 0 rows pool in
     record {
-      rows-long = omega (arith, held .room-fits, held .in-room);
       in-pool = λ n h.
-          let l : n < length rs = omega (arith, count) in
-          let a : getD rows (rowWidth * n) 0 ≡ startOf n rs =
-          ap (λ (t : List ℕ). getD t (rowWidth * n) 0) (held .rows-are) ∙ start-is rs (length rows) 0 n l in
-          let b : getD rows (rowWidth * n + 1) 0 ≡ length (rowAt rs n) =
-          ap (λ (t : List ℕ). getD t (rowWidth * n + 1) 0) (held .rows-are) ∙ length-is rs (length rows) 0 n l in
+          let l : n < length rs = omega (arith, count, is-count) in
+          let a : rowStart rows n ≡ startOf n rs =
+          ap (λ (t : List ℕ). rowStart t n) (held .rows-are) ∙ start-is rs (length rows) 0 n l in
+          let b : rowLength rows n ≡ length (rowAt rs n) =
+          ap (λ (t : List ℕ). rowLength t n) (held .rows-are) ∙ length-is rs (length rows) 0 n l in
           omega (arith, a, b, start-within n rs l, held .total-is, held .in-pool);
     }

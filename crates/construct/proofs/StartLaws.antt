@@ -8,12 +8,13 @@ use native.Mathlib.Omega.{arith}
 use native.Mathlib.Nat.{mul-le-mul-right}
 use lib.Dec.{eqb, ltb}
 use lib.ListN.{length}
-use borrow.Author.Tests.{le-leb, not-false, eqb-true, eqb-false}
+use borrow.Author.Tests.{lt-ltb, le-leb, not-false, eqb-true, eqb-false}
 use Rattle.model.specs.declared.Head.{Head}
 use Rattle.model.specs.Basics.{pick, lesser, quotient, zeros, bit, bitsFrom, maskOf, refuse}
-use Rattle.model.specs.Rules.{Rule, cm, baseCount, pairCount, mostPairs}
+use Rattle.model.specs.Rules.{Rule, cm, baseCount, mostLocations, mostClocks, mostConstant, pairCount, mostPairs}
 use Rattle.model.specs.Construction.{digitsCode, codeOf, withCode, startBases, startCodes, startRow, mostRows}
 use Rattle.model.specs.Layout.{edgeNeed, locationsIn, ruleIn, isReadable, ruleRefusal}
+use Rattle.model.specs.Tables.{rowWidth}
 use Rattle.model.proofs.Logic.{by-test, In, here, there}
 use Rattle.model.proofs.Refusals.{refused-false, then-passes}
 use Rattle.model.proofs.Valid.{Valid, valid-of, cm-most}
@@ -57,16 +58,16 @@ module _ (h : Head) (t : List ℕ) (passed : ruleRefusal h t .number ≡ 0) wher
   valid-is : Valid (ruleIn h t)
   valid-is = valid-of (ruleIn h t) (passes-valid h t passed)
 
-  pub top-most : (top : ℕ) → top ≡ cm (ruleIn h t) → top ≤ 30
+  pub top-most : (top : ℕ) → top ≡ cm (ruleIn h t) → top ≤ mostConstant
   top-most top e = omega (arith, e, cm-most (ruleIn h t) valid-is)
 
   weight-is :
       (top clocks weight : ℕ) → top ≡ cm (ruleIn h t) → clocks ≡ h .clocks → weight ≡ smallPower (top + 2) clocks
       → weight ≡ baseCount (ruleIn h t) ^ ruleIn h t .clocks
   weight-is top clocks weight e k w =
-      let few : clocks ≤ 4 = omega (arith, k, clocks-of h t, valid-is .sizes .clocks-most) in
-      let low : top + 2 ≤ 65535 = omega (arith, top-most top e) in
-      w ∙ (rw (le-leb (top + 2) 65535 low, le-leb clocks 4 few) (rw (e, k, clocks-of h t)))
+      let few : clocks ≤ mostClocks = omega (arith, k, clocks-of h t, valid-is .sizes .clocks-most) in
+      let low : top + 2 < mostPairs = omega (arith, top-most top e) in
+      w ∙ (rw (lt-ltb (top + 2) mostPairs low, le-leb clocks mostClocks few) (rw (e, k, clocks-of h t)))
 
   pub weight-most :
       (top clocks weight : ℕ) → top ≡ cm (ruleIn h t) → clocks ≡ h .clocks → weight ≡ smallPower (top + 2) clocks
@@ -101,9 +102,9 @@ pairs-are h t z l w s e f = ap₂ _*_ (e ∙ sym (locations-of h t)) (f ∙ s .w
 
 -- the room for rows
 pub room-is :
-    (cells rows each n inner room : ℕ) → n ≡ quotient cells each → inner ≡ lesser (rows / 2) n
-    → room ≡ lesser 4096 inner
-    → room ≡ lesser mostRows (lesser (rows / 2) (quotient cells each))
+    (cells rows each n inner room : ℕ) → n ≡ quotient cells each → inner ≡ lesser (rows / rowWidth) n
+    → room ≡ lesser mostRows inner
+    → room ≡ lesser mostRows (lesser (rows / rowWidth) (quotient cells each))
 room-is cells rows each n inner room a b c = rw (c, b, a)
 
 -- the start row, by the weight of a location
@@ -147,12 +148,12 @@ pub can-start :
 can-start h t z marks ready zero-marks =
     let r : Rule = ruleIn h t in
     let v : Valid r = valid-of r (ready .valid) in
-    let below : (l : ℕ) → l < 32 → bit l (h .starts) ≡ true → l * z .weight < pairCount r =
+    let below : (l : ℕ) → l < mostLocations → bit l (h .starts) ≡ true → l * z .weight < pairCount r =
     λ l g b.
     rw (start-code r z l (ready .scaled))
     (code-below r l (startBases r) (start-bases r)
     (rises-below 0 (r .locations) (r .initial) l (v .initial-rises)
-    (rw (initial-of h t) (bits-have 32 0 l (h .starts) (omega arith) (omega arith) b)))) in
+    (rw (initial-of h t) (bits-have mostLocations 0 l (h .starts) (omega arith) (omega arith) b)))) in
     record {
       marks-zero = zero-marks;
       codes-below = λ l g b. omega (arith, below l g b, ready .marks-long);
@@ -161,8 +162,9 @@ can-start h t z marks ready zero-marks =
 
 -- no row yet
 pub held-none :
-    (rows pool : List ℕ) (room : ℕ) → rows ≡ zeros (length rows) → pool ≡ zeros (length pool) → RoomIn room rows
-    → Held rows pool (record { number = 0; rows = 0; total = 0; room = room })
+    {says : List ℕ → List ℕ} (rows pool : List ℕ) (room : ℕ) → rows ≡ zeros (length rows) → pool ≡ zeros (length pool)
+    → RoomIn room rows
+    → Held says rows pool (record { number = 0; rows = 0; total = 0; room = room })
 held-none rows pool room a b c =
     let e : length rows - 0 ≡ length rows = omega arith in
     let f : length pool - 0 ≡ length pool = omega arith in
@@ -179,15 +181,17 @@ held-none rows pool room a b c =
     }
 
 pub start-placed :
-    (starts weight room : ℕ) {marks marks₁ marks′ rows′ pool′ : List ℕ} {span : Span} (placed : Placed)
+    {says : List ℕ → List ℕ} (starts weight room : ℕ) {marks marks₁ marks′ rows′ pool′ : List ℕ} {span : Span}
+    (placed : Placed)
     → length marks₁ ≡ length marks
     → MarksAre (startCodesBy weight (locationsIn starts)) marks₁ span
-    → MarksNumbered room (codesIn marks₁ ∷ []) 0 marks₁ marks′ rows′ pool′ placed
-    → StartPlaced starts weight room marks marks′ rows′ pool′ (placed .progress)
-start-placed starts weight room {rows′ = rows′} {pool′ = pool′} placed long m n = record {
+    → MarksNumbered says room (codesIn marks₁ ∷ []) 0 marks₁ marks′ rows′ pool′ placed
+    → StartPlaced says starts weight room marks marks′ rows′ pool′ (placed .progress)
+start-placed {says} starts weight room {rows′ = rows′} {pool′ = pool′} placed long m n = record {
   marks-zero = n .marks-zero ∙ ap zeros long;
   grown =
-      subst (λ (x : List ℕ). Grown room (x ∷ []) rows′ pool′ (placed .progress)) (m .codes-are) (n .numbered .grown);
+      subst (λ (x : List ℕ). Grown says room (x ∷ []) rows′ pool′ (placed .progress)) (m .codes-are)
+      (n .numbered .grown);
 }
 
 pub pairs-few : (h : Head) (t : List ℕ) → ruleRefusal h t .number ≡ 0 → pairCount (ruleIn h t) ≤ mostPairs

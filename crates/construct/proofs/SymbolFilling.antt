@@ -7,10 +7,12 @@ use native.Mathlib.Omega.{arith}
 use native.Mathlib.Nat.{mul-le-mul, mul-le-mul-right}
 use native.Mathlib.Numerals.{add-one}
 use lib.ListN.{length, set, length-set, length-replicate}
+use Rattle.numbers.specs.Lent.{laid}
+use Rattle.numbers.proofs.Laid.{laid-none, laid-store}
 use Rattle.model.specs.declared.Head.{Head}
 use Rattle.model.specs.Basics.{zeros}
-use Rattle.model.specs.Rules.{Rule}
-use Rattle.model.specs.Construction.{width, nextRow, rowAt, withRow, byIntervals, cellOf}
+use Rattle.model.specs.Rules.{Rule, mostSymbols}
+use Rattle.model.specs.Construction.{width, nextRow, rowAt, withRow, byIntervals, mostRows, cellOf}
 use Rattle.model.specs.Tables.{cellsFrom}
 use Rattle.model.specs.Layout.{ruleIn}
 use Rattle.model.proofs.Valid.{valid-of}
@@ -23,11 +25,10 @@ use Rattle.construct.specs.declared.Progress.{Progress}
 use Rattle.construct.specs.declared.Filled.{Filled}
 use Rattle.construct.specs.Marks.{Ready}
 use Rattle.construct.specs.Rows.{rowsIn, Held, Unfit, Grown}
-use Rattle.construct.specs.Lent.{laid}
 use Rattle.construct.specs.Cells.{CanLeave, CellMade, CanFill, SymbolFilled}
 use Rattle.construct.proofs.RowSearch.{rows-length}
 use Rattle.construct.proofs.TargetMarks.{ready-again}
-use Rattle.construct.proofs.Laying.{laid-none, laid-store, cells-snoc, cell-stays}
+use Rattle.construct.proofs.Laying.{cells-snoc, cell-stays}
 
 pub extends-more :
     {rs after : List (List ℕ)} (e : Extends rs after) (more : List (List ℕ)) → after ++ more ≡ rs ++ (e .added ++ more)
@@ -52,12 +53,12 @@ place-fits row symbols s wide i room n h g l f =
     omega arith
 
 pub record Filling
-    (r : Rule) (row s at : ℕ) (rs : List (List ℕ)) (room : ℕ) (marks₀ cells₀ : List ℕ) (i : ℕ)
+    (says : List ℕ → List ℕ) (r : Rule) (row s at : ℕ) (rs : List (List ℕ)) (room : ℕ) (marks₀ cells₀ : List ℕ) (i : ℕ)
     (marks cells rows pool : List ℕ) (p : Progress) : Type 0 where
   pub turns : i ≤ width r
   pub marks-zero : marks ≡ zeros (length marks₀)
   pub cells-long : length cells ≡ length cells₀
-  pub held : Held rows pool p
+  pub held : Held says rows pool p
   pub room-kept : p .room ≡ room
   pub row-below : row < p .rows
   pub row-is : rowAt (rowsIn (p .rows) rows pool) row ≡ rowAt rs row
@@ -69,9 +70,9 @@ pub record Filling
       → cells ≡ laid cells₀ at (cellsFrom i 0 r (rowsIn (p .rows) rows pool ++ more) (rowAt rs row) s)
 
 pub filling-start :
-    (r : Rule) (z : Scale) (row s at : ℕ) (marks cells rows pool : List ℕ) (p : Progress)
-    → CanFill r z marks cells rows pool p row
-    → Filling r row s at (rowsIn (p .rows) rows pool) (p .room) marks cells 0 marks cells rows pool p
+    {says : List ℕ → List ℕ} (r : Rule) (z : Scale) (row s at : ℕ) (marks cells rows pool : List ℕ) (p : Progress)
+    → CanFill says r z marks cells rows pool p row
+    → Filling says r row s at (rowsIn (p .rows) rows pool) (p .room) marks cells 0 marks cells rows pool p
 filling-start r z row s at marks cells rows pool p can =
     let e : width r - 0 ≡ width r = omega arith in
     record {
@@ -87,11 +88,11 @@ filling-start r z row s at marks cells rows pool p can =
     }
 
 module _
-    {r : Rule} {row s at : ℕ} {rs : List (List ℕ)} {room : ℕ} {marks₀ cells₀ : List ℕ} {i : ℕ}
+    {says : List ℕ → List ℕ} {r : Rule} {row s at : ℕ} {rs : List (List ℕ)} {room : ℕ} {marks₀ cells₀ : List ℕ} {i : ℕ}
     {marks cells rows pool : List ℕ} {p : Progress}
-    (inv : Filling r row s at rs room marks₀ cells₀ i marks cells rows pool p) where
+    (inv : Filling says r row s at rs room marks₀ cells₀ i marks cells rows pool p) where
   pub filling-leave :
-      {z : Scale} → Ready r z marks₀ → CanLeave r z marks rows pool p row
+      {z : Scale} → Ready r z marks₀ → CanLeave says r z marks rows pool p row
   filling-leave ready =
       let long : length marks ≡ length marks₀ = ap length (inv .marks-zero) ∙ length-replicate (length marks₀) 0 in
       record {
@@ -107,20 +108,21 @@ module _
 
   module _ {at′ : Input} {marks′ rows′ pool′ : List ℕ} {answer : Filled} (l : i < width r)
       (is-symbol : at′ .symbol ≡ s) (is-interval : at′ .interval ≡ i)
-      (made : CellMade r row at′ (rowsIn (p .rows) rows pool) (p .room) marks marks′ rows′ pool′ answer) where
+      (made : CellMade says r row at′ (rowsIn (p .rows) rows pool) (p .room) marks marks′ rows′ pool′ answer) where
     same-next :
         nextRow r (at′ .symbol) (at′ .interval) (rowAt (rowsIn (p .rows) rows pool) row)
         ≡ nextRow r s i (rowAt rs row)
     same-next = rw (is-symbol, is-interval, inv .row-is)
 
     grown-is :
-        Grown room (withRow (nextRow r s i (rowAt rs row)) (rowsIn (p .rows) rows pool)) rows′ pool′ (answer .progress)
+        Grown says room (withRow (nextRow r s i (rowAt rs row)) (rowsIn (p .rows) rows pool)) rows′ pool′
+        (answer .progress)
     grown-is =
-        subst (λ (x : List ℕ). Grown room (withRow x (rowsIn (p .rows) rows pool)) rows′ pool′ (answer .progress))
+        subst (λ (x : List ℕ). Grown says room (withRow x (rowsIn (p .rows) rows pool)) rows′ pool′ (answer .progress))
         same-next
         (subst
         (λ (n : ℕ).
-        Grown n
+        Grown says n
         (withRow (nextRow r (at′ .symbol) (at′ .interval) (rowAt (rowsIn (p .rows) rows pool) row))
         (rowsIn (p .rows) rows pool))
         rows′ pool′ (answer .progress))
@@ -141,7 +143,7 @@ module _
     -- a row that does not fit ends the work
     pub filling-refused :
         (answer .progress .number ≡ 0 → ⊥)
-        → SymbolFilled r row s rs room marks₀ marks′ cells₀ cells rows′ pool′ (answer .progress)
+        → SymbolFilled says r row s rs room marks₀ marks′ cells₀ cells rows′ pool′ (answer .progress)
     filling-refused n = record {
       marks-zero = marks-zero-still;
       grown = record {
@@ -194,7 +196,7 @@ module _
     pub filling-next :
         (cells′ : List ℕ) → answer .progress .number ≡ 0 → at + i < length cells₀
         → cells′ ≡ set cells (at + i) (answer .cell)
-        → Filling r row s at rs room marks₀ cells₀ (i + 1) marks′ cells′ rows′ pool′ (answer .progress)
+        → Filling says r row s at rs room marks₀ cells₀ (i + 1) marks′ cells′ rows′ pool′ (answer .progress)
     filling-next cells′ e fits w =
         let old : List (List ℕ) = rowsIn (p .rows) rows pool in
         let new : List (List ℕ) = withRow (nextRow r s i (rowAt rs row)) old in
@@ -230,7 +232,7 @@ module _
 
   pub filling-end :
       width r ≤ i → at ≡ (row * r .symbols + s) * width r
-      → SymbolFilled r row s rs room marks₀ marks cells₀ cells rows pool p
+      → SymbolFilled says r row s rs room marks₀ marks cells₀ cells rows pool p
   filling-end l place =
       let full : i ≡ width r = omega (arith, inv .turns) in
       let are : rowsIn (p .rows) rows pool ≡ byIntervals (width r) 0 r s (rowAt rs row) rs =
@@ -252,7 +254,7 @@ unfolding ruleIn
 symbols-of h t = refl
 
 pub symbols-few :
-    (h : Head) (t : List ℕ) {z : Scale} {marks : List ℕ} → Ready (ruleIn h t) z marks → h .symbols ≤ 16
+    (h : Head) (t : List ℕ) {z : Scale} {marks : List ℕ} → Ready (ruleIn h t) z marks → h .symbols ≤ mostSymbols
 symbols-few h t ready =
     omega (arith, symbols-of h t, valid-of (ruleIn h t) (ready .valid) .sizes .symbols-most)
 
@@ -262,15 +264,15 @@ width-is top ready e = rw (e, ready .scaled .top-is)
 
 -- the products of a place fit
 pub place-most :
-    (row symbols s wide : ℕ) → row < 4096 → symbols < 65536 → s < 65536 → wide < 65536
+    (row symbols s wide : ℕ) → row < mostRows → symbols < 2 ^ 16 → s < 2 ^ 16 → wide < 2 ^ 16
     → (row * symbols ≤ 2 ^ 28) × ((row * symbols + s) * wide ≤ 2 ^ 45)
 place-most row symbols s wide h g k l =
-    let a : row ≤ 4096 = omega arith in
-    let b : symbols ≤ 65536 = omega arith in
-    let c : row * symbols ≤ 4096 * 65536 = mul-le-mul a b in
+    let a : row ≤ mostRows = omega arith in
+    let b : symbols ≤ 2 ^ 16 = omega arith in
+    let c : row * symbols ≤ mostRows * 2 ^ 16 = mul-le-mul a b in
     let d : row * symbols + s ≤ 2 ^ 29 = omega arith in
-    let e : wide ≤ 65536 = omega arith in
-    let f : (row * symbols + s) * wide ≤ 2 ^ 29 * 65536 = mul-le-mul d e in
+    let e : wide ≤ 2 ^ 16 = omega arith in
+    let f : (row * symbols + s) * wide ≤ 2 ^ 29 * 2 ^ 16 = mul-le-mul d e in
     (omega arith, omega arith)
 
 pub place-known :

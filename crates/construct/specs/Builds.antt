@@ -30,9 +30,9 @@ pub record CanPlaceStart (starts weight : ℕ) (marks rows pool : List ℕ) (roo
 
 -- the start row has number 0, or it does not fit
 pub record StartPlaced
-    (starts weight room : ℕ) (marks marks′ rows′ pool′ : List ℕ) (p : Progress) : Type 0 where
+    (says : List ℕ → List ℕ) (starts weight room : ℕ) (marks marks′ rows′ pool′ : List ℕ) (p : Progress) : Type 0 where
   pub marks-zero : marks′ ≡ zeros (length marks)
-  pub grown : Grown room (startCodesBy weight (locationsIn starts) ∷ []) rows′ pool′ p
+  pub grown : Grown says room (startCodesBy weight (locationsIn starts) ∷ []) rows′ pool′ p
 
 -- every table is zero
 pub record CanBuild (r : Rule) (z : Scale) (marks cells rows pool : List ℕ) : Type 0 where

@@ -4,6 +4,7 @@ use mathlib.Core.Path.{_≡_}
 use mathlib.Core.List.{List, [], _∷_, _++_}
 use Prim.Native.Nat.{ℕ, _+_, _*_, _≤_, _<_}
 use lib.ListN.{length}
+use Rattle.numbers.specs.Lent.{laid}
 use Rattle.model.specs.Basics.{zeros, filled}
 use Rattle.model.specs.Rules.{Rule}
 use Rattle.model.specs.Construction.{width, startRow, nextRow, rowAt, withRow, byIntervals, bySymbols, rowsOf, cellOf}
@@ -12,39 +13,42 @@ use Rattle.pairs.specs.declared.Scale.{Scale}
 use Rattle.pairs.specs.declared.Input.{Input}
 use Rattle.construct.specs.declared.Progress.{Progress}
 use Rattle.construct.specs.declared.Filled.{Filled}
-use Rattle.construct.specs.Lent.{laid}
 use Rattle.construct.specs.Marks.{Ready}
 use Rattle.construct.specs.Rows.{rowsIn, Held, Grown}
 
 -- a row that can be left: it has a number, and no marks stand
-pub record CanLeave (r : Rule) (z : Scale) (marks rows pool : List ℕ) (p : Progress) (row : ℕ) : Type 0 where
+pub record CanLeave
+    (says : List ℕ → List ℕ) (r : Rule) (z : Scale) (marks rows pool : List ℕ) (p : Progress) (row : ℕ) : Type 0 where
   pub ready : Ready r z marks
   pub marks-zero : marks ≡ zeros (length marks)
-  pub held : Held rows pool p
+  pub held : Held says rows pool p
   pub row-below : row < p .rows
 
 -- one cell, and the row that it leads to
 pub record CellMade
-    (r : Rule) (row : ℕ) (at : Input) (rs : List (List ℕ)) (room : ℕ) (marks marks′ rows′ pool′ : List ℕ)
+    (says : List ℕ → List ℕ) (r : Rule) (row : ℕ) (at : Input) (rs : List (List ℕ)) (room : ℕ)
+    (marks marks′ rows′ pool′ : List ℕ)
     (answer : Filled) : Type 0 where
   pub marks-zero : marks′ ≡ zeros (length marks)
   pub grown :
-      Grown room (withRow (nextRow r (at .symbol) (at .interval) (rowAt rs row)) rs) rows′ pool′ (answer .progress)
+      Grown says room (withRow (nextRow r (at .symbol) (at .interval) (rowAt rs row)) rs) rows′ pool′ (answer .progress)
   pub cell-is :
       answer .progress .number ≡ 0 → answer .cell ≡ cellOf r rs (rowAt rs row) (at .symbol) (at .interval)
 
 -- there are cells for as many rows as there is room for
 pub record CanFill
-    (r : Rule) (z : Scale) (marks cells rows pool : List ℕ) (p : Progress) (row : ℕ) : Type 0 where
-  pub leave : CanLeave r z marks rows pool p row
-  pub cells-fit : p .room * (r .symbols * width r) ≤ length cells
+    (says : List ℕ → List ℕ) (r : Rule) (z : Scale) (marks cells rows pool : List ℕ) (p : Progress) (row : ℕ) : Type 0
+  where
+    pub leave : CanLeave says r z marks rows pool p row
+    pub cells-fit : p .room * (r .symbols * width r) ≤ length cells
 
 -- the cells of a row at a symbol
 pub record SymbolFilled
-    (r : Rule) (row s : ℕ) (rs : List (List ℕ)) (room : ℕ) (marks marks′ cells cells′ rows′ pool′ : List ℕ)
+    (says : List ℕ → List ℕ) (r : Rule) (row s : ℕ) (rs : List (List ℕ)) (room : ℕ)
+    (marks marks′ cells cells′ rows′ pool′ : List ℕ)
     (p : Progress) : Type 0 where
   pub marks-zero : marks′ ≡ zeros (length marks)
-  pub grown : Grown room (byIntervals (width r) 0 r s (rowAt rs row) rs) rows′ pool′ p
+  pub grown : Grown says room (byIntervals (width r) 0 r s (rowAt rs row) rs) rows′ pool′ p
   pub cells-are :
       p .number ≡ 0
       → (more : List (List ℕ))
@@ -54,10 +58,11 @@ pub record SymbolFilled
 
 -- the cells of a row
 pub record RowFilled
-    (r : Rule) (row : ℕ) (rs : List (List ℕ)) (room : ℕ) (marks marks′ cells cells′ rows′ pool′ : List ℕ) (p : Progress)
+    (says : List ℕ → List ℕ) (r : Rule) (row : ℕ) (rs : List (List ℕ)) (room : ℕ)
+    (marks marks′ cells cells′ rows′ pool′ : List ℕ) (p : Progress)
     : Type 0 where
   pub marks-zero : marks′ ≡ zeros (length marks)
-  pub grown : Grown room (bySymbols (r .symbols) 0 r (rowAt rs row) rs) rows′ pool′ p
+  pub grown : Grown says room (bySymbols (r .symbols) 0 r (rowAt rs row) rs) rows′ pool′ p
   pub cells-are :
       p .number ≡ 0
       → (more : List (List ℕ))
@@ -66,17 +71,19 @@ pub record RowFilled
       (symbolCells (r .symbols) 0 r (bySymbols (r .symbols) 0 r (rowAt rs row) rs ++ more) (rowAt rs row))
 
 -- the start row has number 0, and no cell is filled
-pub record CanFillAll (r : Rule) (z : Scale) (marks cells rows pool : List ℕ) (p : Progress) : Type 0 where
+pub record CanFillAll
+    (says : List ℕ → List ℕ) (r : Rule) (z : Scale) (marks cells rows pool : List ℕ) (p : Progress) : Type 0 where
   pub ready : Ready r z marks
   pub marks-zero : marks ≡ zeros (length marks)
-  pub held : Held rows pool p
+  pub held : Held says rows pool p
   pub start-is : rowsIn (p .rows) rows pool ≡ startRow r ∷ []
   pub cells-fit : p .room * (r .symbols * width r) ≤ length cells
   pub cells-zero : cells ≡ zeros (length cells)
 
 -- all rows and all cells
 pub record AllFilled
-    (r : Rule) (room : ℕ) (marks marks′ cells cells′ rows′ pool′ : List ℕ) (p : Progress) : Type 0 where
+    (says : List ℕ → List ℕ) (r : Rule) (room : ℕ) (marks marks′ cells cells′ rows′ pool′ : List ℕ) (p : Progress) :
+    Type 0 where
   pub marks-zero : marks′ ≡ zeros (length marks)
-  pub grown : Grown room (rowsOf r) rows′ pool′ p
+  pub grown : Grown says room (rowsOf r) rows′ pool′ p
   pub cells-are : p .number ≡ 0 → cells′ ≡ filled (length cells) (cellNumbers r (rowsOf r) (rowsOf r))

@@ -7,7 +7,7 @@ use lib.Dec.{ltb}
 use lib.ListN.{length, getD, drop}
 use Rattle.edges.specs.Leaving.{leavesOn}
 use Rattle.model.specs.Basics.{pick}
-use Rattle.model.specs.Rules.{Edge, Rule}
+use Rattle.model.specs.Rules.{Edge, Rule, mostLocations, mostSymbols}
 use Rattle.model.specs.Runs.{noEdge}
 
 -- the first edge that leaves l on s, of edges numbered from n on; the number past them if there is none
@@ -22,21 +22,28 @@ leavingFrom es l s n = firstLeaving l s n (drop n es)
 abbrev pub edgeOf : List Edge → ℕ → Edge
 edgeOf es n = getD es n noEdge
 
--- The links: 16 places to a location, for the first edge on each symbol; then a place to an edge, for the next like it.
+-- The links: a place to each location and symbol, for the first edge; then a place to an edge, for the next like it.
+abbrev pub firstLinks : ℕ
+firstLinks = 512
+
+abbrev pub linkCount : ℕ
+linkCount = 768
+
 abbrev pub firstPlace : ℕ → ℕ → ℕ
-firstPlace l s = 16 * l + s
+firstPlace l s = mostSymbols * l + s
 
 abbrev pub nextPlace : ℕ → ℕ
-nextPlace n = 512 + n
+nextPlace n = firstLinks + n
 
 -- a location or a symbol that no rule has is left by no edge
 abbrev pub firstLink : ℕ → ℕ → ℕ → List ℕ → ℕ
-firstLink count l s links = pick (ltb l 32 && ltb s 16) (getD links (firstPlace l s) 0) count
+firstLink count l s links =
+    pick (ltb l mostLocations && ltb s mostSymbols) (getD links (firstPlace l s) 0) count
 
 -- the edges from n on are linked
 pub record LinkedFrom (es : List Edge) (n : ℕ) (links : List ℕ) : Type 0 where
-  pub long : length links ≡ 768
-  pub firsts : (l s : ℕ) → l < 32 → s < 16 → getD links (firstPlace l s) 0 ≡ leavingFrom es l s n
+  pub long : length links ≡ linkCount
+  pub firsts : (l s : ℕ) → l < mostLocations → s < mostSymbols → getD links (firstPlace l s) 0 ≡ leavingFrom es l s n
   pub nexts :
       (k : ℕ) → n ≤ k → k < length es
       → getD links (nextPlace k) 0 ≡ leavingFrom es (edgeOf es k .source) (edgeOf es k .symbol) (suc k)

@@ -1,4 +1,3 @@
-pub mod Lent
 pub mod Leaving
 pub mod Marks
 pub mod Rows

@@ -6,7 +6,7 @@ use Prim.Native.Nat.{ℕ, suc, _*_, _≤_, _<_}
 use lib.Dec.{eqb}
 use lib.ListN.{length, getD}
 use Rattle.model.specs.Basics.{pick, bit, zeros, filled}
-use Rattle.model.specs.Rules.{Rule, pairCount, mostPairs, validRule}
+use Rattle.model.specs.Rules.{Rule, mostLocations, pairCount, mostPairs, validRule}
 use Rattle.model.specs.Construction.{withCode, rowResets, nextRow}
 use Rattle.pairs.specs.declared.Scale.{Scale}
 use Rattle.pairs.specs.declared.Input.{Input}
@@ -55,8 +55,8 @@ startCodesBy w (l ∷ ls) = withCode (l * w) (startCodesBy w ls)
 -- no marks yet, and every initial location has one
 pub record CanStart (marks : List ℕ) (starts weight : ℕ) : Type 0 where
   pub marks-zero : marks ≡ zeros (length marks)
-  pub codes-below : (l : ℕ) → l < 32 → bit l starts ≡ true → l * weight < length marks
-  pub codes-most : (l : ℕ) → l < 32 → bit l starts ≡ true → l * weight < mostPairs
+  pub codes-below : (l : ℕ) → l < mostLocations → bit l starts ≡ true → l * weight < length marks
+  pub codes-most : (l : ℕ) → l < mostLocations → bit l starts ≡ true → l * weight < mostPairs
 
 -- What a build knows at every step: the rule is valid, the scale is its own, and every code has a mark.
 pub record Ready (r : Rule) (z : Scale) (marks : List ℕ) : Type 0 where

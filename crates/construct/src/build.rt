@@ -4,10 +4,10 @@ ghost use Prim.Native.Nat.{_*_, _/_, _≤_};
 ghost use lib.ListN.{length};
 ghost use Rattle.model.specs.Basics.{zeros};
 ghost use Rattle.model.specs.Basics.{lesser as lesserOf, quotient as quotientOf};
-ghost use Rattle.model.specs.Rules.{pairCount};
+ghost use Rattle.model.specs.Rules.{mostPairs, pairCount};
 ghost use Rattle.model.specs.Construction.{mostRows};
 ghost use Rattle.model.specs.Layout.{ruleIn, ruleRefusal};
-ghost use Rattle.model.specs.Tables.{rowRoom};
+ghost use Rattle.model.specs.Tables.{codesSay, rowRoom, rowWidth};
 ghost use Rattle.model.specs.Promises.{BuildsTable};
 ghost use Rattle.pairs.specs.Pairs.{Scaled};
 ghost use Rattle.construct.specs.Cells.{AllFilled};
@@ -15,27 +15,29 @@ ghost use Rattle.construct.specs.Builds.{CanPlaceStart, StartPlaced, Can
 use crate::Progress;
 use crate::cells::fill_rows;
 use crate::leaving::link_edges;
-use crate::lent::clear;
-use crate::lent::lesser;
-use crate::lent::narrow8;
-use crate::lent::narrow32;
 use crate::marks::mark_starts;
 use crate::rows::place_marks;
 use edges::power;
 use edges::top_of;
-use edges::wide32;
 use model::Building;
 use model::Built;
 use model::Head;
+use model::MOST_ROWS;
+use model::ROW_WIDTH;
+use numbers::clear32;
+use numbers::lesser;
+use numbers::narrow8;
+use numbers::narrow32;
+use numbers::quotient;
+use numbers::wide8;
+use numbers::wide32;
 use pairs::Scale;
-use pairs::numbers::quotient;
-use pairs::numbers::wide8;
 
-// The least of 4,096, half the row table and the cell table over the cells of a row.
+// The least of 4,096, the rows that the row table holds and those that the cell table holds cells for.
 pub(crate) fn row_room(cells: usize, rows: usize, each: usize) -> usize
-    ensures { λ r. ⌜ r ≡ lesserOf mostRows (lesserOf (rows / 2) (quotientOf cells each)) ⌝ }
+    ensures { λ r. ⌜ r ≡ lesserOf mostRows (lesserOf (rows / rowWidth) (quotientOf cells each)) ⌝ }
 {
-    lesser(4096, lesser(rows / 2, quotient(cells, each)))
+    lesser(MOST_ROWS, lesser(rows / ROW_WIDTH, quotient(cells, each)))
 }
 
 // The start row gets number 0.
@@ -49,8 +51,8 @@ pub(crate) fn place_start(
 ) -> Progress
     requires { ⌜ CanPlaceStart starts weight (now marks) (now rows) (now pool) room ⌝ }
     ensures { λ r.
-        ⌜ StartPlaced starts weight room (now (marks .entry)) (now (marks .exit)) (now (rows .exit)) (now (pool .exit))
-        r ⌝ }
+        ⌜ StartPlaced codesSay starts weight room (now (marks .entry)) (now (marks .exit)) (now (rows .exit))
+        (now (pool .exit)) r ⌝ }
 {
     let span = mark_starts(starts, weight, marks);
     let none = Progress {
@@ -75,7 +77,7 @@ pub(crate) fn fill_tables(
 ) -> Progress
     requires { ⌜ CanBuild (ruleIn head (now edges)) scale (now marks) (now cells) (now rows) (now pool) ⌝ }
     ensures { λ r.
-        ⌜ AllFilled (ruleIn head (now (edges .entry)))
+        ⌜ AllFilled codesSay (ruleIn head (now (edges .entry)))
         (rowRoom (ruleIn head (now (edges .entry))) (length (now (cells .entry))) (length (now (rows .entry))))
         (now (marks .entry)) (now (marks .exit)) (now (cells .entry)) (now (cells .exit)) (now (rows .exit))
         (now (pool .exit)) r ⌝ }
@@ -125,7 +127,7 @@ pub(crate) fn not_built(number: u8, place: usize) -> Building
 }
 
 pub(crate) fn built_from(head: Head, scale: Scale, p: Progress) -> Built
-    requires { ⌜ (p .rows ≤ 4096) × (p .total ≤ 65536 * 4096) ⌝ }
+    requires { ⌜ (p .rows ≤ mostRows) × (p .total ≤ mostPairs * mostRows) ⌝ }
     ensures { λ r. ⌜ r ≡ builtFrom head scale p ⌝ }
 {
     Built {
@@ -145,9 +147,9 @@ pub(crate) fn clear_tables(cells: &mut [u32], rows: &mut [u32], pool: &mut [u32]
         × (now (rows .exit) ≡ zeros (length (now (rows .entry))))
         × (now (pool .exit) ≡ zeros (length (now (pool .entry)))) ⌝ }
 {
-    clear(cells);
-    clear(rows);
-    clear(pool);
+    clear32(cells);
+    clear32(rows);
+    clear32(pool);
 }
 
 // 23 and 24 leave every table zero.
@@ -167,7 +169,7 @@ pub(crate) fn build_in(
         ⌜ BuildsTable head (now (edges .entry)) (now (scratch .entry)) (now (scratch .exit)) (now (cells .entry))
         (now (cells .exit)) (now (rows .entry)) (now (rows .exit)) (now (pool .entry)) (now (pool .exit)) r ⌝ }
 {
-    clear(scratch);
+    clear32(scratch);
     clear_tables(cells, rows, pool);
     let p = fill_tables(head, edges, scale, scratch, cells, rows, pool);
     if p.number != 0 {

@@ -1,27 +1,31 @@
 // Cells, by row, symbol and interval; the rows that they lead to are numbered as they are found.
 ghost use mathlib.Core.Path.{_≡_};
-ghost use Prim.Native.Nat.{_+_, _*_, _<_};
+ghost use Prim.Native.Nat.{_+_, _*_, _^_, _<_};
 ghost use Rattle.model.specs.Basics.{oneIf};
-ghost use Rattle.model.specs.Construction.{width};
+ghost use Rattle.model.specs.Construction.{mostRows};
 ghost use Rattle.model.specs.Layout.{ruleIn};
+ghost use Rattle.model.specs.Tables.{codesSay};
 ghost use Rattle.construct.specs.Leaving.{Linked};
 ghost use Rattle.construct.specs.Rows.{rowsIn};
 ghost use Rattle.construct.specs.Cells.{CanLeave, CellMade, CanFill, SymbolFilled, RowFilled, CanFillAll};
 ghost use Rattle.construct.specs.Cells.{AllFilled};
 use crate::Filled;
 use crate::Progress;
-use crate::lent::narrow32;
 use crate::marks::mark_next;
 use crate::rows::place_marks;
-use edges::wide32;
 use model::Head;
+use numbers::narrow32;
+use numbers::part_of;
+use numbers::wide8;
+use numbers::wide32;
 use pairs::Input;
 use pairs::Scale;
-use pairs::numbers::wide8;
+use tables::row_length;
+use tables::row_start;
 
 // Next row · 2, plus 1 if the timer is reset.
 pub(crate) fn cell_of(row: usize, timer: bool) -> u32
-    requires { ⌜ row < 4096 ⌝ }
+    requires { ⌜ row < mostRows ⌝ }
     ensures { λ r. ⌜ r ≡ 2 * row + oneIf timer ⌝ }
 {
     if timer {
@@ -43,16 +47,18 @@ pub(crate) fn make_cell(
     pool: &mut [u32],
     p: Progress,
 ) -> Filled
-    requires { ⌜ CanLeave (ruleIn head (now edges)) scale (now marks) (now rows) (now pool) p row ⌝ }
+    requires { ⌜ CanLeave codesSay (ruleIn head (now edges)) scale (now marks) (now rows) (now pool) p row ⌝ }
     requires { ⌜ Linked (ruleIn head (now edges)) (now links) ⌝ }
     ensures { λ r.
-        ⌜ CellMade (ruleIn head (now (edges .entry))) row input
+        ⌜ CellMade codesSay (ruleIn head (now (edges .entry))) row input
         (rowsIn (p .rows) (now (rows .entry)) (now (pool .entry))) (p .room) (now (marks .entry)) (now (marks .exit))
         (now (rows .exit)) (now (pool .exit)) r ⌝ }
 {
-    let start = wide32(rows[2 * row]);
-    let end = start + wide32(rows[2 * row + 1]);
-    let marked = mark_next(head, edges, links, scale, input, &pool[start..end], marks);
+    let number = narrow32(row);
+    let start = row_start(rows, number);
+    let size = row_length(rows, number);
+    let codes = part_of(pool, start, size);
+    let marked = mark_next(head, edges, links, scale, input, codes, marks);
     let placed = place_marks(marks, marked.span, rows, pool, p);
     let progress = placed.progress;
     Filled {
@@ -63,7 +69,7 @@ pub(crate) fn make_cell(
 
 // The place of a row's first cell at a symbol: (row · S + symbol) · W.
 pub(crate) fn place_of(row: usize, symbols: usize, symbol: usize, width: usize) -> usize
-    requires { ⌜ (row < 4096) × (symbols < 65536) × (symbol < 65536) × (width < 65536) ⌝ }
+    requires { ⌜ (row < mostRows) × (symbols < 2 ^ 16) × (symbol < 2 ^ 16) × (width < 2 ^ 16) ⌝ }
     ensures { λ r. ⌜ r ≡ (row * symbols + symbol) * width ⌝ }
 {
     (row * symbols + symbol) * width
@@ -83,11 +89,11 @@ pub(crate) fn fill_symbol(
     pool: &mut [u32],
     p: Progress,
 ) -> Progress
-    requires { ⌜ CanFill (ruleIn head (now edges)) scale (now marks) (now cells) (now rows) (now pool) p row ⌝ }
+    requires { ⌜ CanFill codesSay (ruleIn head (now edges)) scale (now marks) (now cells) (now rows) (now pool) p row ⌝ }
     requires { ⌜ symbol < head .symbols ⌝ }
     requires { ⌜ Linked (ruleIn head (now edges)) (now links) ⌝ }
     ensures { λ r.
-        ⌜ SymbolFilled (ruleIn head (now (edges .entry))) row symbol
+        ⌜ SymbolFilled codesSay (ruleIn head (now (edges .entry))) row symbol
         (rowsIn (p .rows) (now (rows .entry)) (now (pool .entry))) (p .room) (now (marks .entry)) (now (marks .exit))
         (now (cells .entry)) (now (cells .exit)) (now (rows .exit)) (now (pool .exit)) r ⌝ }
 {
@@ -135,10 +141,10 @@ pub(crate) fn fill_row(
     pool: &mut [u32],
     p: Progress,
 ) -> Progress
-    requires { ⌜ CanFill (ruleIn head (now edges)) scale (now marks) (now cells) (now rows) (now pool) p row ⌝ }
+    requires { ⌜ CanFill codesSay (ruleIn head (now edges)) scale (now marks) (now cells) (now rows) (now pool) p row ⌝ }
     requires { ⌜ Linked (ruleIn head (now edges)) (now links) ⌝ }
     ensures { λ r.
-        ⌜ RowFilled (ruleIn head (now (edges .entry))) row
+        ⌜ RowFilled codesSay (ruleIn head (now (edges .entry))) row
         (rowsIn (p .rows) (now (rows .entry)) (now (pool .entry))) (p .room) (now (marks .entry)) (now (marks .exit))
         (now (cells .entry)) (now (cells .exit)) (now (rows .exit)) (now (pool .exit)) r ⌝ }
 {
@@ -178,10 +184,10 @@ pub(crate) fn fill_rows(
     pool: &mut [u32],
     p: Progress,
 ) -> Progress
-    requires { ⌜ CanFillAll (ruleIn head (now edges)) scale (now marks) (now cells) (now rows) (now pool) p ⌝ }
+    requires { ⌜ CanFillAll codesSay (ruleIn head (now edges)) scale (now marks) (now cells) (now rows) (now pool) p ⌝ }
     requires { ⌜ Linked (ruleIn head (now edges)) (now links) ⌝ }
     ensures { λ r.
-        ⌜ AllFilled (ruleIn head (now (edges .entry))) (p .room) (now (marks .entry)) (now (marks .exit))
+        ⌜ AllFilled codesSay (ruleIn head (now (edges .entry))) (p .room) (now (marks .entry)) (now (marks .exit))
         (now (cells .entry)) (now (cells .exit)) (now (rows .exit)) (now (pool .exit)) r ⌝ }
 {
     let mut progress = p;

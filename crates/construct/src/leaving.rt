@@ -9,31 +9,40 @@ ghost use Rattle.model.specs.Layout.{ruleIn};
 ghost use Rattle.model.specs.Construction.{pairResets, rowResets};
 ghost use Rattle.pairs.specs.Pairs.{Scaled};
 ghost use Rattle.construct.specs.Leaving.{firstLink, nextPlace, Linked};
-use crate::lent::narrow16;
-use crate::lent::narrow32;
-use edges::number_at;
-use edges::wide32;
+use edges::fields::source_of;
+use edges::fields::symbol_of;
 use model::Head;
+use model::MOST_LOCATIONS;
+use model::MOST_SYMBOLS;
+use numbers::narrow16;
+use numbers::narrow32;
+use numbers::number_at;
+use numbers::wide32;
 use pairs::Input;
 use pairs::Scale;
 use pairs::codes::unpack;
 use pairs::resets::edge_resets;
 
-// Places 16 · location + symbol: the first edge that leaves there. Places 512 + e: the next after edge e that leaves
-// where it does, on its symbol.
-pub(crate) fn link_edges(head: Head, edges: &[u16]) -> [u16; 768]
+// Links in all: to the first edge that leaves each location on each symbol, then from each edge to the next like it.
+pub(crate) const FIRST_LINKS: usize = 512;
+
+pub(crate) const LINK_COUNT: usize = 768;
+
+// Places MOST_SYMBOLS · location + symbol: the first edge that leaves there. Places FIRST_LINKS + e: the next after
+// edge e that leaves where it does, on its symbol.
+pub(crate) fn link_edges(head: Head, edges: &[u16]) -> [u16; LINK_COUNT]
     requires { ⌜ validRule (ruleIn head (now edges)) ≡ true ⌝ }
     ensures { λ r. ⌜ Linked (ruleIn head (now (edges .entry))) r ⌝ }
 {
-    let mut e = wide32(head.count);
-    let none = narrow16(e);
-    let mut links = [none; 768];
+    let none = narrow16(wide32(head.count));
+    let mut links = [none; LINK_COUNT];
+    let mut e = head.count;
     while 0 < e {
         e -= 1;
-        let at = 29 * e;
-        let first = 16 * number_at(edges, at) + number_at(edges, at + 2);
-        links[512 + e] = links[first];
-        links[first] = narrow16(e);
+        let first = MOST_SYMBOLS * source_of(edges, e) + symbol_of(edges, e);
+        let at = wide32(e);
+        links[FIRST_LINKS + at] = links[first];
+        links[first] = narrow16(at);
     }
     links
 }
@@ -42,20 +51,20 @@ pub(crate) fn link_edges(head: Head, edges: &[u16]) -> [u16; 768]
 pub(crate) fn first_edge(links: &[u16], count: u32, location: usize, symbol: u32) -> u32
     ensures { λ r. ⌜ r ≡ firstLink count location symbol (now (links .entry)) ⌝ }
 {
-    if 31 < location {
+    if MOST_LOCATIONS <= location {
         return count;
     }
-    if 15 < symbol {
+    if MOST_SYMBOLS as u32 <= symbol {
         return count;
     }
-    narrow32(number_at(links, 16 * location + wide32(symbol)))
+    narrow32(number_at(links, MOST_SYMBOLS * location + wide32(symbol)))
 }
 
 // The next edge after `e` that leaves where it does, on its symbol.
 pub(crate) fn next_edge(links: &[u16], e: u32) -> u32
     ensures { λ r. ⌜ r ≡ getD (now (links .entry)) (nextPlace e) 0 ⌝ }
 {
-    narrow32(number_at(links, 512 + wide32(e)))
+    narrow32(number_at(links, FIRST_LINKS + wide32(e)))
 }
 
 // Does the pair of a code allow an edge that resets a clock?

@@ -9,7 +9,6 @@ use rule::check_rule;
 mod build;
 mod cells;
 mod leaving;
-mod lent;
 mod marks;
 mod rows;
 
@@ -27,7 +26,7 @@ pub(crate) struct Marked {
 
 // Where a set of codes is found among the rows already numbered.
 pub(crate) enum Found {
-    At(usize),
+    At(u32),
     Nothing,
 }
 

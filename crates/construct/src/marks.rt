@@ -13,15 +13,16 @@ use crate::Span;
 use crate::leaving::first_edge;
 use crate::leaving::next_edge;
 use crate::leaving::row_resets;
-use crate::lent::narrow32;
-use edges::wide32;
 use model::Head;
+use model::MOST_LOCATIONS;
+use numbers::has_bit;
+use numbers::narrow32;
+use numbers::wide32;
 use pairs::Input;
 use pairs::Scale;
 use pairs::codes::unpack;
 use pairs::guards::allows;
 use pairs::moves::target;
-use pairs::numbers::has;
 
 // Marks a code.
 pub(crate) fn mark(marks: &mut [u32], span: Span, code: usize) -> Span
@@ -68,10 +69,11 @@ pub(crate) fn mark_starts(starts: u32, weight: u32, marks: &mut [u32]) -> Span
         low: marks.len(),
         past: 0,
     };
-    let mut location: usize = 32;
+    let mask = wide32(starts);
+    let mut location = MOST_LOCATIONS;
     while 0 < location {
         location -= 1;
-        if has(starts, location) {
+        if has_bit(mask, location) {
             let code = location * wide32(weight);
             span = mark(marks, span, code);
         }

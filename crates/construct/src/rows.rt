@@ -2,34 +2,39 @@
 ghost use mathlib.Core.Path.{_≡_};
 ghost use mathlib.Core.List.{_∷_, _++_, []};
 ghost use Prim.Native.Nat.{_+_, _≤_};
-ghost use Rattle.construct.specs.Lent.{laid};
 ghost use lib.ListN.{length};
+ghost use Rattle.numbers.specs.Lent.{laid};
 ghost use Rattle.model.specs.Rules.{mostPairs};
 ghost use Rattle.model.specs.Construction.{numberOf, withRow};
+ghost use Rattle.model.specs.Tables.{codesSay};
 ghost use Rattle.construct.specs.Marks.{codesIn, InSpan};
 ghost use Rattle.construct.specs.Rows.{rowsIn, foundIn, Within, Held, Numbered, MarksNumbered};
 use crate::Found;
 use crate::Placed;
 use crate::Progress;
 use crate::Span;
-use crate::lent::clear;
-use crate::lent::narrow32;
 use crate::marks::gather;
-use edges::wide32;
+use model::ROW_LENGTH;
+use model::ROW_WIDTH;
+use numbers::clear32;
+use numbers::narrow32;
+use numbers::wide32;
+use tables::row_length;
+use tables::row_start;
 
 // The first row that holds exactly `codes`.
-pub(crate) fn find_row(rows: &[u32], pool: &[u32], count: usize, codes: &[u32]) -> Found
+pub(crate) fn find_row(rows: &[u32], pool: &[u32], count: u32, codes: &[u32]) -> Found
     requires { ⌜ Within count (now rows) (now pool) ⌝ }
     ensures { λ r. ⌜ r ≡ foundIn (now (codes .entry)) (rowsIn count (now (rows .entry)) (now (pool .entry))) ⌝ }
 {
-    let mut row: usize = 0;
+    let mut row: u32 = 0;
     loop {
         if count <= row {
             break Found::Nothing;
         }
-        let start = wide32(rows[2 * row]);
-        let size = wide32(rows[2 * row + 1]);
+        let size = row_length(rows, row);
         if size == codes.len() {
+            let start = row_start(rows, row);
             let mut j: usize = 0;
             'codes: while j < size {
                 if pool[start + j] != codes[j] {
@@ -59,10 +64,10 @@ pub(crate) fn copy_codes(codes: &[u32], pool: &mut [u32], at: usize)
 
 // Gives `codes` the next number: 23 where there is no room for it, else 24 where the pool is too short.
 pub(crate) fn add_row(codes: &[u32], rows: &mut [u32], pool: &mut [u32], p: Progress) -> Placed
-    requires { ⌜ Held (now rows) (now pool) p ⌝ }
+    requires { ⌜ Held codesSay (now rows) (now pool) p ⌝ }
     requires { ⌜ length (now codes) ≤ mostPairs ⌝ }
     ensures { λ r.
-        ⌜ Numbered (p .room)
+        ⌜ Numbered codesSay (p .room)
         (rowsIn (p .rows) (now (rows .entry)) (now (pool .entry)) ++ (now (codes .entry) ∷ [])) (p .rows)
         (now (rows .exit)) (now (pool .exit)) r ⌝ }
 {
@@ -91,8 +96,8 @@ pub(crate) fn add_row(codes: &[u32], rows: &mut [u32], pool: &mut [u32], p: Prog
             },
         };
     }
-    rows[2 * row] = narrow32(total);
-    rows[2 * row + 1] = narrow32(codes.len());
+    rows[ROW_WIDTH * row] = narrow32(total);
+    rows[ROW_WIDTH * row + ROW_LENGTH] = narrow32(codes.len());
     copy_codes(codes, pool, total);
     Placed {
         row,
@@ -107,19 +112,23 @@ pub(crate) fn add_row(codes: &[u32], rows: &mut [u32], pool: &mut [u32], p: Prog
 
 // The number of the row that holds `codes`: if an equal set has a number that one, else the next.
 pub(crate) fn place_row(codes: &[u32], rows: &mut [u32], pool: &mut [u32], p: Progress) -> Placed
-    requires { ⌜ Held (now rows) (now pool) p ⌝ }
+    requires { ⌜ Held codesSay (now rows) (now pool) p ⌝ }
     requires { ⌜ length (now codes) ≤ mostPairs ⌝ }
     ensures { λ r.
-        ⌜ Numbered (p .room)
+        ⌜ Numbered codesSay (p .room)
         (withRow (now (codes .entry)) (rowsIn (p .rows) (now (rows .entry)) (now (pool .entry))))
         (numberOf (now (codes .entry)) (rowsIn (p .rows) (now (rows .entry)) (now (pool .entry))))
         (now (rows .exit)) (now (pool .exit)) r ⌝ }
 {
-    let found = find_row(rows, pool, p.rows, codes);
+    let count = narrow32(p.rows);
+    let found = find_row(rows, pool, count, codes);
     let Found::At(row) = found else {
         return add_row(codes, rows, pool, p);
     };
-    Placed { row, progress: p }
+    Placed {
+        row: wide32(row),
+        progress: p,
+    }
 }
 
 // The number of the row that is marked; the marks are zero again.
@@ -131,15 +140,15 @@ pub(crate) fn place_marks(
     p: Progress,
 ) -> Placed
     requires { ⌜ InSpan (now marks) span ⌝ }
-    requires { ⌜ Held (now rows) (now pool) p ⌝ }
+    requires { ⌜ Held codesSay (now rows) (now pool) p ⌝ }
     ensures { λ r.
-        ⌜ MarksNumbered (p .room)
+        ⌜ MarksNumbered codesSay (p .room)
         (withRow (codesIn (now (marks .entry))) (rowsIn (p .rows) (now (rows .entry)) (now (pool .entry))))
         (numberOf (codesIn (now (marks .entry))) (rowsIn (p .rows) (now (rows .entry)) (now (pool .entry))))
         (now (marks .entry)) (now (marks .exit)) (now (rows .exit)) (now (pool .exit)) r ⌝ }
 {
     let count = gather(marks, span);
     let placed = place_row(&marks[..count], rows, pool, p);
-    clear(&mut marks[..count]);
+    clear32(&mut marks[..count]);
     placed
 }

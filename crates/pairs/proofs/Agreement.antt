@@ -9,7 +9,7 @@ use lib.Dec.{eqb}
 use lib.ListN.{take}
 use lib.Seq.{getD-take}
 use Rattle.model.specs.Basics.{pick, quotient, remainder, bit}
-use Rattle.model.specs.Rules.{Atom, Edge, Rule, cm, baseCount}
+use Rattle.model.specs.Rules.{Atom, Edge, Rule, cm, baseCount, mostClocks}
 use Rattle.model.specs.Runs.{zeroedFrom, zeroed}
 use Rattle.model.specs.Construction.{regionOf, regionRelated, regionsHold, digitsOf, digitsCode, codeOf, locationOf}
 use Rattle.model.specs.Construction.{basesOf, allows, advanced, targetOf}
@@ -63,7 +63,7 @@ module _ {r : Rule} {z : Scale} (scaled : Scaled r z) where
   unfolding basesOf
   bases-are x =
       rw (radix-is, scaled .weight-is)
-      (digits-take (r .clocks) 4 (baseCount r) (remainder x (baseCount r ^ r .clocks)) (scaled .clocks-most))
+      (digits-take (r .clocks) mostClocks (baseCount r) (remainder x (baseCount r ^ r .clocks)) (scaled .clocks-most))
 
   pub allows-is :
       (at : Input) (x : ℕ) (e : Edge) → EdgeIn r e

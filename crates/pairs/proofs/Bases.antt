@@ -4,25 +4,19 @@ use mathlib.Core.Bool.{Bool, true, false}
 use mathlib.Core.List.{List, [], _∷_, _++_, append-assoc, append-nil}
 use Prim.Native.Nat.{ℕ, suc, _+_, _-_, _*_, _/_, _%_, _^_, _≤_, _<_}
 use native.Mathlib.Omega.{arith}
-use native.Mathlib.Nat.{div-eq-of-lt, pow-le-pow-right, pow-le-pow-left, pow-zero, pow-suc, le-trans, mul-le-mul}
+use native.Mathlib.Nat.{pow-le-pow-right, pow-le-pow-left, pow-zero, pow-suc, le-trans, mul-le-mul}
 use native.Mathlib.Numerals.{add-one}
 use lib.ListN.{length, getD, set, take, drop, length-set}
 use lib.Seq.{take-suc-set, drop-cons, take-length, drop-length, take-nil}
 use borrow.Author.Tests.{lt-ltb, le-ltb}
 use Rattle.model.specs.Basics.{pick, bit, quotient, remainder}
+use Rattle.model.specs.Rules.{mostClocks}
 use Rattle.model.specs.Runs.{zeroedFrom}
 use Rattle.model.specs.Construction.{digitsCode, digitsOf, advanced}
 use Rattle.model.proofs.Logic.{quotient-is, remainder-is}
 use Rattle.pairs.specs.declared.Scale.{Scale}
 use Rattle.pairs.specs.declared.Pair.{Pair}
 use Rattle.pairs.specs.Pairs.{unpacked, packed, advancedBase, movedBase, movedBases}
-
--- no bit of a 32-bit mask stands past its width
-pub no-bit : (mask place : ℕ) → mask < 2 ^ 32 → 31 < place → false ≡ bit place mask
-no-bit mask place h g =
-    let p : 2 ^ 32 ≤ 2 ^ place = pow-le-pow-right {n = 2} (omega arith) {i = 32} {j = place} (omega arith) in
-    let q : mask < 2 ^ place = omega arith in
-    rw (div-eq-of-lt q)
 
 -- a base brought forward
 pub advanced-above :
@@ -52,20 +46,20 @@ moved-kept mask k timer c i b e t = rw (e, t)
 
 -- The digits taken off so far, with those still to come, are the digits of the number.
 pub record Taking (m x k rest : ℕ) (bases : List ℕ) : Type 0 where
-  pub turns : k ≤ 4
-  pub long : length bases ≡ 4
-  pub all-are : take k bases ++ digitsOf (4 - k) m rest ≡ digitsOf 4 m x
+  pub turns : k ≤ mostClocks
+  pub long : length bases ≡ mostClocks
+  pub all-are : take k bases ++ digitsOf (mostClocks - k) m rest ≡ digitsOf mostClocks m x
 
-pub taking-start : (m x : ℕ) (bases : List ℕ) → length bases ≡ 4 → Taking m x 0 x bases
+pub taking-start : (m x : ℕ) (bases : List ℕ) → length bases ≡ mostClocks → Taking m x 0 x bases
 taking-start m x bases h = record { turns = omega arith; long = h; all-are = refl }
 
 module _ {m x k rest : ℕ} {bases : List ℕ} (inv : Taking m x k rest bases) where
   pub taking-next :
-      (digit : ℕ) → 0 < m → k < 4 → digit ≡ rest % m
+      (digit : ℕ) → 0 < m → k < mostClocks → digit ≡ rest % m
       → Taking m x (k + 1) (rest / m) (set bases k digit)
   taking-next digit p h e =
-      let a : 4 - k ≡ suc (4 - (k + 1)) = omega arith in
-      let to-come : List ℕ = digitsOf (4 - (k + 1)) m (rest / m) in
+      let a : mostClocks - k ≡ suc (mostClocks - (k + 1)) = omega arith in
+      let to-come : List ℕ = digitsOf (mostClocks - (k + 1)) m (rest / m) in
       let front : take (k + 1) (set bases k digit) ≡ take k bases ++ (digit ∷ []) =
       rw (add-one k) (take-suc-set bases k digit (omega (arith, inv .long))) in
       record {
@@ -77,23 +71,23 @@ module _ {m x k rest : ℕ} {bases : List ℕ} (inv : Taking m x k rest bases) w
             (rw a at (inv .all-are)));
       }
 
-  pub taking-end : 4 ≤ k → bases ≡ digitsOf 4 m x
+  pub taking-end : mostClocks ≤ k → bases ≡ digitsOf mostClocks m x
   taking-end h =
       let e : k ≡ length bases = omega (arith, inv .turns, inv .long) in
-      let z : 4 - k ≡ 0 = omega arith in
+      let z : mostClocks - k ≡ 0 = omega arith in
       sym (take-length bases) ∙ (sym (append-nil (take (length bases) bases)) ∙ (rw (z, e) at (inv .all-are)))
 
 -- The bases moved so far, with those still to come, are the bases at the target.
 pub record Moving (mask : ℕ) (timer : Bool) (c i k : ℕ) (bases next : List ℕ) : Type 0 where
-  pub turns : k ≤ 4
-  pub long : length bases ≡ 4
-  pub next-long : length next ≡ 4
+  pub turns : k ≤ mostClocks
+  pub long : length bases ≡ mostClocks
+  pub next-long : length next ≡ mostClocks
   pub all-are :
       take k next ++ zeroedFrom k mask (pick timer (advanced c i (drop k bases)) (drop k bases))
       ≡ movedBases mask timer c i bases
 
 pub moving-start :
-    (mask : ℕ) (timer : Bool) (c i : ℕ) (bases next : List ℕ) → length bases ≡ 4 → length next ≡ 4
+    (mask : ℕ) (timer : Bool) (c i : ℕ) (bases next : List ℕ) → length bases ≡ mostClocks → length next ≡ mostClocks
     → Moving mask timer c i 0 bases next
 moving-start mask timer c i bases next h g = record { turns = omega arith; long = h; next-long = g; all-are = refl }
 
@@ -120,7 +114,7 @@ moved-rest mask timer c i k bases h =
 
 module _ {mask : ℕ} {timer : Bool} {c i k : ℕ} {bases next : List ℕ} (inv : Moving mask timer c i k bases next) where
   pub moving-next :
-      (b : ℕ) → k < 4 → b ≡ movedBase mask k timer c i (getD bases k 0)
+      (b : ℕ) → k < mostClocks → b ≡ movedBase mask k timer c i (getD bases k 0)
       → Moving mask timer c i (k + 1) bases (set next k b)
   moving-next b h e =
       let front : take (k + 1) (set next k b) ≡ take k next ++ (b ∷ []) =
@@ -137,7 +131,7 @@ module _ {mask : ℕ} {timer : Bool} {c i k : ℕ} {bases next : List ℕ} (inv 
             (rw (← moved-rest mask timer c i k bases inside) (inv .all-are));
       }
 
-  pub moving-end : 4 ≤ k → next ≡ movedBases mask timer c i bases
+  pub moving-end : mostClocks ≤ k → next ≡ movedBases mask timer c i bases
   moving-end h =
       let e : k ≡ length next = omega (arith, inv .turns, inv .next-long) in
       let z : k ≡ length bases = omega (arith, inv .turns, inv .long) in
@@ -147,14 +141,14 @@ module _ {mask : ℕ} {timer : Bool} {c i k : ℕ} {bases next : List ℕ} (inv 
 
 -- The code so far, with the bases still to come, is the code of the location and the bases.
 pub record Packing (m clocks k place code whole : ℕ) (bases : List ℕ) : Type 0 where
-  pub turns : k ≤ 4
-  pub long : length bases ≡ 4
+  pub turns : k ≤ mostClocks
+  pub long : length bases ≡ mostClocks
   pub place-is : place ≡ m ^ k
   pub code-most : code ≤ 2 ^ 49 + 2 ^ 45 * k
   pub rest-is : code + place * digitsCode m (take (clocks - k) (drop k bases)) ≡ whole
 
 pub packing-start :
-    (m clocks first : ℕ) (bases : List ℕ) → length bases ≡ 4 → first ≤ 2 ^ 49
+    (m clocks first : ℕ) (bases : List ℕ) → length bases ≡ mostClocks → first ≤ 2 ^ 49
     → Packing m clocks 0 1 first (first + digitsCode m (take clocks bases)) bases
 packing-start m clocks first bases h g =
     let z : clocks - 0 ≡ clocks = omega arith in
@@ -185,14 +179,14 @@ digits-none m clocks k bases h = let a : clocks - k ≡ 0 = omega arith in rw a
 
 module _ {m clocks k place code whole : ℕ} {bases : List ℕ} (inv : Packing m clocks k place code whole bases) where
   pub packing-next :
-      (digit next : ℕ) → k < 4 → k < clocks → m ≤ 257 → digit < 65536 → digit ≡ getD bases k 0
+      (digit next : ℕ) → k < mostClocks → k < clocks → m ≤ 257 → digit < 2 ^ 16 → digit ≡ getD bases k 0
       → next ≡ code + place * digit
       → Packing m clocks (k + 1) (place * m) next whole bases
   packing-next digit next h g w d e n =
       let rest : ℕ = digitsCode m (take (clocks - (k + 1)) (drop (k + 1) bases)) in
       let small : place ≤ 257 ^ 3 = rw (inv .place-is) (place-most m k w (omega arith)) in
-      let digit-most : digit ≤ 65536 = omega arith in
-      let fits : place * digit ≤ 257 ^ 3 * 65536 = mul-le-mul small digit-most in
+      let digit-most : digit ≤ 2 ^ 16 = omega arith in
+      let fits : place * digit ≤ 257 ^ 3 * 2 ^ 16 = mul-le-mul small digit-most in
       record {
         turns = omega arith;
         long = inv .long;
@@ -208,7 +202,7 @@ module _ {m clocks k place code whole : ℕ} {bases : List ℕ} (inv : Packing m
       again p m c d r = omega arith
 
   pub packing-skip :
-      (next : ℕ) → k < 4 → clocks ≤ k → next ≡ code → Packing m clocks (k + 1) (place * m) next whole bases
+      (next : ℕ) → k < mostClocks → clocks ≤ k → next ≡ code → Packing m clocks (k + 1) (place * m) next whole bases
   packing-skip next h g e =
       let done : code + place * 0 ≡ whole = rw (digits-none m clocks k bases g) at (inv .rest-is) in
       record {
@@ -219,7 +213,7 @@ module _ {m clocks k place code whole : ℕ} {bases : List ℕ} (inv : Packing m
         rest-is = rw (e, digits-none m clocks (k + 1) bases (omega arith)) (omega arith);
       }
 
-  pub packing-end : 4 ≤ k → code ≡ whole
+  pub packing-end : mostClocks ≤ k → code ≡ whole
   packing-end h =
       let e : k ≡ length bases = omega (arith, inv .turns, inv .long) in
       let none : drop k bases ≡ [] = rw e (drop-length bases) in
@@ -232,7 +226,7 @@ pub unpack-is :
     → whole ≡ code
     → location ≡ quotient whole weight
     → rest ≡ remainder whole weight
-    → bases ≡ digitsOf 4 (top + 2) rest
+    → bases ≡ digitsOf mostClocks (top + 2) rest
     → _≡_ {A = Pair} (record { location = location; bases = bases }) (unpacked z code)
 unpack-is z code weight top whole location rest bases w t x l r b = rw (b, l, r, x, w, t)
 
@@ -244,24 +238,24 @@ pub pack-is :
 pack-is z location weight top clocks code bases w t k e = rw (← w, ← t, ← k) e
 
 -- the products of packing fit
-pub first-most : (location weight : ℕ) → location < 65536 → weight < 2 ^ 32 → location * weight ≤ 2 ^ 49
+pub first-most : (location weight : ℕ) → location < 2 ^ 16 → weight < 2 ^ 32 → location * weight ≤ 2 ^ 49
 first-most location weight h g =
-    let a : location ≤ 65536 = omega arith in
+    let a : location ≤ 2 ^ 16 = omega arith in
     let b : weight ≤ 2 ^ 32 = omega arith in
-    let p : location * weight ≤ 65536 * 2 ^ 32 = mul-le-mul a b in
+    let p : location * weight ≤ 2 ^ 16 * 2 ^ 32 = mul-le-mul a b in
     omega arith
 
 module _ {m clocks k place code whole : ℕ} {bases : List ℕ} (inv : Packing m clocks k place code whole bases) where
-  place-small : k < 4 → m ≤ 257 → place ≤ 257 ^ 3
+  place-small : k < mostClocks → m ≤ 257 → place ≤ 257 ^ 3
   place-small h w = rw (inv .place-is) (place-most m k w (omega arith))
 
-  pub digit-most : (digit : ℕ) → k < 4 → m ≤ 257 → digit < 65536 → place * digit ≤ 2 ^ 45
+  pub digit-most : (digit : ℕ) → k < mostClocks → m ≤ 257 → digit < 2 ^ 16 → place * digit ≤ 2 ^ 45
   digit-most digit h w d =
-      let b : digit ≤ 65536 = omega arith in
-      let p : place * digit ≤ 257 ^ 3 * 65536 = mul-le-mul (place-small h w) b in
+      let b : digit ≤ 2 ^ 16 = omega arith in
+      let p : place * digit ≤ 257 ^ 3 * 2 ^ 16 = mul-le-mul (place-small h w) b in
       omega arith
 
-  pub place-next : k < 4 → m ≤ 257 → place * m ≤ 2 ^ 45
+  pub place-next : k < mostClocks → m ≤ 257 → place * m ≤ 2 ^ 45
   place-next h w =
       let p : place * m ≤ 257 ^ 3 * 257 = mul-le-mul (place-small h w) w in
       omega arith

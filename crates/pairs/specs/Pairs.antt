@@ -7,7 +7,7 @@ use Prim.Native.Nat.{ℕ, suc, _+_, _*_, _/_, _^_, _≤_}
 use lib.Dec.{eqb, ltb, leb}
 use lib.ListN.{take}
 use Rattle.model.specs.Basics.{pick, quotient, remainder, bit}
-use Rattle.model.specs.Rules.{Edge, Rule, cm, baseCount}
+use Rattle.model.specs.Rules.{Edge, Rule, cm, baseCount, mostClocks}
 use Rattle.model.specs.Runs.{zeroed}
 use Rattle.model.specs.Construction.{regionsHold, digitsCode, digitsOf, advanced}
 use Rattle.pairs.specs.declared.Scale.{Scale}
@@ -17,7 +17,7 @@ use Rattle.pairs.specs.declared.Input.{Input}
 -- the numbers of a rule
 pub record Scaled (r : Rule) (z : Scale) : Type 0 where
   pub clocks-are : z .clocks ≡ r .clocks
-  pub clocks-most : r .clocks ≤ 4
+  pub clocks-most : r .clocks ≤ mostClocks
   pub top-is : z .top ≡ cm r
   pub weight-is : z .weight ≡ baseCount r ^ r .clocks
 
@@ -25,11 +25,11 @@ pub record Scaled (r : Rule) (z : Scale) : Type 0 where
 abbrev pub radix : Scale → ℕ
 radix z = z .top + 2
 
--- the pair of a code: four bases, those past the clocks unused
+-- the pair of a code: a base for each of the most clocks, those past the clocks unused
 abbrev pub unpacked : Scale → ℕ → Pair
 unpacked z code = record {
   location = quotient code (z .weight);
-  bases = digitsOf 4 (radix z) (remainder code (z .weight));
+  bases = digitsOf mostClocks (radix z) (remainder code (z .weight));
 }
 
 -- the code of a pair

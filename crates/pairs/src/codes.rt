@@ -1,15 +1,16 @@
 // Codes and pairs: location · (cm + 2)^K plus the sum of base(k) · (cm + 2)^k, and back.
 ghost use mathlib.Core.Path.{_≡_};
-ghost use Prim.Native.Nat.{_<_};
+ghost use Prim.Native.Nat.{_^_, _<_};
 ghost use Rattle.pairs.specs.Pairs.{unpacked, packed};
 use crate::Pair;
 use crate::Scale;
-use crate::numbers::narrow16;
-use crate::numbers::quotient;
-use crate::numbers::remainder;
-use crate::numbers::wide8;
-use edges::wide16;
-use edges::wide32;
+use model::MOST_CLOCKS;
+use numbers::narrow16;
+use numbers::quotient;
+use numbers::remainder;
+use numbers::wide8;
+use numbers::wide16;
+use numbers::wide32;
 
 // The pair that a code stands for.
 pub fn unpack(scale: Scale, code: u32) -> Pair
@@ -20,9 +21,9 @@ pub fn unpack(scale: Scale, code: u32) -> Pair
     let whole = wide32(code);
     let location = quotient(whole, weight);
     let mut rest = remainder(whole, weight);
-    let mut bases = [0u16; 4];
+    let mut bases = [0u16; MOST_CLOCKS];
     let mut k: usize = 0;
-    while k < 4 {
+    while k < MOST_CLOCKS {
         bases[k] = narrow16(rest % radix);
         rest = rest / radix;
         k += 1;
@@ -31,8 +32,8 @@ pub fn unpack(scale: Scale, code: u32) -> Pair
 }
 
 // The code of a location and bases.
-pub(crate) fn pack(scale: Scale, location: usize, bases: [u16; 4]) -> usize
-    requires { ⌜ location < 65536 ⌝ }
+pub(crate) fn pack(scale: Scale, location: usize, bases: [u16; MOST_CLOCKS]) -> usize
+    requires { ⌜ location < 2 ^ 16 ⌝ }
     ensures { λ r. ⌜ r ≡ packed scale location bases ⌝ }
 {
     let weight = wide32(scale.weight);
@@ -41,7 +42,7 @@ pub(crate) fn pack(scale: Scale, location: usize, bases: [u16; 4]) -> usize
     let mut code = location * weight;
     let mut place: usize = 1;
     let mut k: usize = 0;
-    while k < 4 {
+    while k < MOST_CLOCKS {
         if k < clocks {
             code = code + place * wide16(bases[k]);
         }

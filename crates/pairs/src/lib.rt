@@ -1,9 +1,10 @@
 // Pairs of a location and bases, their codes, and where edges lead from them.
 // Total: each number has the width that its range needs, and a base past the array is 0, as in the definitions.
+use model::MOST_CLOCKS;
+
 pub mod codes;
 pub mod guards;
 pub mod moves;
-pub mod numbers;
 pub mod resets;
 
 // What the codes of a rule's pairs are made by: the clocks, cm as `top`, and the weight of a location, (cm + 2)^K.
@@ -16,7 +17,7 @@ pub struct Scale {
 // A location with a base for each clock; a base is the clock's value at the last timer reset.
 pub struct Pair {
     pub location: usize,
-    pub bases: [u16; 4],
+    pub bases: [u16; MOST_CLOCKS],
 }
 
 // What a row is left by: a symbol, and the number of the timer's interval.

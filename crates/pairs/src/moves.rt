@@ -1,19 +1,18 @@
 // The target of a pair by an edge.
 ghost use mathlib.Core.Path.{_≡_};
-ghost use Prim.Native.Nat.{_*_};
-ghost use lib.ListN.{drop};
-ghost use Rattle.model.specs.Layout.{edgeIn, edgeWidth};
+ghost use Rattle.model.specs.Layout.{edgeAt};
 ghost use Rattle.pairs.specs.Pairs.{advancedBase, movedBase, movedBases, pairTarget};
 use crate::Pair;
 use crate::Scale;
 use crate::codes::pack;
-use crate::numbers::has;
-use crate::numbers::narrow16;
-use crate::numbers::wide8;
-use crate::resets::resets_of;
-use edges::number_at;
-use edges::wide16;
-use edges::wide32;
+use edges::fields::resets_of;
+use edges::fields::target_of;
+use model::MOST_CLOCKS;
+use numbers::has_bit;
+use numbers::narrow16;
+use numbers::wide8;
+use numbers::wide16;
+use numbers::wide32;
 
 // A base after interval [c] has passed, cut at "above cm".
 pub fn advance(top: u8, interval: u32, base: u16) -> u16
@@ -28,10 +27,10 @@ pub fn advance(top: u8, interval: u32, base: u16) -> u16
 }
 
 // The base of clock `k` at an edge's target: brought forward where the timer is reset, zero if the edge resets it.
-pub fn moved_base(mask: u32, k: usize, timer: bool, top: u8, interval: u32, base: u16) -> u16
+pub fn moved_base(mask: usize, k: usize, timer: bool, top: u8, interval: u32, base: u16) -> u16
     ensures { λ r. ⌜ r ≡ movedBase mask k timer top interval base ⌝ }
 {
-    if has(mask, k) {
+    if has_bit(mask, k) {
         return 0;
     }
     if timer {
@@ -40,12 +39,18 @@ pub fn moved_base(mask: u32, k: usize, timer: bool, top: u8, interval: u32, base
     base
 }
 
-pub fn moved(mask: u32, timer: bool, top: u8, interval: u32, bases: [u16; 4]) -> [u16; 4]
+pub fn moved(
+    mask: usize,
+    timer: bool,
+    top: u8,
+    interval: u32,
+    bases: [u16; MOST_CLOCKS],
+) -> [u16; MOST_CLOCKS]
     ensures { λ r. ⌜ r ≡ movedBases mask timer top interval bases ⌝ }
 {
-    let mut next = [0u16; 4];
+    let mut next = [0u16; MOST_CLOCKS];
     let mut k: usize = 0;
-    while k < 4 {
+    while k < MOST_CLOCKS {
         next[k] = moved_base(mask, k, timer, top, interval, bases[k]);
         k += 1;
     }
@@ -54,10 +59,9 @@ pub fn moved(mask: u32, timer: bool, top: u8, interval: u32, bases: [u16; 4]) ->
 
 // The code of the target of a pair by edge `e`.
 pub fn target(edges: &[u16], e: u32, scale: Scale, interval: u32, timer: bool, pair: Pair) -> usize
-    ensures { λ r. ⌜ r ≡ pairTarget scale interval timer pair (edgeIn (drop (edgeWidth * e) (now (edges .entry)))) ⌝ }
+    ensures { λ r. ⌜ r ≡ pairTarget scale interval timer pair (edgeAt e (now (edges .entry))) ⌝ }
 {
-    let at = 29 * wide32(e);
-    let location = number_at(edges, at + 1);
+    let location = target_of(edges, e);
     let mask = resets_of(edges, e);
     let bases = pair.bases;
     let next = moved(mask, timer, scale.top, interval, bases);

@@ -10,8 +10,8 @@ use Rattle.construct.proofs.Outcome.{builds-done, builds-unfit, builds-
 use Rattle.construct.proofs.build.build_in.Statement.{statement}
 use Rattle.construct.proofs.build.build_in.Tie as tie
 
-clear-requires : tie.Need-clear-requires
-clear-requires c κs = search needs
+clear32-requires : tie.Need-clear32-requires
+clear32-requires c κs = search needs
 
 clear-tables-requires : tie.Need-clear-tables-requires
 clear-tables-requires c κs = search needs
@@ -23,7 +23,7 @@ fill-tables-requires c κs =
     let s = after-clear .before .before .before .before .before .before .before in
     can-build (s .args .head) (s .args .edges .now) (s .args .scale) (s .args .scratch .now) _ (s .args .cells .now) _
     (s .args .rows .now) _ (s .args .pool .now) _ (s .pre .0) (s .pre .1 .0) (s .pre .1 .1)
-    (after-clear .clear .ensures)
+    (after-clear .clear32 .ensures)
     (after-clear-tables .clear-tables .ensures .0)
     (after-clear-tables .clear-tables .ensures .1)
     (after-clear-tables .clear-tables .ensures .2)
@@ -40,7 +40,7 @@ same-length c =
     .before .before .before .before .before .before .before .before .before .before in
     let after-clear = after-fill-tables .before .before .before .before .before .before .before .before .before
     .before .before .before .before .before .before .before .before in
-    after-fill-tables .fill-tables .kept .1 .1 .1 .0 ∙ after-clear .clear .kept .0
+    after-fill-tables .fill-tables .kept .1 .1 .1 .0 ∙ after-clear .clear32 .kept .0
 
 same-length-2 : tie.Need-same-length-2
 same-length-2 c =
@@ -89,7 +89,7 @@ returns c =
     (s .args .rows .now)
     (s .args .pool .now) (s .pre .0) (s .pre .1 .1) _ (s .pre .1 .0)
     (ap₂ (rowRoom (ruleIn (s .args .head) (s .args .edges .now))) (first .kept .0) (first .kept .1 .0))
-    (after-clear .clear .kept .0)
+    (after-clear .clear32 .kept .0)
     (first .kept .0)
     (fill .kept .1 .1 .1 .1 .1 .0 ∙ first .kept .1 .0)
     (fill .kept .1 .1 .1 .1 .1 .1 .0 ∙ first .kept .1 .1 .0)
@@ -114,7 +114,7 @@ same-length-5 c =
     let after-fill-tables = c .before .before .before .before .before .before .before .before .before .before .before in
     let after-clear = after-fill-tables .before .before .before .before .before .before .before .before .before
     .before .before .before .before .before .before .before .before in
-    after-fill-tables .fill-tables .kept .1 .1 .1 .0 ∙ after-clear .clear .kept .0
+    after-fill-tables .fill-tables .kept .1 .1 .1 .0 ∙ after-clear .clear32 .kept .0
 
 same-length-6 : tie.Need-same-length-6
 same-length-6 c = search needs
@@ -139,7 +139,7 @@ returns-2 c =
     (s .args .rows .now)
     (s .args .pool .now) (s .pre .0) (s .pre .1 .1) _ (s .pre .1 .0)
     (ap₂ (rowRoom (ruleIn (s .args .head) (s .args .edges .now))) (first .kept .0) (first .kept .1 .0))
-    (after-clear .clear .kept .0)
+    (after-clear .clear32 .kept .0)
     (first .kept .0)
     (fill .kept .1 .1 .1 .1 .1 .0 ∙ first .kept .1 .0)
     (fill .kept .1 .1 .1 .1 .1 .1 .0 ∙ first .kept .1 .1 .0)
@@ -151,7 +151,7 @@ pub build-in-spec : {M : Type 1} → statement M
 build-in-spec =
     tie.close
     (tie.spec
-    clear-requires
+    clear32-requires
     clear-tables-requires
     fill-tables-requires
     clear-tables-requires-2

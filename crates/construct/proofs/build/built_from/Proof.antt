@@ -22,9 +22,9 @@ returns c =
     let after-narrow32 = c .before .before in
     let after-wide8 = after-narrow32 .before in
     same-built _ _ _ _ _ _ _ _ _ _ _ _ _ _ refl refl refl
-    (after-narrow32 .narrow32 .ensures ∙ after-wide8 .wide8 .ensures .0) refl
-    (c .before .narrow322 .ensures)
-    (c .narrow323 .ensures)
+    (after-narrow32 .narrow32 .ensures .1 (search needs) ∙ after-wide8 .wide8 .ensures .0) refl
+    (c .before .narrow322 .ensures .1 (search needs))
+    (c .narrow323 .ensures .1 (search needs))
 
 pub built-from-spec : {M : Type 1} → statement M
 built-from-spec =

@@ -1,9 +1,10 @@
 -- `construct::build::fill_tables` meets its contract: the room, the start row, then all rows.
-use Prim.Native.Nat.{ℕ, _+_, _*_, _≤_}
+use Prim.Native.Nat.{ℕ, _+_, _*_, _^_, _≤_}
 use native.Mathlib.Nat.{mul-le-mul}
 use native.Mathlib.Omega.{arith}
 use lib.ListN.{length}
 use borrow.Author.Needs.{needs}
+use Rattle.model.specs.Rules.{mostSymbols}
 use Rattle.model.specs.Layout.{ruleIn}
 use Rattle.construct.proofs.Beginning.{room-few, room-rows, room-cells, room-of, each-is, start-refused}
 use Rattle.construct.proofs.Beginning.{start-fills, start-done}
@@ -27,10 +28,10 @@ add-each c = search needs
 mul-each-2 : tie.Need-mul-each-2
 mul-each-2 c =
     let s = c .before .before .before .before .before .before .before in
-    let few : c .before .wide32 .result ≤ 16 =
+    let few : c .before .wide32 .result ≤ mostSymbols =
     omega (arith, c .before .wide32 .ensures .0, symbols-few (s .args .head) (s .args .edges .now) (s .pre .ready)) in
-    let low : 2 * c .wide8 .result + 2 ≤ 512 = omega (arith, c .wide8 .ensures .1) in
-    let fits : c .before .wide32 .result * (2 * c .wide8 .result + 2) ≤ 16 * 512 = mul-le-mul few low in
+    let low : 2 * c .wide8 .result + 2 ≤ 2 ^ 9 = omega (arith, c .wide8 .ensures .1) in
+    let fits : c .before .wide32 .result * (2 * c .wide8 .result + 2) ≤ mostSymbols * 2 ^ 9 = mul-le-mul few low in
     omega arith
 
 row-room-requires : tie.Need-row-room-requires

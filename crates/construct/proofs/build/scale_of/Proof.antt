@@ -20,26 +20,10 @@ power-requires : tie.Need-power-requires
 power-requires c κs = search needs
 
 narrow8-requires : tie.Need-narrow8-requires
-narrow8-requires c κs =
-    let after-top-of = c .before .before in
-    let s = after-top-of .before .before in
-    omega (
-      arith,
-      top-most (s .args .head) (s .args .edges .now) (s .pre) (after-top-of .top-of .result)
-          (after-top-of .top-of .ensures),
-    )
+narrow8-requires c κs = search needs
 
 narrow32-requires : tie.Need-narrow32-requires
-narrow32-requires c κs =
-    let after-wide32 = c .before .before in
-    let after-top-of = after-wide32 .before in
-    let s = after-top-of .before .before in
-    omega (
-      arith,
-      weight-most (s .args .head) (s .args .edges .now) (s .pre) (after-top-of .top-of .result)
-          (after-wide32 .wide32 .result) (c .before .power .result) (after-top-of .top-of .ensures)
-          (after-wide32 .wide32 .ensures .0) (c .before .power .ensures),
-    )
+narrow32-requires c κs = search needs
 
 returns : tie.Need-returns
 returns c =
@@ -47,13 +31,20 @@ returns c =
     let after-wide32 = after-power .before in
     let after-top-of = after-wide32 .before in
     let s = after-top-of .before .before in
-    scaled-is (s .args .head) (s .args .edges .now) (s .pre) (after-top-of .top-of .result)
-    (after-wide32 .wide32 .result) (after-power .power .result) _ _
-    (after-top-of .top-of .ensures)
-    (after-wide32 .wide32 .ensures .0)
-    (after-power .power .ensures)
-    (c .before .narrow8 .ensures)
-    (c .narrow32 .ensures)
+    let top = after-top-of .top-of in
+    let clocks = after-wide32 .wide32 in
+    let weight = after-power .power in
+    let h = s .args .head in
+    let t = s .args .edges .now in
+    scaled-is h t (s .pre) (top .result) (clocks .result) (weight .result) _ _ (top .ensures) (clocks .ensures .0)
+    (weight .ensures)
+    (c .before .narrow8 .ensures .1 (omega (arith, top-most h t (s .pre) (top .result) (top .ensures))))
+    (c .narrow32 .ensures .1
+    (omega (
+      arith,
+      weight-most h t (s .pre) (top .result) (clocks .result) (weight .result) (top .ensures) (clocks .ensures .0)
+          (weight .ensures),
+    )))
 
 pub scale-of-spec : {M : Type 1} → statement M
 scale-of-spec =

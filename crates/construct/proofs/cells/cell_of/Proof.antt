@@ -14,7 +14,7 @@ narrow32-requires : tie.Need-narrow32-requires
 narrow32-requires c κs = search needs
 
 returns : tie.Need-returns
-returns c = cell-reset _ _ _ (c .before .if1 .taken) (c .narrow32 .ensures)
+returns c = cell-reset _ _ _ (c .before .if1 .taken) (c .narrow32 .ensures .1 (search needs))
 
 mul-narrow32-2 : tie.Need-mul-narrow32-2
 mul-narrow32-2 c = search needs
@@ -23,7 +23,7 @@ narrow32-requires-2 : tie.Need-narrow32-requires-2
 narrow32-requires-2 c κs = search needs
 
 returns-2 : tie.Need-returns-2
-returns-2 c = cell-kept _ _ _ (c .before .if1 .left) (c .narrow322 .ensures)
+returns-2 c = cell-kept _ _ _ (c .before .if1 .left) (c .narrow322 .ensures .1 (search needs))
 
 pub cell-of-spec : {M : Type 1} → statement M
 cell-of-spec =

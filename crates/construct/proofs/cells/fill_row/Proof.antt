@@ -4,6 +4,7 @@ use Prim.Native.Nat.{_-_}
 use lib.ListN.{length}
 use borrow.Author.Needs.{needs}
 use Rattle.model.specs.Layout.{ruleIn}
+use Rattle.model.specs.Tables.{codesSay}
 use Rattle.construct.proofs.RowFilling.{FillingRow, row-start, row-can, row-refused, row-next, row-end}
 use Rattle.construct.proofs.SymbolFilling.{symbols-of}
 use Rattle.construct.specs.Rows.{rowsIn}
@@ -13,7 +14,7 @@ use Rattle.construct.proofs.cells.fill_row.Tie as tie
 abbrev Inv-loop : tie.InvT-loop
 Inv-loop head edges links scale row marks₀ cells₀ rows₀ pool₀ progress₀ symbol₀ marks cells rows pool progress symbol =
     (length marks ≡ length marks₀) × (length rows ≡ length rows₀) × (length pool ≡ length pool₀)
-    × FillingRow (ruleIn head edges) row (rowsIn (progress₀ .rows) rows₀ pool₀) (progress₀ .room) marks₀ cells₀
+    × FillingRow codesSay (ruleIn head edges) row (rowsIn (progress₀ .rows) rows₀ pool₀) (progress₀ .room) marks₀ cells₀
     symbol marks
     cells rows pool progress
 

@@ -1,11 +1,13 @@
 -- `construct::cells::fill_symbol` meets its contract: the cells so far stand in their place, until a row does not fit.
 use mathlib.Core.Path.{_≡_, refl, _∙_, ap}
-use Prim.Native.Nat.{ℕ, _+_, _-_, _*_, _≤_, _<_}
+use Prim.Native.Nat.{ℕ, _+_, _-_, _*_, _^_, _≤_, _<_}
 use native.Mathlib.Omega.{arith}
 use lib.ListN.{length}
 use borrow.Author.Needs.{needs, scaled-fits}
+use Rattle.model.specs.Rules.{mostSymbols}
 use Rattle.model.specs.Layout.{ruleIn}
 use Rattle.model.specs.Construction.{width as widthOf}
+use Rattle.model.specs.Tables.{codesSay}
 use Rattle.construct.proofs.SymbolFilling.{Filling, filling-start, filling-leave, filling-refused}
 use Rattle.construct.proofs.SymbolFilling.{filling-next, filling-fits, filling-end, symbols-of, symbols-few}
 use Rattle.construct.proofs.SymbolFilling.{width-is, place-known}
@@ -16,9 +18,9 @@ use Rattle.construct.proofs.cells.fill_symbol.Tie as tie
 abbrev Inv-loop : tie.InvT-loop
 Inv-loop head edges links scale row symbol marks₀ cells₀ rows₀ pool₀ width at progress₀ i₀ marks cells rows pool
     progress i =
-    (width ≡ widthOf (ruleIn head edges)) × (width ≤ 512) × (at ≡ (row * ruleIn head edges .symbols + symbol) * width)
+    (width ≡ widthOf (ruleIn head edges)) × (width ≤ 2 ^ 9) × (at ≡ (row * ruleIn head edges .symbols + symbol) * width)
     × (length marks ≡ length marks₀) × (length rows ≡ length rows₀) × (length pool ≡ length pool₀)
-    × Filling (ruleIn head edges) row symbol at (rowsIn (progress₀ .rows) rows₀ pool₀) (progress₀ .room) marks₀
+    × Filling codesSay (ruleIn head edges) row symbol at (rowsIn (progress₀ .rows) rows₀ pool₀) (progress₀ .room) marks₀
     cells₀ i marks
     cells rows pool progress
 
@@ -61,7 +63,7 @@ place-of-requires : tie.Need-place-of-requires Inv-loop μ-loop
 place-of-requires c κs =
     let after-wide8 = c .before .before in
     let s = after-wide8 .before .before .before .before .before .before .before in
-    let few : s .args .head .symbols ≤ 16 = symbols-few (s .args .head) (s .args .edges .now)
+    let few : s .args .head .symbols ≤ mostSymbols = symbols-few (s .args .head) (s .args .edges .now)
     (s .pre .0 .leave .ready) in (
       omega (arith, s .pre .0 .leave .row-below, s .pre .0 .leave .held .in-room, s .pre .0 .leave .held .room-most),
       omega (arith, few, c .before .wide32 .ensures .0),
@@ -113,7 +115,7 @@ returns c =
     let in-loop = after-narrow32 .before in
     let at-loop = in-loop .before in
     filling-refused (at-loop .loop .inv .6) (omega (arith, in-loop .loop-test .taken, at-loop .loop .inv .0)) refl
-    (after-narrow32 .narrow32 .ensures)
+    (after-narrow32 .narrow32 .ensures .1 (search needs))
     (after-make-cell .make-cell .ensures)
     (c .if1 .taken)
 
@@ -160,7 +162,7 @@ loop-again c =
       after-make-cell .make-cell .kept .1 .1 .1 .1 .1 .1 .1 .0 ∙ l .inv .4,
       after-make-cell .make-cell .kept .1 .1 .1 .1 .1 .1 .1 .1 .0 ∙ l .inv .5,
       filling-next (l .inv .6) (omega (arith, in-loop .loop-test .taken, l .inv .0)) refl
-          (after-narrow32 .narrow32 .ensures) (after-make-cell .make-cell .ensures) _
+          (after-narrow32 .narrow32 .ensures .1 (search needs)) (after-make-cell .make-cell .ensures) _
           (c .if1 .left)
           (fits in-loop)
           refl,

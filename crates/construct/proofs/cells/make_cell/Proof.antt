@@ -1,56 +1,22 @@
 -- `construct::cells::make_cell` meets its contract: the part of the pool is the row, its next row is marked and placed.
 use borrow.Author.Needs.{needs}
 use Rattle.model.specs.Layout.{ruleIn}
-use Rattle.construct.proofs.CellLaws.{part-fits, part-is, cell-made}
+use Rattle.construct.proofs.CellLaws.{part-is, cell-made}
 use Rattle.construct.specs.Rows.{rowsIn}
 use Rattle.construct.proofs.cells.make_cell.Statement.{statement}
 use Rattle.construct.proofs.cells.make_cell.Tie as tie
 
-mul-wide32 : tie.Need-mul-wide32
-mul-wide32 c = search needs
+narrow32-requires : tie.Need-narrow32-requires
+narrow32-requires c κs = search needs
 
-mul-wide32-2 : tie.Need-mul-wide32-2
-mul-wide32-2 c = search needs
+row-start-requires : tie.Need-row-start-requires
+row-start-requires c κs = search needs
 
-slice-read-wide32 : tie.Need-slice-read-wide32
-slice-read-wide32 c = search needs
+row-length-requires : tie.Need-row-length-requires
+row-length-requires c κs = search needs
 
-wide32-requires : tie.Need-wide32-requires
-wide32-requires c κs = search needs
-
-mul-wide32-3 : tie.Need-mul-wide32-3
-mul-wide32-3 c = search needs
-
-add-wide32 : tie.Need-add-wide32
-add-wide32 c = search needs
-
-mul-wide32-4 : tie.Need-mul-wide32-4
-mul-wide32-4 c = search needs
-
-slice-read-wide32-2 : tie.Need-slice-read-wide32-2
-slice-read-wide32-2 c = search needs
-
-wide32-requires-2 : tie.Need-wide32-requires-2
-wide32-requires-2 c κs = search needs
-
-add-end : tie.Need-add-end
-add-end c = search needs
-
-mul-mark-next : tie.Need-mul-mark-next
-mul-mark-next c = search needs
-
-sub-mark-next : tie.Need-sub-mark-next
-sub-mark-next c = search needs
-
-part-mark-next-start : tie.Need-part-mark-next-start
-part-mark-next-start c = search needs
-
-part-mark-next-end : tie.Need-part-mark-next-end
-part-mark-next-end c =
-    let after-wide32 = c .before .before .before in
-    let start = after-wide32 .before .before .before .before .before .before .before in
-    part-fits (start .pre .0 .held) (start .args .row) _ _ (start .pre .0 .row-below) (after-wide32 .wide32 .ensures .0)
-    (c .before .wide322 .ensures .0)
+part-of-requires : tie.Need-part-of-requires
+part-of-requires c κs = search needs
 
 mark-next-requires : tie.Need-mark-next-requires
 mark-next-requires c κs = search needs
@@ -74,14 +40,19 @@ returns : tie.Need-returns
 returns c =
     let after-place-marks = c .before .before .before .before .before .before .before .before in
     let after-mark-next = after-place-marks .before .before .before .before .before .before in
-    let after-wide322 = after-mark-next .before .before .before .before in
-    let after-wide32 = after-wide322 .before .before in
-    let s = after-wide32 .before .before .before .before .before .before .before in
-    cell-made (ruleIn (s .args .head) (s .args .edges .now)) (s .args .row) (s .args .input)
-    (rowsIn (s .args .p .rows) (s .args .rows .now) (s .args .pool .now))
+    let after-part-of = after-mark-next .before .before in
+    let after-row-length = after-part-of .before .before in
+    let after-row-start = after-row-length .before .before in
+    let after-narrow32 = after-row-start .before .before in
+    let s = after-narrow32 .before .before .before .before .before .before in
+    let a = s .args in
+    cell-made (ruleIn (a .head) (a .edges .now)) (a .row) (a .input) (rowsIn (a .p .rows) (a .rows .now) (a .pool .now))
     (after-mark-next .mark-next .result) (after-place-marks .place-marks .result) _
-    (part-is (s .pre .0 .held) (s .args .row) _ _ (s .pre .0 .row-below) (after-wide32 .wide32 .ensures .0)
-    (after-wide322 .wide322 .ensures .0))
+    (part-is (a .rows .now) (a .pool .now) _ (a .p) (a .row) _ _ _ (s .pre .0 .row-below)
+    (after-narrow32 .narrow32 .ensures .1 (search needs))
+    (after-row-start .row-start .ensures .0)
+    (after-row-length .row-length .ensures .0)
+    (after-part-of .part-of .ensures))
     (after-mark-next .mark-next .kept .1 .1 .1 .1 .1 .1 .0)
     (after-mark-next .mark-next .ensures)
     (after-place-marks .place-marks .ensures)
@@ -91,20 +62,10 @@ pub make-cell-spec : {M : Type 1} → statement M
 make-cell-spec =
     tie.close
     (tie.spec
-    mul-wide32
-    mul-wide32-2
-    slice-read-wide32
-    wide32-requires
-    mul-wide32-3
-    add-wide32
-    mul-wide32-4
-    slice-read-wide32-2
-    wide32-requires-2
-    add-end
-    mul-mark-next
-    sub-mark-next
-    part-mark-next-start
-    part-mark-next-end
+    narrow32-requires
+    row-start-requires
+    row-length-requires
+    part-of-requires
     mark-next-requires
     place-marks-requires
     cell-of-requires

@@ -3,6 +3,7 @@ use mathlib.Core.Path.{_∙_, ap}
 use Prim.Native.Nat.{ℕ, _+_, _*_}
 use lib.ListN.{getD}
 use borrow.Author.Needs.{needs}
+use Rattle.model.specs.Rules.{mostSymbols}
 use Rattle.construct.proofs.LeavingLaws.{far-location, far-symbol, near-link}
 use Rattle.construct.proofs.leaving.first_edge.Statement.{statement}
 use Rattle.construct.proofs.leaving.first_edge.Tie as tie
@@ -11,6 +12,9 @@ returns : tie.Need-returns
 returns c =
     let a = c .before .before .args in
     far-location (a .count) (a .location) (a .symbol) (a .links .now) (c .if1 .taken)
+
+cast-if2 : tie.Need-cast-if2
+cast-if2 c = search needs
 
 returns-2 : tie.Need-returns-2
 returns-2 c =
@@ -36,9 +40,9 @@ returns-3 : tie.Need-returns-3
 returns-3 c =
     let after-wide32 = c .before .before in
     let a = c .before .before .before .before .before .before .args in
-    c .narrow32 .ensures
+    c .narrow32 .ensures .1 (search needs)
     ∙ (c .before .number-at .ensures .0
-    ∙ (ap (λ (k : ℕ). getD (a .links .now) (16 * a .location + k) 0) (after-wide32 .wide32 .ensures .0)
+    ∙ (ap (λ (k : ℕ). getD (a .links .now) (mostSymbols * a .location + k) 0) (after-wide32 .wide32 .ensures .0)
     ∙ near-link (a .count) (a .location) (a .symbol) (a .links .now) (search needs) (search needs)))
 
 pub first-edge-spec : {M : Type 1} → statement M
@@ -46,6 +50,7 @@ first-edge-spec =
     tie.close
     (tie.spec
     returns
+    cast-if2
     returns-2
     mul-number-at
     wide32-requires

@@ -61,7 +61,8 @@ loop-again c =
       search needs,
       search needs,
       omega (arith, w .3, l .inv .3 .count-most, in-loop .loop-test .taken),
-      turn-more (l .inv .3) h (c .if1 .marks) (c .if1 .count) _ (w .0 .taken) (w .1 .ensures) (w .2) (w .3),
+      turn-more (l .inv .3) h (c .if1 .marks) (c .if1 .count) _ (w .0 .taken)
+          (w .1 .ensures .1 (search needs)) (w .2) (w .3),
     ))
     (λ w. (
       search needs,

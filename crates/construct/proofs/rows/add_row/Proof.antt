@@ -70,8 +70,8 @@ returns-3 c =
     let at-if1 = after-narrow32 .before .before in
     let s = at-if1 .before .before .before .before in
     row-added (s .pre .0) (s .args .codes .now) _ _ _ _ (at-if1 .if1 .left) (search needs) (s .pre .1)
-    (after-narrow32 .narrow32 .ensures)
-    (after-narrow322 .narrow322 .ensures)
+    (after-narrow32 .narrow32 .ensures .1 (search needs))
+    (after-narrow322 .narrow322 .ensures .1 (search needs))
     refl
     (after-copy-codes .copy-codes .ensures)
 

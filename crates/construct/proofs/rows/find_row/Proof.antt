@@ -1,23 +1,23 @@
 -- `construct::rows::find_row` meets its contract: no row passed is equal, and no code passed in a row differs.
 use mathlib.Core.Logic.{⊎-elim}
-use mathlib.Core.Path.{_≡_}
+use mathlib.Core.Path.{_≡_, refl}
 use Prim.Native.Nat.{ℕ, _+_, _-_, _≤_, _<_}
 use native.Mathlib.Omega.{arith}
 use lib.ListN.{length, getD}
 use borrow.Author.Count.{below-more}
 use borrow.Author.Needs.{needs, scaled-fits}
+use Rattle.model.specs.Tables.{codesAt}
 use Rattle.construct.proofs.RowSearch.{Searching, searching, search-next, search-found, search-ends, row-fits}
 use Rattle.construct.proofs.RowSearch.{row-is, row-differs, row-longer}
-use Rattle.construct.specs.Rows.{rowIn}
 use Rattle.construct.proofs.rows.find_row.Statement.{statement}
 use Rattle.construct.proofs.rows.find_row.Tie as tie
 
 abbrev Inv-codes : tie.InvT-codes
-Inv-codes rows pool count codes row start size j₀ j = (j ≤ size) ×
+Inv-codes rows pool count codes row size start j₀ j = (j ≤ size) ×
     ((k : ℕ) → k < j → getD pool (start + k) 0 ≡ getD codes k 0)
 
 abbrev μ-codes : tie.MeasureT-codes
-μ-codes rows pool count codes row start size j₀ j = size - j
+μ-codes rows pool count codes row size start j₀ j = size - j
 
 abbrev Inv-loop : tie.InvT-loop
 Inv-loop rows pool count codes row₀ row = Searching count row rows pool codes
@@ -25,68 +25,52 @@ Inv-loop rows pool count codes row₀ row = Searching count row rows pool codes
 abbrev μ-loop : tie.MeasureT-loop
 μ-loop rows pool count codes row₀ row = count - row
 
--- after a row's two numbers are read
-abbrev W : Type 0
-W = tie.After-wide322 Inv-codes μ-codes Inv-loop μ-loop
+-- after a row's length is read, and after its start is
+abbrev Sized : Type 0
+Sized = tie.After-row-length Inv-codes μ-codes Inv-loop μ-loop
 
-abbrev Entry : W → tie.Start Inv-codes μ-codes Inv-loop μ-loop
-Entry w = w .before .before .before .before .before .before .before .before .before
+abbrev Placed : Type 0
+Placed = tie.After-row-start Inv-codes μ-codes Inv-loop μ-loop
 
-abbrev Row : W → ℕ
-Row w = w .before .before .before .before .before .loop .row
+abbrev Entry : Sized → tie.Start Inv-codes μ-codes Inv-loop μ-loop
+Entry w = w .before .before .before .before .before .before
 
-more : (w : W) → Row w < Entry w .args .count
-more w = w .before .before .before .before .if1 .left
+abbrev Row : Sized → ℕ
+Row w = w .before .before .loop .row
 
-fits : (w : W) → w .before .before .wide32 .result + w .wide322 .result ≤ length (Entry w .args .pool .now)
-fits w =
-    row-fits (Entry w .args .codes .now) _ _ (Entry w .pre) (more w) (w .before .before .wide32 .ensures .0)
-    (w .wide322 .ensures .0)
+more : (w : Sized) → Row w < Entry w .args .count
+more w = w .before .if1 .left
+
+fits :
+    (s : Placed)
+    → s .row-start .result + s .before .before .row-length .result ≤ length (Entry (s .before .before) .args .pool .now)
+fits s =
+    let w = s .before .before in
+    row-fits (Entry w .args .codes .now) _ _ (Entry w .pre) (more w) (s .row-start .ensures .0)
+    (w .row-length .ensures .0)
 
 loop-holds : tie.Need-loop-holds Inv-codes μ-codes Inv-loop μ-loop
 loop-holds c = searching _ _ _ _
 
-mul-wide32 : tie.Need-mul-wide32 Inv-codes μ-codes Inv-loop μ-loop
-mul-wide32 c = search needs
+row-length-requires : tie.Need-row-length-requires Inv-codes μ-codes Inv-loop μ-loop
+row-length-requires c κs = search needs
 
-mul-wide32-2 : tie.Need-mul-wide32-2 Inv-codes μ-codes Inv-loop μ-loop
-mul-wide32-2 c = search needs
-
-shared-slice-read-wide32 : tie.Need-shared-slice-read-wide32 Inv-codes μ-codes Inv-loop μ-loop
-shared-slice-read-wide32 c = search needs
-
-wide32-requires : tie.Need-wide32-requires Inv-codes μ-codes Inv-loop μ-loop
-wide32-requires c κs = search needs
-
-mul-wide32-3 : tie.Need-mul-wide32-3 Inv-codes μ-codes Inv-loop μ-loop
-mul-wide32-3 c = search needs
-
-add-wide32 : tie.Need-add-wide32 Inv-codes μ-codes Inv-loop μ-loop
-add-wide32 c = search needs
-
-mul-wide32-4 : tie.Need-mul-wide32-4 Inv-codes μ-codes Inv-loop μ-loop
-mul-wide32-4 c = search needs
-
-shared-slice-read-wide32-2 : tie.Need-shared-slice-read-wide32-2 Inv-codes μ-codes Inv-loop μ-loop
-shared-slice-read-wide32-2 c = search needs
-
-wide32-requires-2 : tie.Need-wide32-requires-2 Inv-codes μ-codes Inv-loop μ-loop
-wide32-requires-2 c κs = search needs
+row-start-requires : tie.Need-row-start-requires Inv-codes μ-codes Inv-loop μ-loop
+row-start-requires c κs = search needs
 
 codes-holds : tie.Need-codes-holds Inv-codes μ-codes Inv-loop μ-loop
 codes-holds c = search needs
 
 add-if3 : tie.Need-add-if3 Inv-codes μ-codes Inv-loop μ-loop
-add-if3 c = omega (arith, fits (c .before .before .before))
+add-if3 c = omega (arith, fits (c .before .before))
 
 mul-if3 : tie.Need-mul-if3 Inv-codes μ-codes Inv-loop μ-loop
 mul-if3 c =
-    let after-place = c .before .before .before in
-    scaled-fits _ (length (Entry after-place .args .pool .now)) 4 (omega (arith, fits after-place))
-    (search needs)
+    let s = c .before .before in
+    scaled-fits _ (length (Entry (s .before .before) .args .pool .now)) 4 (omega (arith, fits s)) (search needs)
 
 shared-slice-read-if3 : tie.Need-shared-slice-read-if3 Inv-codes μ-codes Inv-loop μ-loop
-shared-slice-read-if3 c = omega (arith, fits (c .before .before .before .before))
+shared-slice-read-if3 c = omega (arith, fits (c .before .before .before))
 
 mul-if3-2 : tie.Need-mul-if3-2 Inv-codes μ-codes Inv-loop μ-loop
 mul-if3-2 c = search needs
@@ -113,26 +97,23 @@ loop-less c = search needs
 other :
     (c : tie.Joined2 Inv-codes μ-codes Inv-loop μ-loop)
     → Entry (c .before) .args .codes .now
-    ≡ rowIn (Entry (c .before) .args .rows .now) (Entry (c .before) .args .pool .now) (Row (c .before))
+    ≡ codesAt (Entry (c .before) .args .rows .now) (Entry (c .before) .args .pool .now) (Row (c .before))
     → ⊥
 other c e =
     let w = c .before in
+    let codes = Entry w .args .codes .now in
     ⊎-elim
     (λ v.
-    ⊎-elim (λ u. v .3 .left (omega (arith, u .left, v .1 .inv .0)))
+    ⊎-elim (λ u. v .4 .left (omega (arith, u .left, v .2 .inv .0)))
     (λ u.
-    row-differs (Entry w .args .codes .now) _ _ (Entry w .pre) (more w) (w .before .before .wide32 .ensures .0)
-    (w .wide322 .ensures .0) (v .1 .j) (u .0 .taken) (u .3 .taken) e)
-    (v .2 .came))
-    (λ v.
-    row-longer (Entry w .args .codes .now) _ _ (Entry w .pre) (more w) (w .before .before .wide32 .ensures .0)
-    (w .wide322 .ensures .0) (v .left) e)
+    row-differs codes _ _ (Entry w .pre) (more w) (v .1 .ensures .0) (w .row-length .ensures .0) (v .2 .j)
+    (u .0 .taken) (u .3 .taken) e)
+    (v .3 .came))
+    (λ v. row-longer codes _ _ (Entry w .pre) (more w) refl (w .row-length .ensures .0) (v .left) e)
     (c .if2 .came)
 
 loop-again : tie.Need-loop-again Inv-codes μ-codes Inv-loop μ-loop
-loop-again c =
-    let w = c .before in
-    search-next (w .before .before .before .before .before .loop .inv) (more w) (other c)
+loop-again c = let w = c .before in search-next (w .before .before .loop .inv) (more w) (other c)
 
 returns : tie.Need-returns Inv-codes μ-codes Inv-loop μ-loop
 returns c = search-ends (c .before .loop .inv) (c .if1 .taken)
@@ -140,12 +121,13 @@ returns c = search-ends (c .before .loop .inv) (c .if1 .taken)
 returns-2 : tie.Need-returns-2 Inv-codes μ-codes Inv-loop μ-loop
 returns-2 c =
     let at-codes = c .before .before in
-    let at-if2 = at-codes .before in
+    let s = at-codes .before in
+    let at-if2 = s .before in
     let w = at-if2 .before in
-    let e : at-codes .codes .j ≡ w .wide322 .result = c .if4 .taken in
-    search-found (w .before .before .before .before .before .loop .inv) (more w)
-    (row-is (Entry w .args .codes .now) _ _ (Entry w .pre) (more w) (w .before .before .wide32 .ensures .0)
-    (w .wide322 .ensures .0)
+    let e : at-codes .codes .j ≡ w .row-length .result = c .if4 .taken in
+    search-found (w .before .before .loop .inv) (more w)
+    (row-is (Entry w .args .codes .now) _ _ (Entry w .pre) (more w) (s .row-start .ensures .0)
+    (w .row-length .ensures .0)
     (at-if2 .if2 .taken)
     (rw e at (at-codes .codes .inv .1)))
 
@@ -158,15 +140,8 @@ find-row-spec =
     Inv-loop
     μ-loop
     loop-holds
-    mul-wide32
-    mul-wide32-2
-    shared-slice-read-wide32
-    wide32-requires
-    mul-wide32-3
-    add-wide32
-    mul-wide32-4
-    shared-slice-read-wide32-2
-    wide32-requires-2
+    row-length-requires
+    row-start-requires
     codes-holds
     add-if3
     mul-if3

@@ -22,18 +22,18 @@ place-row-requires c κs =
     let start = after-gather .before .before .before .before .before in
     (start .pre .1, codes-few (after-gather .gather .ensures) (after-gather .gather .kept .0))
 
-slice-relend-prefix-clear : tie.Need-slice-relend-prefix-clear
-slice-relend-prefix-clear c =
+slice-relend-prefix-clear32 : tie.Need-slice-relend-prefix-clear32
+slice-relend-prefix-clear32 c =
     let after-gather = c .before .before .before .before .before .before .before .before .before .before in
     count-fits (after-gather .gather .ensures) (after-gather .gather .kept .0)
 
-slice-aggregate-clear : tie.Need-slice-aggregate-clear
-slice-aggregate-clear c =
+slice-aggregate-clear32 : tie.Need-slice-aggregate-clear32
+slice-aggregate-clear32 c =
     let after-gather = c .before .before .before .before .before .before .before .before .before .before .before in
     front-length (after-gather .gather .ensures) (after-gather .gather .kept .0)
 
-clear-requires : tie.Need-clear-requires
-clear-requires c κs = search needs
+clear32-requires : tie.Need-clear32-requires
+clear32-requires c κs = search needs
 
 same-length : tie.Need-same-length
 same-length c = search needs
@@ -54,7 +54,7 @@ returns c =
     marks-placed (after-gather .gather .ensures) (after-gather .gather .kept .0)
     (rowsIn (a .p .rows) (a .rows .now) (a .pool .now)) _
     (after-place-row .place-row .ensures)
-    (after-clear .clear .ensures)
+    (after-clear .clear32 .ensures)
 
 pub place-marks-spec : {M : Type 1} → statement M
 place-marks-spec =
@@ -64,9 +64,9 @@ place-marks-spec =
     slice-reshare-prefix-place-row
     slice-aggregate-place-row
     place-row-requires
-    slice-relend-prefix-clear
-    slice-aggregate-clear
-    clear-requires
+    slice-relend-prefix-clear32
+    slice-aggregate-clear32
+    clear32-requires
     same-length
     same-length-2
     same-length-3

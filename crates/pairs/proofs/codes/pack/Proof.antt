@@ -4,6 +4,7 @@ use Prim.Native.Nat.{_≤_, _<_, _-_, _+_, _^_, _*_}
 use native.Mathlib.Omega.{arith}
 use lib.ListN.{take}
 use borrow.Author.Needs.{needs}
+use Rattle.model.specs.Rules.{mostClocks}
 use Rattle.model.specs.Construction.{digitsCode}
 use Rattle.pairs.proofs.Bases.{Packing, packing-start, packing-next, packing-skip, packing-end, pack-is}
 use Rattle.pairs.proofs.Bases.{first-most, digit-most, place-next}
@@ -15,7 +16,7 @@ Inv-loop location bases weight radix clocks code₀ place₀ k₀ code place k =
     radix clocks k place code (code₀ + digitsCode radix (take clocks bases)) bases
 
 abbrev μ-loop : tie.MeasureT-loop
-μ-loop location bases weight radix clocks code₀ place₀ k₀ code place k = 4 - k
+μ-loop location bases weight radix clocks code₀ place₀ k₀ code place k = mostClocks - k
 
 wide32-requires : tie.Need-wide32-requires Inv-loop μ-loop
 wide32-requires c κs = search needs

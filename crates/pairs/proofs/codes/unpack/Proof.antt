@@ -1,9 +1,10 @@
 -- `pairs::codes::unpack` meets its contract: the digits taken off so far, with those to come, are those of the code.
-use mathlib.Core.Path.{refl}
-use Prim.Native.Nat.{_≤_, _<_, _-_}
+use mathlib.Core.Path.{_≡_, refl}
+use Prim.Native.Nat.{_≤_, _<_, _-_, _%_}
 use native.Mathlib.Nat.{mod-lt}
 use native.Mathlib.Omega.{arith}
 use borrow.Author.Needs.{needs}
+use Rattle.model.specs.Rules.{mostClocks}
 use Rattle.pairs.proofs.Bases.{Taking, taking-start, taking-next, taking-end, unpack-is}
 use Rattle.pairs.proofs.codes.unpack.Statement.{statement}
 use Rattle.pairs.proofs.codes.unpack.Tie as tie
@@ -13,7 +14,7 @@ Inv-loop code weight radix whole location rest₀ bases₀ k₀ rest bases k = (
     rest₀ k rest bases
 
 abbrev μ-loop : tie.MeasureT-loop
-μ-loop code weight radix whole location rest₀ bases₀ k₀ rest bases k = 4 - k
+μ-loop code weight radix whole location rest₀ bases₀ k₀ rest bases k = mostClocks - k
 
 wide32-requires : tie.Need-wide32-requires Inv-loop μ-loop
 wide32-requires c κs = search needs
@@ -40,7 +41,7 @@ rem-narrow16 : tie.Need-rem-narrow16 Inv-loop μ-loop
 rem-narrow16 c = search needs
 
 narrow16-requires : tie.Need-narrow16-requires Inv-loop μ-loop
-narrow16-requires c κs = omega (arith, mod-lt (c .before .loop .rest) (c .before .loop .inv .0))
+narrow16-requires c κs = search needs
 
 mul-bases : tie.Need-mul-bases Inv-loop μ-loop
 mul-bases c = search needs
@@ -60,7 +61,9 @@ loop-less c = search needs
 loop-again : tie.Need-loop-again Inv-loop μ-loop
 loop-again c =
     let l = c .before .before .loop in
-    (search needs, search needs, taking-next (l .inv .2) _ (l .inv .0) (search needs) (c .narrow16 .ensures))
+    let fits : c .narrow16 .result ≡ l .rest % _ =
+    c .narrow16 .ensures .1 (omega (arith, mod-lt (l .rest) (l .inv .0))) in
+    (search needs, search needs, taking-next (l .inv .2) _ (l .inv .0) (search needs) fits)
 
 returns : tie.Need-returns Inv-loop μ-loop
 returns c =

@@ -28,7 +28,7 @@ returns c =
     advanced-above _ _ _ _ _ _ _ (b .before .before .wide8 .ensures .0) (b .wide32 .ensures .0)
     (b .before .wide16 .ensures .0)
     (c .before .if1 .taken)
-    (c .narrow16 .ensures)
+    (c .narrow16 .ensures .1 (search needs))
 
 narrow16-requires-2 : tie.Need-narrow16-requires-2
 narrow16-requires-2 c κs = search needs
@@ -39,7 +39,7 @@ returns-2 c =
     advanced-within _ _ _ _ _ _ _ (b .before .before .wide8 .ensures .0) (b .wide32 .ensures .0)
     (b .before .wide16 .ensures .0)
     (c .before .if1 .left)
-    (c .narrow162 .ensures)
+    (c .narrow162 .ensures .1 (search needs))
 
 pub advance-spec : {M : Type 1} → statement M
 advance-spec =

@@ -2,6 +2,7 @@
 use mathlib.Core.Path.{refl}
 use Prim.Native.Nat.{_-_}
 use borrow.Author.Needs.{needs}
+use Rattle.model.specs.Rules.{mostClocks}
 use Rattle.pairs.proofs.Bases.{Moving, moving-start, moving-next, moving-end}
 use Rattle.pairs.proofs.moves.moved.Statement.{statement}
 use Rattle.pairs.proofs.moves.moved.Tie as tie
@@ -10,7 +11,7 @@ abbrev Inv-loop : tie.InvT-loop
 Inv-loop mask timer top interval bases next₀ k₀ next k = Moving mask timer top interval k bases next
 
 abbrev μ-loop : tie.MeasureT-loop
-μ-loop mask timer top interval bases next₀ k₀ next k = 4 - k
+μ-loop mask timer top interval bases next₀ k₀ next k = mostClocks - k
 
 loop-holds : tie.Need-loop-holds Inv-loop μ-loop
 loop-holds c =

@@ -1,8 +1,6 @@
 -- `pairs::resets::edge_resets` meets its contract: an empty mask resets nothing.
-use Prim.Native.Nat.{_*_}
-use lib.ListN.{drop}
 use borrow.Author.Needs.{needs}
-use Rattle.model.specs.Layout.{edgeWidth, edgeIn}
+use Rattle.model.specs.Layout.{edgeAt}
 use Rattle.pairs.proofs.GuardTests.{resets-none, resets-some}
 use Rattle.pairs.proofs.resets.edge_resets.Statement.{statement}
 use Rattle.pairs.proofs.resets.edge_resets.Tie as tie
@@ -14,8 +12,8 @@ returns : tie.Need-returns
 returns c =
     let start = c .before .before .before in
     let a = start .args in
-    resets-none (a .top) (a .input) (a .pair) (edgeIn (drop (edgeWidth * a .e) (a .edges .now))) _
-    (c .before .resets-of .ensures)
+    resets-none (a .top) (a .input) (a .pair) (edgeAt (a .e) (a .edges .now)) _
+    (c .before .resets-of .ensures .0)
     (c .if1 .taken)
 
 allows-requires : tie.Need-allows-requires
@@ -26,8 +24,8 @@ returns-2 c =
     let after-resets-of = c .before .before in
     let start = after-resets-of .before .before in
     let a = start .args in
-    resets-some (a .top) (a .input) (a .pair) (edgeIn (drop (edgeWidth * a .e) (a .edges .now))) _ _
-    (after-resets-of .resets-of .ensures)
+    resets-some (a .top) (a .input) (a .pair) (edgeAt (a .e) (a .edges .now)) _ _
+    (after-resets-of .resets-of .ensures .0)
     (c .before .if1 .left)
     (c .allows .ensures)
 
