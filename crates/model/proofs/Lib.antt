@@ -30,6 +30,8 @@ pub mod Moves
 pub mod WholeReads
 pub mod WholeBuilds
 pub mod WholeRuns
+pub mod WholeDecisions
+pub mod RunCases
 -- One outcome for one call, for every promise; which numbers each check can give; what each call leaves, by its number
 pub mod Outcomes
 pub mod Numbers

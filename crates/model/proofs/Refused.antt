@@ -70,6 +70,19 @@ unfolding cm pairCount recordRefusal withRecord atEnd readFrom readRule codeOf l
     second-file second allMet rooms
 rooms-met = refl
 
+-- room for rows: 4,096, half the row table, or the cells over S · W, both rounded down; row 4,096 does not fit
+row-rooms : Type 0
+row-rooms =
+    (rowRoom worked 100000 100000 ≡ 4096) × (rowRoom worked 100000 8193 ≡ 4096) × (rowRoom worked 100000 8191 ≡ 4095)
+    × (rowRoom worked 32775 100000 ≡ 4096)
+    × (rowRoom worked 32767 100000 ≡ 4095)
+    × (fitRefusal 4095 4096 0 0 ([] ∷ []) ≡ fine)
+    × (fitRefusal 4095 4096 0 0 ([] ∷ [] ∷ []) ≡ refusal 23 0)
+
+row-rooms-are : row-rooms
+unfolding cm pairCount recordRefusal withRecord atEnd readFrom readRule rowRoom fitRefusal worked-file worked row-rooms
+row-rooms-are = (refl, refl, refl, refl, refl, refl, refl)
+
 -- 26: more configurations than room, before the first event and after the first and the second; equal ones are one
 fulls : List Case
 fulls =

@@ -1,6 +1,6 @@
 -- Tables that fit: where none of 22, 23 and 24 is met there are at most 4,096 rows and every table has room for them. A
 -- refusal of the builder with number 0 is no refusal.
-use mathlib.Core.Path.{_≡_, refl, _∙_, ap}
+use mathlib.Core.Path.{_≡_, ap}
 use mathlib.Core.List.{List, [], _∷_}
 use Prim.Native.Nat.{ℕ, zero, suc, _+_, _*_, _≤_, _<_}
 use native.Mathlib.Omega.{arith}
@@ -42,7 +42,6 @@ fit-on n room used pool x xs h g = rw (lt-leb room n h, fitRefusal, le-ltb pool 
 
 -- rows from number n on that all fit, and the pool that they need
 pub record Fit (n room used pool : ℕ) (rows : List (List ℕ)) : Type 0 where
-  pub settled : fitRefusal n room used pool rows ≡ fine
   pub in-room : n + length rows ≤ room
   pub in-pool : used + length (poolNumbers rows) ≤ pool
 
@@ -53,7 +52,7 @@ pub fit-of :
     → fitRefusal n room used pool rows .number ≡ 0
     → Fit n room used pool rows
 unfolding fitRefusal
-fit-of n room used pool [] h g e = record { settled = refl; in-room = omega arith; in-pool = omega arith }
+fit-of n room used pool [] h g e = record { in-room = omega arith; in-pool = omega arith }
 fit-of n room used pool (x ∷ xs) h g e =
     go (two n room) (two pool after) (fit-of (suc n) room (used + length x) pool xs)
   where
@@ -71,7 +70,6 @@ fit-of n room used pool (x ∷ xs) h g e =
     go (less l) (least m) k =
         let f : Fit (suc n) room (used + length x) pool xs = k l m (rw (fit-on n room used pool x xs l m) at e) in
         record {
-          settled = fit-on n room used pool x xs l m ∙ f .settled;
           in-room = omega (arith, f .in-room);
           in-pool = omega (arith, f .in-pool, length-append x (poolNumbers xs));
         }

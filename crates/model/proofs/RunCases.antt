@@ -1,0 +1,65 @@
+-- Runs, the least run and the walk over the rows, by computation: what counts as a run, and which run is the least.
+use mathlib.Core.Path.{_≡_, refl}
+use mathlib.Core.Bool.{true, false}
+use mathlib.Core.List.{List, [], _∷_}
+use Rattle.model.specs.Rules.{Rule, rule, cm, pairCount}
+use Rattle.model.specs.Words.{Event, eventsOf}
+use Rattle.model.specs.Runs.{isAcceptingRun, path, leastFrom, leastStart, leastRun}
+use Rattle.model.specs.Files.{recordRefusal, withRecord, atEnd, readFrom, readRule}
+use Rattle.model.specs.Construction.{codeOf, locationOf, basesOf, startRow, allows, rowResets, targetOf}
+use Rattle.model.specs.Construction.{nextRow, holdsFinal, walksFrom, walks}
+use Rattle.model.proofs.Examples.{worked-file, worked}
+use Rattle.model.proofs.Cases.{free-edge}
+
+-- P3 and P7 with D = 2
+third : List Event
+third = eventsOf (0 ∷ 1 ∷ []) (2 ∷ 4 ∷ [])
+
+seventh : List Event
+seventh = eventsOf (0 ∷ 1 ∷ 0 ∷ 1 ∷ []) (2 ∷ 4 ∷ 4 ∷ 6 ∷ [])
+
+-- from an initial location, one edge for each event, each of them in the rule and leaving where the run is
+runs : Type 0
+runs =
+    (isAcceptingRun worked 2 third 0 (0 ∷ 1 ∷ []) ≡ true) × (isAcceptingRun worked 2 third 1 (0 ∷ 1 ∷ []) ≡ false)
+    × (isAcceptingRun worked 2 third 0 (0 ∷ 0 ∷ []) ≡ false)
+    × (isAcceptingRun worked 2 third 0 (0 ∷ 2 ∷ []) ≡ false)
+    × (isAcceptingRun worked 2 third 0 (0 ∷ []) ≡ false)
+    × (isAcceptingRun worked 2 third 0 (0 ∷ 1 ∷ 0 ∷ []) ≡ false)
+    × (isAcceptingRun worked 2 seventh 0 (0 ∷ 1 ∷ 0 ∷ 1 ∷ []) ≡ true)
+    × (isAcceptingRun worked 2 [] 0 [] ≡ true)
+    × (isAcceptingRun worked 2 [] 1 [] ≡ false)
+
+runs-are : runs
+unfolding cm pairCount isAcceptingRun recordRefusal withRecord atEnd readFrom readRule worked-file worked third seventh
+    runs
+runs-are = (refl, refl, refl, refl, refl, refl, refl, refl, refl)
+
+-- two starts: with no event only location 1 serves; by the first event 0 by edge 1 comes before 1 by edge 0
+two-starts : Rule
+two-starts = rule 2 1 1 (0 ∷ 1 ∷ []) (1 ∷ []) 0 (free-edge 1 1 0 ∷ free-edge 0 1 0 ∷ free-edge 0 1 0 ∷ [])
+
+leasts : Type 0
+leasts =
+    (leastRun two-starts 1 [] ≡ path true 1 [])
+    × (leastRun two-starts 1 (eventsOf (0 ∷ []) (0 ∷ [])) ≡ path true 0 (1 ∷ []))
+    × (leastRun two-starts 1 (eventsOf (0 ∷ 0 ∷ []) (0 ∷ 7 ∷ [])) ≡ path true 0 (1 ∷ 0 ∷ []))
+
+leasts-are : leasts
+unfolding leastFrom leastStart leastRun free-edge two-starts leasts
+leasts-are = (refl, refl, refl)
+
+-- the one timer walks from its last reset, not from the event before
+walks-all : Type 0
+walks-all =
+    (walks worked 2 [] ≡ true) × (walks worked 2 (eventsOf (0 ∷ []) (2 ∷ [])) ≡ false) × (walks worked 2 third ≡ true)
+    × (walks worked 2 (eventsOf (0 ∷ 1 ∷ []) (2 ∷ 3 ∷ [])) ≡ false)
+    × (walks worked 2 seventh ≡ true)
+    × (walks worked 3 (eventsOf (0 ∷ 1 ∷ []) (3 ∷ 7 ∷ [])) ≡ true)
+    × (walks worked 2 (eventsOf (0 ∷ 1 ∷ 0 ∷ []) (2 ∷ 4 ∷ 6 ∷ [])) ≡ false)
+    × (walks worked 2 (eventsOf (0 ∷ 1 ∷ 0 ∷ 1 ∷ []) (2 ∷ 5 ∷ 7 ∷ 9 ∷ [])) ≡ false)
+
+walks-are : walks-all
+unfolding cm pairCount recordRefusal withRecord atEnd readFrom readRule codeOf locationOf basesOf startRow allows
+    rowResets targetOf nextRow holdsFinal walksFrom walks worked-file worked third seventh walks-all
+walks-are = (refl, refl, refl, refl, refl, refl, refl, refl)
