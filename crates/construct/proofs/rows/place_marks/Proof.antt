@@ -22,7 +22,8 @@ place-row-requires c κs =
     let after-gather = c .before .before .before .before .before in
     let start = after-gather .before .before .before .before .before in (
       start .pre .1,
-      codes-set (after-gather .gather .ensures) (after-gather .gather .kept .0) (codes-rise 0 (start .args .marks .now)),
+      codes-set (after-gather .gather .ensures) (after-gather .gather .kept .0)
+          (codes-rise 0 (start .args .marks .now)),
     )
 
 slice-relend-prefix-clear32 : tie.Need-slice-relend-prefix-clear32
