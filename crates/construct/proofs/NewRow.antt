@@ -1,6 +1,7 @@
 -- A new row: it gets the next number, or it is the first that does not fit, whatever rows come after.
 use mathlib.Core.Path.{_≡_, refl, sym, _∙_, ap, ap₂}
 use mathlib.Core.List.{List, [], _∷_, _++_, append-assoc}
+use mathlib.Core.Logic.{inl, inr}
 use Prim.Native.Nat.{ℕ, suc, _+_, _-_, _*_, _≤_, _<_}
 use native.Mathlib.Omega.{arith}
 use lib.Dec.{ltb}
@@ -9,10 +10,11 @@ use borrow.Author.Tests.{ltb-true, ltb-false}
 use Rattle.numbers.specs.Lent.{laid}
 use Rattle.numbers.proofs.Laid.{laid-filled}
 use Rattle.model.specs.Basics.{filled, refusal}
-use Rattle.model.specs.Rules.{mostPairs}
 use Rattle.model.specs.Construction.{numberOf, withRow}
 use Rattle.model.specs.Tables.{rowWidth, rowNumbers, codesSay, poolNumbers, fitRefusal}
-use Rattle.model.proofs.Logic.{by-test}
+use Rattle.model.proofs.Logic.{by-test, in-append}
+use Rattle.model.proofs.Masks.{Asc}
+use Rattle.model.proofs.Discovery.{Each}
 use Rattle.model.proofs.TablePlaces.{row-numbers-length}
 use Rattle.model.proofs.TableRoom.{fit-23, fit-24, fit-on}
 use Rattle.model.proofs.RowNumbers.{number-most, with-present, with-new}
@@ -20,10 +22,15 @@ use Rattle.construct.specs.declared.Found.{Found}
 use Rattle.construct.specs.declared.Found.the-variants.{At, Nothing}
 use Rattle.construct.specs.declared.Progress.{Progress}
 use Rattle.construct.specs.declared.Placed.{Placed}
-use Rattle.construct.specs.Rows.{rowsIn, foundIn, Held, Unfit, Numbered}
+use Rattle.construct.specs.Rows.{rowsIn, foundIn, CodeSet, Held, Unfit, Numbered}
 use Rattle.construct.proofs.RowSearch.{rows-length}
 use Rattle.construct.proofs.RowTables.{filled-length, filled-set, rows-append, pool-append}
 use Rattle.construct.proofs.RowTables.{rows-again}
+
+-- what holds of every row, and of one more
+each-more :
+    (P : List ℕ → Type 0) (y : List ℕ) (rows : List (List ℕ)) → P y → Each P rows → Each P (rows ++ (y ∷ []))
+each-more P y rows p each x i = elim (in-append x y rows i) [ inl j ↦ each x j | inr q ↦ rw q p ]
 
 -- rows that fit are passed
 fit-through :
@@ -90,7 +97,7 @@ module _
     {rows pool : List ℕ} {p : Progress} (held : Held codesSay rows pool p) (x rows′ pool′ : List ℕ) (a b : ℕ)
     (has-room : p .rows < p .room)
     (in-pool : p .total + length x ≤ length pool)
-    (small : length x ≤ mostPairs) (is-a : a ≡ p .total) (is-b : b ≡ length x)
+    (codes : CodeSet x) (is-a : a ≡ p .total) (is-b : b ≡ length x)
     (rows-now : rows′ ≡ set (set rows (rowWidth * p .rows) a) (rowWidth * p .rows + 1) b)
     (pool-now : pool′ ≡ laid pool (p .total) x) where
   numbers-long : length (rowNumbers codesSay 0 (rowsIn (p .rows) rows pool)) ≡ rowWidth * p .rows
@@ -157,13 +164,15 @@ module _
   row-added = record {
     grown = record {
       held = λ e. record {
+        rows-ascend =
+            rw rows-then (each-more (Asc 0) x (rowsIn (p .rows) rows pool) (codes .ascends) (held .rows-ascend));
         rows-are = rw (rows-then, rows-long) new-rows;
         pool-is = rw (rows-then, pool-long) new-pool;
         total-is =
             rw rows-then (sym total-then);
         in-room = omega arith;
         in-pool = rw pool-long in-pool;
-        total-most = omega (arith, held .total-most);
+        total-most = omega (arith, held .total-most, codes .few);
         room-most = held .room-most;
         room-fits = rw rows-long (held .room-fits);
         going = refl;

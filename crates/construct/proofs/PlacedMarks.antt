@@ -6,11 +6,11 @@ use native.Mathlib.Omega.{arith}
 use lib.ListN.{length, take, drop, length-append, replicate-append-replicate}
 use lib.Seq.{take-at, drop-at, length-take-le}
 use Rattle.model.specs.Basics.{zeros}
-use Rattle.model.specs.Rules.{mostPairs}
 use Rattle.model.specs.Construction.{numberOf, withRow}
+use Rattle.model.proofs.Masks.{Asc}
 use Rattle.construct.specs.declared.Placed.{Placed}
 use Rattle.construct.specs.Marks.{Gathered}
-use Rattle.construct.specs.Rows.{Numbered, MarksNumbered}
+use Rattle.construct.specs.Rows.{CodeSet, Numbered, MarksNumbered}
 
 module _ {row m gathered : List ℕ} {n : ℕ} (g : Gathered row m gathered n) (long : length gathered ≡ length m) where
   row-most : length row ≤ length m
@@ -22,12 +22,12 @@ module _ {row m gathered : List ℕ} {n : ℕ} (g : Gathered row m gathered n) (
   pub front-length : n ≡ length (take n gathered)
   front-length = sym (length-take-le n gathered count-fits)
 
-  pub front : take n gathered ≡ row
+  front : take n gathered ≡ row
   front =
       ap (take n) (g .marks-are) ∙ take-at row (zeros (length m - length row)) n (sym (g .count-is))
 
-  pub codes-few : length (take n gathered) ≤ mostPairs
-  codes-few = omega (arith, front-length, g .count-most)
+  pub codes-set : Asc 0 row → CodeSet (take n gathered)
+  codes-set a = record { ascends = rw front a; few = omega (arith, front-length, g .count-most) }
 
   zero-again : (z : List ℕ) → z ≡ zeros (length (take n gathered)) → z ++ drop n gathered ≡ zeros (length m)
   zero-again z e =

@@ -169,6 +169,7 @@ held-none rows pool room a b c =
     let e : length rows - 0 ≡ length rows = omega arith in
     let f : length pool - 0 ≡ length pool = omega arith in
     record {
+      rows-ascend = λ x i. elim i [ ];
       rows-are = rw e a;
       pool-is = rw f b;
       total-is = refl;

@@ -8,6 +8,8 @@ use Rattle.model.specs.Basics.{pick, zeros, filled, refusal}
 use Rattle.model.specs.Rules.{mostPairs}
 use Rattle.model.specs.Construction.{numberOf, mostRows}
 use Rattle.model.specs.Tables.{rowWidth, rowStart, rowLength, codesAt, rowNumbers, poolNumbers, fitRefusal}
+use Rattle.model.proofs.Masks.{Asc}
+use Rattle.model.proofs.Discovery.{Each}
 use Rattle.construct.specs.declared.Found.{Found}
 use Rattle.construct.specs.declared.Found.the-variants.{At, Nothing}
 use Rattle.construct.specs.declared.Progress.{Progress}
@@ -26,13 +28,19 @@ rowsIn n rows pool = rowsHeld n 0 rows pool
 abbrev pub foundIn : List ℕ → List (List ℕ) → Found
 foundIn x rows = pick (ltb (numberOf x rows) (length rows)) (At (numberOf x rows)) Nothing
 
+-- a set of codes: ascending, and not more than there are pairs
+pub record CodeSet (codes : List ℕ) : Type 0 where
+  pub ascends : Asc 0 codes
+  pub few : length codes ≤ mostPairs
+
 -- the rows' codes lie in the pool
 pub record Within (count : ℕ) (rows pool : List ℕ) : Type 0 where
   pub in-pool : (n : ℕ) → n < count → rowStart rows n + rowLength rows n ≤ length pool
 
--- The tables hold the rows numbered so far and zero past them, and there is room for what was put in. What a row has
--- in the row table beside its start, its codes say.
+-- The tables hold the rows numbered so far, each ascending, and zero past them, and there is room for what was put in.
+-- What a row has in the row table beside its start, its codes say.
 pub record Held (says : List ℕ → List ℕ) (rows pool : List ℕ) (p : Progress) : Type 0 where
+  pub rows-ascend : Each (Asc 0) (rowsIn (p .rows) rows pool)
   pub rows-are : rows ≡ filled (length rows) (rowNumbers says 0 (rowsIn (p .rows) rows pool))
   pub pool-is : pool ≡ filled (length pool) (poolNumbers (rowsIn (p .rows) rows pool))
   pub total-is : p .total ≡ length (poolNumbers (rowsIn (p .rows) rows pool))

@@ -89,7 +89,9 @@ pub(crate) fn fill_symbol(
     pool: &mut [u32],
     p: Progress,
 ) -> Progress
-    requires { ⌜ CanFill codesSay (ruleIn head (now edges)) scale (now marks) (now cells) (now rows) (now pool) p row ⌝ }
+    requires { ⌜
+        CanFill codesSay (ruleIn head (now edges)) scale (now marks) (now cells) (now rows) (now pool) p row
+        ⌝ }
     requires { ⌜ symbol < head .symbols ⌝ }
     requires { ⌜ Linked (ruleIn head (now edges)) (now links) ⌝ }
     ensures { λ r.
@@ -141,7 +143,9 @@ pub(crate) fn fill_row(
     pool: &mut [u32],
     p: Progress,
 ) -> Progress
-    requires { ⌜ CanFill codesSay (ruleIn head (now edges)) scale (now marks) (now cells) (now rows) (now pool) p row ⌝ }
+    requires { ⌜
+        CanFill codesSay (ruleIn head (now edges)) scale (now marks) (now cells) (now rows) (now pool) p row
+        ⌝ }
     requires { ⌜ Linked (ruleIn head (now edges)) (now links) ⌝ }
     ensures { λ r.
         ⌜ RowFilled codesSay (ruleIn head (now (edges .entry))) row

@@ -4,11 +4,11 @@ ghost use mathlib.Core.List.{_∷_, _++_, []};
 ghost use Prim.Native.Nat.{_+_, _≤_};
 ghost use lib.ListN.{length};
 ghost use Rattle.numbers.specs.Lent.{laid};
-ghost use Rattle.model.specs.Rules.{mostPairs};
 ghost use Rattle.model.specs.Construction.{numberOf, withRow};
 ghost use Rattle.model.specs.Tables.{codesSay};
 ghost use Rattle.construct.specs.Marks.{codesIn, InSpan};
-ghost use Rattle.construct.specs.Rows.{rowsIn, foundIn, Within, Held, Numbered, MarksNumbered};
+ghost use Rattle.construct.specs.Rows.{rowsIn, foundIn, CodeSet, Within, Held, Numbered};
+ghost use Rattle.construct.specs.Rows.{MarksNumbered};
 use crate::Found;
 use crate::Placed;
 use crate::Progress;
@@ -65,7 +65,7 @@ pub(crate) fn copy_codes(codes: &[u32], pool: &mut [u32], at: usize)
 // Gives `codes` the next number: 23 where there is no room for it, else 24 where the pool is too short.
 pub(crate) fn add_row(codes: &[u32], rows: &mut [u32], pool: &mut [u32], p: Progress) -> Placed
     requires { ⌜ Held codesSay (now rows) (now pool) p ⌝ }
-    requires { ⌜ length (now codes) ≤ mostPairs ⌝ }
+    requires { ⌜ CodeSet (now codes) ⌝ }
     ensures { λ r.
         ⌜ Numbered codesSay (p .room)
         (rowsIn (p .rows) (now (rows .entry)) (now (pool .entry)) ++ (now (codes .entry) ∷ [])) (p .rows)
@@ -113,7 +113,7 @@ pub(crate) fn add_row(codes: &[u32], rows: &mut [u32], pool: &mut [u32], p: Prog
 // The number of the row that holds `codes`: if an equal set has a number that one, else the next.
 pub(crate) fn place_row(codes: &[u32], rows: &mut [u32], pool: &mut [u32], p: Progress) -> Placed
     requires { ⌜ Held codesSay (now rows) (now pool) p ⌝ }
-    requires { ⌜ length (now codes) ≤ mostPairs ⌝ }
+    requires { ⌜ CodeSet (now codes) ⌝ }
     ensures { λ r.
         ⌜ Numbered codesSay (p .room)
         (withRow (now (codes .entry)) (rowsIn (p .rows) (now (rows .entry)) (now (pool .entry))))

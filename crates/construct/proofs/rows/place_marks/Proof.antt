@@ -1,7 +1,8 @@
 -- `construct::rows::place_marks` meets its contract: the marks gathered, given a number, and cleared.
 use borrow.Author.Needs.{needs}
 use Rattle.construct.specs.Rows.{rowsIn}
-use Rattle.construct.proofs.PlacedMarks.{count-fits, front-length, codes-few, marks-placed}
+use Rattle.construct.proofs.MarkLaws.{codes-rise}
+use Rattle.construct.proofs.PlacedMarks.{count-fits, front-length, codes-set, marks-placed}
 use Rattle.construct.proofs.rows.place_marks.Statement.{statement}
 use Rattle.construct.proofs.rows.place_marks.Tie as tie
 
@@ -19,8 +20,11 @@ slice-aggregate-place-row c =
 place-row-requires : tie.Need-place-row-requires
 place-row-requires c κs =
     let after-gather = c .before .before .before .before .before in
-    let start = after-gather .before .before .before .before .before in
-    (start .pre .1, codes-few (after-gather .gather .ensures) (after-gather .gather .kept .0))
+    let start = after-gather .before .before .before .before .before in (
+      start .pre .1,
+      codes-set (after-gather .gather .ensures) (after-gather .gather .kept .0)
+          (codes-rise 0 (start .args .marks .now)),
+    )
 
 slice-relend-prefix-clear32 : tie.Need-slice-relend-prefix-clear32
 slice-relend-prefix-clear32 c =
