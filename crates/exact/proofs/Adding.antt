@@ -75,11 +75,6 @@ looking k n c s =
     let e : n - 0 ≡ n = omega arith in
     record { turns = omega arith; place-is = sym (zero-mul (k + 1)); rest-is = rw e }
 
--- place i of n is within the bank
-pub within-bank : (k n i at len : ℕ) → i < n → at ≡ i * (k + 1) → n * (k + 1) ≤ len → at + (k + 1) ≤ len
-within-bank k n i at len h e f =
-    omega (arith, mul-le-mul-right {m = suc i} {n = n} (k + 1) h, suc-mul i (k + 1))
-
 module _ {k n i at : ℕ} {c : Config} {s : List ℕ} (inv : Looking k n i at c s) (h : i < n) (known : Configuration)
     (loaded : Loaded at s known) (few : k ≤ mostClocks) (r : Bool) (test : r ≡ sameConfig c (configOf k known)) where
   look-step :
@@ -114,6 +109,10 @@ still-roomy k room m s′ ready h e = record {
   bank-fits = omega (arith, ready .bank-fits);
   count-most = h;
 }
+
+-- the clocks that were read are the head's
+pub roomy-known : (k k′ room n : ℕ) (bank : List ℕ) → k ≡ k′ → Roomy k′ room n bank → Roomy k room n bank
+roomy-known k k′ room n bank e h = rw e h
 
 -- what is there fits, and one more where there is room
 pub there-fits : (k room n : ℕ) (s : List ℕ) → Roomy k room n s → n * (k + 1) ≤ length s

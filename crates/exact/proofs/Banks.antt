@@ -3,7 +3,7 @@ use mathlib.Core.Path.{_≡_, refl, _∙_, ap, ap₂}
 use mathlib.Core.List.{List, [], _∷_, _++_}
 use Prim.Native.Nat.{ℕ, zero, suc, _+_, _-_, _*_, _≤_, _<_}
 use native.Mathlib.Omega.{arith}
-use native.Mathlib.Nat.{suc-mul, zero-mul}
+use native.Mathlib.Nat.{mul-le-mul-right, suc-mul, zero-mul}
 use native.Mathlib.Numerals.{add-one}
 use lib.ListN.{length, getD, set, take, length-set}
 use lib.Seq.{sets, getD-set-same, getD-set-other}
@@ -62,6 +62,12 @@ pub configs-rest :
     (k n i at : ℕ) (s : List ℕ) → i < n
     → configsAt k (n - i) at s ≡ configAt k at s ∷ configsAt k (n - (i + 1)) (at + (k + 1)) s
 configs-rest k n i at s h = let e : n - i ≡ suc (n - (i + 1)) = omega arith in rw e
+
+-- place i of n is within the list
+pub place-within :
+    (k n from i at len : ℕ) → i < n → at ≡ from + i * (k + 1) → from + n * (k + 1) ≤ len → at + (k + 1) ≤ len
+place-within k n from i at len h e f =
+    omega (arith, mul-le-mul-right {m = suc i} {n = n} (k + 1) h, suc-mul i (k + 1))
 
 take-numbers : (k n at : ℕ) (s : List ℕ) → k ≤ n → take k (numbersAt n at s) ≡ numbersAt k at s
 take-numbers zero n at s h = refl

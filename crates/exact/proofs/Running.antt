@@ -111,17 +111,23 @@ module _ (head : Head) (edges : List ℕ) (d : ℕ) (symbols stamps : List ℕ) 
         accepts-is = rw there (start-some rule d (eventsOf symbols stamps));
       }
 
-  module _ {n from last i len : ℕ} {s : List ℕ} (inv : Running n from last i len s) (h : i < length symbols)
-      (to delay : ℕ)
-      (to-is : to ≡ size - from) (delay-is : delay ≡ getD stamps i 0 - last) (small : getD stamps i 0 < 2 ^ 32) where
+  -- event number i: the bank that it leads to, and its delay
+  pub record Next (from last i to delay : ℕ) : Type 0 where
+    pub there : i < length symbols
+    pub to-is : to ≡ size - from
+    pub delay-is : delay ≡ getD stamps i 0 - last
+    pub small : getD stamps i 0 < 2 ^ 32
+
+  module _ {n from last i len : ℕ} {s : List ℕ} {to delay : ℕ} (inv : Running n from last i len s)
+      (next : Next from last i to delay) where
     abbrev now-there : List Config
     now-there = configsAt (head .clocks) n from s
 
     in-order : (last ≤ getD stamps i 0) × Ordered (getD stamps i 0) (left (i + 1))
-    in-order = ordered-rest last symbols stamps i h (inv .begins .counts-equal) (inv .ordered)
+    in-order = ordered-rest last symbols stamps i (next .there) (inv .begins .counts-equal) (inv .ordered)
 
     next-event : left i ≡ eventAt symbols stamps i ∷ left (i + 1)
-    next-event = events-rest symbols stamps i h (omega (arith, inv .begins .counts-equal))
+    next-event = events-rest symbols stamps i (next .there) (omega (arith, next .there, inv .begins .counts-equal))
 
     -- the configurations that the event leads to
     abbrev after : List Config
@@ -129,13 +135,15 @@ module _ (head : Head) (edges : List ℕ) (d : ℕ) (symbols stamps : List ℕ) 
 
     after-is : byConfigsOf head edges d (getD symbols i 0) delay now-there ≡ after
     after-is =
-        rw delay-is
+        rw (next .delay-is)
         (configs-symbol rule d (withSymbol (getD symbols i 0)) (eventAt symbols stamps i) (getD stamps i 0 - last)
         now-there []
         refl)
 
     apart : (from + size ≤ to) ⊎ (to + size ≤ from)
-    apart = elim (inv .from-is) [ inl e ↦ inl (omega arith) | inr e ↦ inr (omega arith) ]
+    apart =
+        elim (inv .from-is)
+        [ inl e ↦ inl (omega (arith, next .to-is)) | inr e ↦ inr (omega (arith, next .to-is)) ]
 
     pub step-ready : Stepping head delay room from n to s
     step-ready = record {
@@ -145,11 +153,11 @@ module _ (head : Head) (edges : List ℕ) (d : ℕ) (symbols stamps : List ℕ) 
             from-fits =
                 elim (inv .from-is)
                 [ inl e ↦ omega (arith, inv .banks-fit) | inr e ↦ omega (arith, inv .banks-fit) ];
-            to-fits = omega (arith, inv .banks-fit);
+            to-fits = omega (arith, inv .banks-fit, next .to-is);
             apart = apart;
             count-most = inv .count-most;
           };
-      ages-below = (last, inv .aged, omega (arith, in-order .0));
+      ages-below = (last, inv .aged, omega (arith, in-order .0, next .delay-is, next .small));
     }
 
     there-most : length now-there ≤ room
@@ -185,12 +193,14 @@ module _ (head : Head) (edges : List ℕ) (d : ℕ) (symbols stamps : List ℕ) 
       running-next more q same =
           let there = rw (q, after-is) at holds in
           record {
-            turns = omega arith;
+            turns = omega (arith, next .there);
             begins = inv .begins;
             count-most = there .0;
             banks-fit = omega (arith, inv .banks-fit);
             length-is = same ∙ inv .length-is;
-            from-is = elim (inv .from-is) [ inl e ↦ inr (omega arith) | inr e ↦ inl (omega arith) ];
+            from-is =
+                elim (inv .from-is)
+                [ inl e ↦ inr (omega (arith, next .to-is)) | inr e ↦ inl (omega (arith, next .to-is)) ];
             aged =
                 rw (there .1)
                 (aged-configs rule d (eventAt symbols stamps i) last (getD stamps i 0) now-there [] (in-order .0)

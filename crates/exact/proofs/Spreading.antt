@@ -114,6 +114,3 @@ pub clocks-known :
     → Holds k room 0 (byEdgesOf k count edges d symbol from (configsAt k n 0 bank)) bank′ added
     → Holds k′ room 0 (byEdgesOf k′ count edges d symbol from (configsAt k′ n 0 bank)) bank′ added
 clocks-known k k′ count edges d symbol from room n bank bank′ added e h = rw e at h
-
-pub roomy-known : (k k′ room n : ℕ) (bank : List ℕ) → k ≡ k′ → Roomy k′ room n bank → Roomy k room n bank
-roomy-known k k′ room n bank e h = rw e h

@@ -4,7 +4,7 @@ use mathlib.Core.Bool.{Bool, true, false, _||_}
 use mathlib.Core.List.{List, [], _∷_, _++_, append-assoc, append-nil}
 use Prim.Native.Nat.{ℕ, suc, _+_, _-_, _*_, _≤_, _<_}
 use native.Mathlib.Omega.{arith}
-use native.Mathlib.Nat.{mul-le-mul-right, suc-mul, zero-mul}
+use native.Mathlib.Nat.{suc-mul, zero-mul}
 use native.Mathlib.Numerals.{add-one}
 use lib.ListN.{length, getD, length-append}
 use Rattle.model.specs.declared.Head.{Head}
@@ -120,9 +120,6 @@ pub starts-known :
     → Holds k′ room 0 (startsOver k′ mask′) bank added
 starts-known k k′ mask mask′ room bank added e f h = rw (e, f) at h
 
-pub roomy-start : (k k′ room : ℕ) (bank : List ℕ) → k ≡ k′ → Roomy k′ room 0 bank → Roomy k room 0 bank
-roomy-start k k′ room bank e h = rw e h
-
 -- The configurations passed are at other locations.
 pub record Passing (set k n from i at : ℕ) (s : List ℕ) : Type 0 where
   pub turns : i ≤ n
@@ -133,12 +130,6 @@ pub passing : (set k n from : ℕ) (s : List ℕ) → Passing set k n from 0 fro
 passing set k n from s =
     let z : n - 0 ≡ n = omega arith in
     record { turns = omega arith; place-is = omega (arith, zero-mul (k + 1)); rest-is = rw z }
-
--- place i of n is within the list
-pub place-within :
-    (k n from i at len : ℕ) → i < n → at ≡ from + i * (k + 1) → from + n * (k + 1) ≤ len → at + (k + 1) ≤ len
-place-within k n from i at len h e f =
-    omega (arith, mul-le-mul-right {m = suc i} {n = n} (k + 1) h, suc-mul i (k + 1))
 
 module _ {set k n from i at : ℕ} {s : List ℕ} (inv : Passing set k n from i at s) (h : i < n) (r : Bool) (l : ℕ)
     (read : l ≡ getD s at 0) (test : r ≡ isIn l (locationsIn set)) where

@@ -1,12 +1,11 @@
 -- `exact::follow_events` meets its contract: refusal and verdict over the events left are those of the word.
-use Rattle.exact.proofs.Running.{from-most}
 use mathlib.Core.Path.{_≡_, _∙_}
 use Prim.Native.Nat.{_+_, _-_, _*_}
 use native.Mathlib.Omega.{arith}
 use borrow.Author.Needs.{needs}
 use lib.ListN.{length}
-use Rattle.exact.proofs.Running.{other-known, to-known, final-known, Running, running, step-ready, running-full}
-use Rattle.exact.proofs.Running.{running-next, final-fits, running-end}
+use Rattle.exact.proofs.Running.{other-known, to-known, final-known, Running, running, from-most, Next, step-ready}
+use Rattle.exact.proofs.Running.{running-full, running-next, final-fits, running-end}
 use Rattle.exact.proofs.follow_events.Statement.{statement}
 use Rattle.exact.proofs.follow_events.Tie as tie
 
@@ -18,6 +17,25 @@ Inv-loop head edges grain symbols stamps scratch₀ room first clocks other n₀
 abbrev μ-loop : tie.MeasureT-loop
 μ-loop head edges grain symbols stamps scratch₀ room first clocks other n₀ from₀ last₀ i₀ scratch n from last i =
     length symbols - i
+
+-- the event that is read
+next-at :
+    (c : tie.After-since Inv-loop μ-loop)
+    → let at = c .before .before .before in
+    let a = at .before .before .before .before .before .before .args in
+    let l = at .loop in
+    Next (a .head) (a .edges .now) (a .grain) (a .symbols .now) (a .stamps .now) (a .room) (l .from) (l .last .0) (l .i)
+    (a .room * (at .before .wide32 .result + 1) - l .from)
+    (c .since .result .0)
+next-at c =
+    let test = c .before .before in
+    let l = test .before .loop in
+    record {
+      there = test .loop-test .taken;
+      to-is = to-known _ _ _ (l .from) (l .inv .0);
+      delay-is = c .since .ensures;
+      small = omega (arith, c .before .shared-slice-known4 .given (l .i));
+    }
 
 wide32-requires : tie.Need-wide32-requires Inv-loop μ-loop
 wide32-requires c κs = search needs
@@ -69,15 +87,10 @@ shared-slice-read-by-configs c = search needs
 by-configs-requires : tie.Need-by-configs-requires Inv-loop μ-loop
 by-configs-requires c κs =
     let since = c .before .before in
-    let test = since .before .before in
-    let at = test .before in
+    let at = since .before .before .before in
     let a = at .before .before .before .before .before .before .args in
-    let l = at .loop in
-    step-ready (a .head) (a .edges .now) (a .grain) (a .symbols .now) (a .stamps .now) (a .room) (l .inv .2)
-    (test .loop-test .taken) _ _
-    (to-known (a .room) _ _ (l .from) (l .inv .0))
-    (since .since .ensures)
-    (omega (arith, since .before .shared-slice-known4 .given (l .i)))
+    step-ready (a .head) (a .edges .now) (a .grain) (a .symbols .now) (a .stamps .now) (a .room) (at .loop .inv .2)
+    (next-at since)
 
 enum-known-added : tie.Need-enum-known-added Inv-loop μ-loop
 enum-known-added c = search needs
@@ -101,15 +114,11 @@ returns : tie.Need-returns Inv-loop μ-loop
 returns c =
     let made = c .before .before .before .before .before in
     let since = made .before .before .before in
-    let test = since .before .before in
-    let at = test .before in
+    let at = since .before .before .before in
     let a = at .before .before .before .before .before .before .args in
     let l = at .loop in
     running-full (a .head) (a .edges .now) (a .grain) (a .symbols .now) (a .stamps .now) (a .room) (l .inv .2)
-    (test .loop-test .taken) _ _
-    (to-known (a .room) _ _ (l .from) (l .inv .0))
-    (since .since .ensures)
-    (omega (arith, since .before .shared-slice-known4 .given (l .i)))
+    (next-at since)
     _
     (made .by-configs .result)
     (made .by-configs .ensures)
@@ -127,16 +136,12 @@ loop-again : tie.Need-loop-again Inv-loop μ-loop
 loop-again c =
     let made = c .before .before .before .before .before in
     let since = made .before .before .before in
-    let test = since .before .before in
-    let at = test .before in
+    let at = since .before .before .before in
     let a = at .before .before .before .before .before .before .args in
     let l = at .loop in
     let next =
     running-next (a .head) (a .edges .now) (a .grain) (a .symbols .now) (a .stamps .now) (a .room) (l .inv .2)
-    (test .loop-test .taken) _ _
-    (to-known (a .room) _ _ (l .from) (l .inv .0))
-    (since .since .ensures)
-    (omega (arith, since .before .shared-slice-known4 .given (l .i)))
+    (next-at since)
     _
     (made .by-configs .result)
     (made .by-configs .ensures)

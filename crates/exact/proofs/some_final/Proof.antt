@@ -3,7 +3,8 @@ use mathlib.Core.Path.{_≡_, ap}
 use Prim.Native.Nat.{ℕ, _+_, _-_, _*_, _≤_}
 use native.Mathlib.Omega.{arith}
 use lib.ListN.{length}
-use Rattle.exact.proofs.Starting.{Passing, passing, place-within, passing-next, pass-found, pass-none}
+use Rattle.exact.proofs.Banks.{place-within}
+use Rattle.exact.proofs.Starting.{Passing, passing, passing-next, pass-found, pass-none}
 use borrow.Author.Needs.{needs}
 use Rattle.exact.proofs.some_final.Statement.{statement}
 use Rattle.exact.proofs.some_final.Tie as tie

@@ -5,7 +5,8 @@ use lib.ListN.{length}
 use Rattle.model.specs.Rules.{mostLocations}
 use Rattle.exact.specs.declared.bank.Added.the-variants.{Count, Full}
 use Rattle.exact.proofs.Starting.{Starting, starting, starting-other, starting-added, starting-full, started}
-use Rattle.exact.proofs.Starting.{starts-known, roomy-start}
+use Rattle.exact.proofs.Starting.{starts-known}
+use Rattle.exact.proofs.Adding.{roomy-known}
 use borrow.Author.Needs.{needs}
 use Rattle.exact.proofs.start_configs.Statement.{statement}
 use Rattle.exact.proofs.start_configs.Tie as tie
@@ -24,7 +25,7 @@ wide32-requires-2 c κs = search needs
 
 loop-holds : tie.Need-loop-holds Inv-loop μ-loop
 loop-holds c =
-    starting _ _ _ _ (roomy-start _ _ _ _ (c .before .wide32 .ensures .0) (c .before .before .before .pre))
+    starting _ _ _ _ (roomy-known _ _ _ _ _ (c .before .wide32 .ensures .0) (c .before .before .before .pre))
 
 has-bit-requires : tie.Need-has-bit-requires Inv-loop μ-loop
 has-bit-requires c κs = search needs

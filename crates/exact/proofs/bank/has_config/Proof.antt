@@ -5,7 +5,8 @@ use native.Mathlib.Omega.{arith}
 use lib.ListN.{length}
 use Rattle.model.specs.Rules.{mostClocks}
 use Rattle.ages.specs.Ages.{configOf}
-use Rattle.exact.proofs.Adding.{Looking, looking, looking-next, look-found, look-none, within-bank}
+use Rattle.exact.proofs.Adding.{Looking, looking, looking-next, look-found, look-none}
+use Rattle.exact.proofs.Banks.{place-within}
 use borrow.Author.Needs.{needs}
 use Rattle.exact.proofs.bank.has_config.Statement.{statement}
 use Rattle.exact.proofs.bank.has_config.Tie as tie
@@ -30,8 +31,8 @@ load-requires c κs =
     let l = c .before .loop in
     omega (
       arith,
-      within-bank (a .clocks) (a .n) (l .i) (l .at) (length (a .bank .now)) (c .loop-test .taken)
-          (l .inv .3 .place-is) (l .inv .2),
+      place-within (a .clocks) (a .n) 0 (l .i) (l .at) (length (a .bank .now)) (c .loop-test .taken)
+          (omega (arith, l .inv .3 .place-is)) (omega (arith, l .inv .2)),
     )
 
 same-configuration-requires : tie.Need-same-configuration-requires Inv-loop μ-loop
@@ -47,12 +48,13 @@ returns c =
 
 add-at : tie.Need-add-at Inv-loop μ-loop
 add-at c =
-    let a = c .before .before .before .before .before .before .args in
-    let l = c .before .before .before .before .loop in
+    let test = c .before .before .before in
+    let a = test .before .before .before .args in
+    let l = test .before .loop in
     omega (
       arith,
-      within-bank (a .clocks) (a .n) (l .i) (l .at) (length (a .bank .now))
-          (c .before .before .before .loop-test .taken) (l .inv .3 .place-is) (l .inv .2),
+      place-within (a .clocks) (a .n) 0 (l .i) (l .at) (length (a .bank .now)) (test .loop-test .taken)
+          (omega (arith, l .inv .3 .place-is)) (omega (arith, l .inv .2)),
     )
 
 add-i : tie.Need-add-i Inv-loop μ-loop

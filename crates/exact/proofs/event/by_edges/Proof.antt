@@ -1,5 +1,5 @@
 -- `exact::event::by_edges` meets its contract: the edges passed are done, those from e on are left.
-use Rattle.exact.proofs.Spreading.{clocks-known, roomy-known}
+use Rattle.exact.proofs.Adding.{roomy-known}
 use Rattle.exact.specs.declared.bank.Added.the-variants.{Count, Full}
 use mathlib.Core.Logic.{⊎-elim}
 use Prim.Native.Nat.{_-_}
@@ -7,7 +7,7 @@ use lib.ListN.{length}
 use Rattle.exact.specs.Banks.{configsAt}
 use Rattle.exact.specs.Ready.{byEdgesOf}
 use Rattle.exact.proofs.Spreading.{Spreading, spreading, spreading-other, spreading-added, spreading-full}
-use Rattle.exact.proofs.Spreading.{spread-all}
+use Rattle.exact.proofs.Spreading.{spread-all, clocks-known}
 use borrow.Author.Needs.{needs}
 use Rattle.exact.proofs.event.by_edges.Statement.{statement}
 use Rattle.exact.proofs.event.by_edges.Tie as tie
