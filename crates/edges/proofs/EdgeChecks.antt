@@ -140,6 +140,15 @@ unpinned-end {count} {j} {t} resets inv h n =
     let z : count - j ≡ 0 = omega arith in
     rw (ne-eqb resets 0 n) (rw z at (inv .rest-is))
 
+-- the first four numbers are the fields
+pub fields-taken :
+    (t : List ℕ) → 4 ≤ length t → take 4 t ≡ getD t 0 0 ∷ getD t 1 0 ∷ getD t 2 0 ∷ getD t 3 0 ∷ []
+fields-taken [] h = absurd (omega arith)
+fields-taken (a ∷ []) h = absurd (omega arith)
+fields-taken (a ∷ b ∷ []) h = absurd (omega arith)
+fields-taken (a ∷ b ∷ c ∷ []) h = absurd (omega arith)
+fields-taken (a ∷ b ∷ c ∷ d ∷ t) h = refl
+
 -- the numbers of the atoms that were read are the numbers that stand there
 pub atom-numbers : (n : ℕ) (t : List ℕ) → atomWidth * n ≤ length t → atomNumbers (atomsIn n t) ≡ take (atomWidth * n) t
 atom-numbers zero t h = refl

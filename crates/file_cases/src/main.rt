@@ -1,8 +1,7 @@
 // The worked rule file and a file for each refusal from 1 to 8, read: number and place of each. Then the worked file
 // written again: its length, and 1 if its bytes are the same.
-ghost use Prim.Native.Nat.{_+_, _*_};
-ghost use lib.ListN.{length};
 use libc::STDOUT_FILENO;
+use model::EDGE_NEED;
 use reader::read_rule;
 use writer::write_rule;
 
@@ -15,7 +14,7 @@ fn print_pair(a: usize, b: usize) {
 
 // Number and place of what reading a file answers.
 fn print_reading(file: &[u8]) {
-    let mut edges = [7u16; 7424];
+    let mut edges = [7u16; EDGE_NEED];
     let reading = read_rule(file, &mut edges);
     print_pair(reading.number as usize, reading.place);
 }
@@ -56,7 +55,7 @@ fn print_same(out: &[u8], size: usize, file: &[u8]) {
 
 // What is written of a file that was read: its length, and whether the bytes are the same.
 fn print_writing(file: &[u8]) {
-    let mut edges = [7u16; 7424];
+    let mut edges = [7u16; EDGE_NEED];
     let reading = read_rule(file, &mut edges);
     let mut out = [7u8; 15760];
     let head = reading.head;

@@ -14,7 +14,7 @@ use Rattle.model.specs.Layout.{edgeFields, atomWidth, atomsIn, edgeWidth, edgeN
 use Rattle.model.proofs.Bytes.{numbersOf, number-later, atom-numbers-length}
 use Rattle.model.proofs.EdgeTable.{atoms-length}
 use Rattle.model.proofs.EdgesWritten.{edge-numbers-length}
-use Rattle.edges.proofs.EdgeChecks.{atom-numbers}
+use Rattle.edges.proofs.EdgeChecks.{fields-taken, atom-numbers}
 use Rattle.reader.specs.Bodies.{numberBytes, fieldsBody, atomBody, bodyFields, bodyNumbers, edgeSpelt}
 use Rattle.reader.specs.State.{Places}
 
@@ -147,15 +147,6 @@ drop-zeros (suc k) zero = let e : 0 - suc k ≡ 0 = omega arith in rw e
 drop-zeros (suc k) (suc n) = let e : suc n - suc k ≡ n - k = omega arith in rw e (drop-zeros k n)
 
 -- An edge's 29 places: its four fields, its atom count, its atoms, zeros.
-four :
-    (v : List ℕ) → bodyFields ≤ length v
-    → take bodyFields v ≡ getD v 0 0 ∷ getD v 1 0 ∷ getD v 2 0 ∷ getD v 3 0 ∷ []
-four [] h = absurd (omega arith)
-four (a ∷ []) h = absurd (omega arith)
-four (a ∷ b ∷ []) h = absurd (omega arith)
-four (a ∷ b ∷ c ∷ []) h = absurd (omega arith)
-four (a ∷ b ∷ c ∷ d ∷ v) h = refl
-
 abbrev pub atomCount : List ℕ → ℕ
 atomCount v = (length v - bodyFields) / atomWidth
 
@@ -169,7 +160,7 @@ module _
     -- the places once the fields and the atom count are written
     begun-is :
         set first 4 m ≡ getD v 0 0 ∷ getD v 1 0 ∷ getD v 2 0 ∷ getD v 3 0 ∷ atomCount v ∷ zeros atomPlaces
-    begun-is = rw (first-is, four v (p .least), p .zero, m-is)
+    begun-is = rw (first-is, fields-taken v (p .least), p .zero, m-is)
 
     pub begun-long : length (set first 4 m) ≡ edgeWidth
     begun-long = ap length begun-is

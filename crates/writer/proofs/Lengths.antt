@@ -3,24 +3,24 @@ use mathlib.Core.Path.{_≡_, sym, _∙_, ap}
 use mathlib.Core.List.{List, [], _∷_}
 use Prim.Native.Nat.{ℕ, _+_, _-_, _*_, _/_, _%_, _^_, _≤_, _<_}
 use native.Mathlib.Omega.{arith}
-use lib.ListN.{length, getD, drop, length-append}
-use lib.Seq.{getD-drop}
+use lib.ListN.{length, drop, length-append}
 use borrow.Author.Tests.{eqb-true, eqb-false}
 use Rattle.model.specs.declared.Head.{Head}
 use Rattle.model.specs.Basics.{pick, bit, bitsFrom}
-use Rattle.model.specs.Rules.{mostAtoms}
+use Rattle.model.specs.Rules.{mostAtoms, mostLocations}
 use Rattle.model.specs.Files.{ceilingRecord, edgeRecord, edgeRecords, ruleBytes}
-use Rattle.model.specs.Layout.{edgeWidth, edgeIn, edgesIn, locationsIn, ruleIn}
+use Rattle.model.specs.Layout.{edgeWidth, edgeAt, edgesIn, locationsIn, ruleIn}
 use Rattle.model.proofs.Logic.{by-test}
 use Rattle.model.proofs.FileLengths.{file-length}
-use Rattle.writer.specs.Writing.{Table}
-use Rattle.writer.proofs.Records.{bits-rest, bits-none, edge-records-rest, edge-records-none, edge-length}
+use Rattle.model.proofs.FileRead.{edge-record-length}
+use Rattle.writer.specs.Writing.{atomBody, sizesLength, singleLength, edgeLength, Table}
+use Rattle.writer.proofs.Records.{bits-rest, bits-none, edge-records-rest, edge-records-none}
 
 -- the locations counted so far, and those still to come
 pub record Counted (mask i count : ℕ) : Type 0 where
-  pub turns : i ≤ 32
+  pub turns : i ≤ mostLocations
   pub few : count ≤ i
-  pub rest-is : count + length (bitsFrom (32 - i) i mask) ≡ length (locationsIn mask)
+  pub rest-is : count + length (bitsFrom (mostLocations - i) i mask) ≡ length (locationsIn mask)
 
 pub counted-start : (mask : ℕ) → Counted mask 0 0
 counted-start mask = record { turns = omega arith; few = omega arith; rest-is = omega arith }
@@ -31,10 +31,10 @@ bit-length i mask =
     (λ e. rw e (omega (arith, eqb-false (mask / 2 ^ i % 2) 1 e)))
 
 module _ {mask i count : ℕ} (inv : Counted mask i count) where
-  pub counted-next : i < 32 → Counted mask (i + 1) (count + mask / 2 ^ i % 2)
+  pub counted-next : i < mostLocations → Counted mask (i + 1) (count + mask / 2 ^ i % 2)
   counted-next h =
       let xs : List ℕ = pick (bit i mask) (i ∷ []) [] in
-      let later : List ℕ = bitsFrom (32 - (i + 1)) (i + 1) mask in
+      let later : List ℕ = bitsFrom (mostLocations - (i + 1)) (i + 1) mask in
       record {
         turns = omega arith;
         few = omega (arith, inv .few);
@@ -42,13 +42,13 @@ module _ {mask i count : ℕ} (inv : Counted mask i count) where
             omega (arith, inv .rest-is, ap length (bits-rest i mask h), length-append xs later, bit-length i mask);
       }
 
-  pub counted-end : 32 ≤ i → count ≡ length (locationsIn mask)
+  pub counted-end : mostLocations ≤ i → count ≡ length (locationsIn mask)
   counted-end h = omega (arith, inv .rest-is, ap length (bits-none i mask h))
 
 -- the lengths of the edges so far, and of those still to come
 pub record Summed (count : ℕ) (t : List ℕ) (e sum : ℕ) : Type 0 where
   pub turns : e ≤ count
-  pub few : sum ≤ 60 * e
+  pub few : sum ≤ (edgeLength + atomBody * mostAtoms) * e
   pub rest-is :
       sum + length (edgeRecords (edgesIn (count - e) (drop (edgeWidth * e) t)))
       ≡ length (edgeRecords (edgesIn count t))
@@ -60,19 +60,22 @@ summed-start count t =
 
 module _ {count e sum : ℕ} {t : List ℕ} (inv : Summed count t e sum) where
   pub summed-next :
-      (atoms : ℕ) → e < count → getD t (edgeWidth * e + 4) 0 ≤ mostAtoms → atoms ≡ getD t (edgeWidth * e + 4) 0
-      → Summed count t (e + 1) (sum + (12 + 6 * atoms))
+      (atoms : ℕ) → e < count → length (edgeAt e t .atoms) ≤ mostAtoms → atoms ≡ length (edgeAt e t .atoms)
+      → Summed count t (e + 1) (sum + (edgeLength + atomBody * atoms))
   summed-next atoms h few a =
-      let one : List ℕ = edgeRecord (edgeIn (drop (edgeWidth * e) t)) in
+      let one : List ℕ = edgeRecord (edgeAt e t) in
       let later : List ℕ = edgeRecords (edgesIn (count - (e + 1)) (drop (edgeWidth * (e + 1)) t)) in
-      let long : length one ≡ 12 + 6 * atoms =
-      edge-length (drop (edgeWidth * e) t)
-      ∙ ap (λ (k : ℕ). 12 + 6 * k) (getD-drop (edgeWidth * e) t 4 0 ∙ sym a) in
       record {
         turns = omega arith;
         few = omega (arith, inv .few);
         rest-is =
-            omega (arith, inv .rest-is, ap length (edge-records-rest count e t h), length-append one later);
+            omega (
+              arith,
+              inv .rest-is,
+              ap length (edge-records-rest count e t h),
+              length-append one later,
+              edge-record-length (edgeAt e t),
+            );
       }
 
   pub summed-end : count ≤ e → sum ≡ length (edgeRecords (edgesIn count t))
@@ -84,19 +87,16 @@ table-known e table = rw e table
 
 -- the whole file
 pub whole-length :
-    (h : Head) (t : List ℕ) {starts ends ceiling count i f c es : ℕ} → starts ≡ h .starts → ends ≡ h .ends
+    (h : Head) (t : List ℕ) {starts ends ceiling i f c es : ℕ} → starts ≡ h .starts → ends ≡ h .ends
     → ceiling ≡ h .ceiling
-    → count ≡ h .count
     → i ≡ length (locationsIn starts)
     → f ≡ length (locationsIn ends)
     → c ≡ length (ceilingRecord ceiling)
-    → es ≡ length (edgeRecords (edgesIn count t))
-    → 10 + 6 * (i + f) + c + es ≡ length (ruleBytes (ruleIn h t))
+    → es ≡ length (edgeRecords (edgesIn (h .count) t))
+    → sizesLength + singleLength * (i + f) + c + es ≡ length (ruleBytes (ruleIn h t))
 unfolding ruleIn
-whole-length h t {starts} {ends} {ceiling} {count} {i} {f} {c} {es} s-is e-is c-is n-is a b d g =
+whole-length h t {starts} {ends} {ceiling} {i} {f} {c} {es} s-is e-is c-is a b d g =
     let a′ : i ≡ length (locationsIn (h .starts)) = a ∙ ap (λ (m : ℕ). length (locationsIn m)) s-is in
     let b′ : f ≡ length (locationsIn (h .ends)) = b ∙ ap (λ (m : ℕ). length (locationsIn m)) e-is in
     let d′ : c ≡ length (ceilingRecord (h .ceiling)) = d ∙ ap (λ (m : ℕ). length (ceilingRecord m)) c-is in
-    let g′ : es ≡ length (edgeRecords (edgesIn (h .count) t)) =
-    g ∙ ap (λ (m : ℕ). length (edgeRecords (edgesIn m t))) n-is in
     omega (arith, file-length (ruleIn h t))

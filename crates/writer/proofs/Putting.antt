@@ -7,7 +7,7 @@ use native.Mathlib.Numerals.{add-one}
 use lib.ListN.{length, set, length-append}
 use lib.Seq.{sets, length-sets}
 use Rattle.model.specs.Files.{two}
-use Rattle.writer.specs.Writing.{Puts}
+use Rattle.writer.specs.Writing.{numberBytes, Puts}
 
 sets-append : (xs ys l : List ℕ) (i : ℕ) → sets l i (xs ++ ys) ≡ sets (sets l i xs) (i + length xs) ys
 sets-append [] ys l i = let e : i + 0 ≡ i = omega arith in rw e
@@ -19,8 +19,9 @@ pub none-put : (out : List ℕ) (at : ℕ) → Puts [] out at out at
 none-put out at = record { next-is = omega arith; out-is = refl }
 
 pub number-put :
-    (out : List ℕ) (at v : ℕ) → Puts (two v) out at (set (set out at (v % 256)) (at + 1) (v / 256)) (at + 2)
-number-put out at v = record { next-is = refl; out-is = rw (add-one at) }
+    (out : List ℕ) (at v low high : ℕ) → low ≡ v % 256 → high ≡ v / 256
+    → Puts (two v) out at (set (set out at low) (at + 1) high) (at + numberBytes)
+number-put out at v low high l h = record { next-is = refl; out-is = rw (l, h, add-one at) }
 
 module _ {xs out out₁ : List ℕ} {at n₁ : ℕ} (p : Puts xs out at out₁ n₁) where
   pub put-wide : length out₁ ≡ length out

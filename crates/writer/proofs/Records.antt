@@ -1,21 +1,23 @@
 -- What is still to be put at each turn of a loop: the next record, then those after it; and an edge's record out of
 -- its places in the table.
 use mathlib.Core.Path.{_≡_, refl, sym, _∙_, ap}
+use mathlib.Core.Bool.{Bool, true, false}
 use mathlib.Core.List.{List, [], _∷_, _++_}
-use Prim.Native.Nat.{ℕ, zero, suc, _+_, _-_, _*_, _/_, _%_, _^_, _≤_, _<_}
+use Prim.Native.Nat.{ℕ, zero, suc, _+_, _-_, _*_, _≤_, _<_}
 use native.Mathlib.Omega.{arith}
 use native.Mathlib.Numerals.{add-one}
 use lib.ListN.{length, getD, take, drop, length-drop, drop-of-length-le}
-use lib.Seq.{drop-cons, getD-drop, length-take-le}
-use borrow.Author.Tests.{eq-eqb, ne-eqb}
+use lib.Seq.{drop-cons, length-take-le}
 use Rattle.model.specs.Basics.{pick, bit, bitsFrom}
+use Rattle.model.specs.Rules.{mostAtoms, mostLocations}
 use Rattle.model.specs.Files.{two, numbers, locationRecords, ceilingRecord, atomNumbers, edgeRecord, edgeRecords}
-use Rattle.model.specs.Layout.{edgeFields, edgeWidth, atomsIn, edgeIn, edgesIn}
+use Rattle.model.specs.Layout.{edgeFields, atomWidth, edgeWidth, edgeIn, edgesIn}
 use Rattle.model.proofs.Bytes.{numbers-length}
 use Rattle.model.proofs.EdgeTable.{edges-rest, atoms-length}
 use Rattle.model.proofs.FileRead.{edge-record-length}
 use Rattle.numbers.proofs.Parts.{part-rest}
-use Rattle.writer.specs.Writing.{Puts, Table}
+use Rattle.edges.proofs.EdgeChecks.{fields-taken, atom-numbers}
+use Rattle.writer.specs.Writing.{numberBytes, fieldsBody, atomBody, Puts, Table}
 use Rattle.writer.proofs.Putting.{Putting, then-put, put-wide, putting-start, putting-room, putting-next}
 
 -- a table's numbers
@@ -27,7 +29,7 @@ module _
     (vs : List ℕ) (i : ℕ) {all was out : List ℕ} {at next : ℕ}
     (inv : Putting all (numbers (drop i vs)) was at out next) (h : i < length vs)
   where
-    pub number-room : next + 2 ≤ length out
+    pub number-room : next + numberBytes ≤ length out
     number-room = putting-room inv (two (getD vs i 0)) (numbers (drop (i + 1) vs)) (numbers-rest vs i h)
 
     pub number-next :
@@ -44,61 +46,67 @@ locations-append :
     (kind : ℕ) (xs ys : List ℕ) → locationRecords kind (xs ++ ys) ≡ locationRecords kind xs ++ locationRecords kind ys
 locations-append kind [] ys = refl
 locations-append kind (x ∷ xs) ys =
-    ap (λ (l : List ℕ). numbers (2 ∷ kind ∷ x ∷ []) ++ l) (locations-append kind xs ys)
+    ap (λ (l : List ℕ). numbers (numberBytes ∷ kind ∷ x ∷ []) ++ l) (locations-append kind xs ys)
 
 pub bits-next : (n i mask : ℕ) → bitsFrom (suc n) i mask ≡ pick (bit i mask) (i ∷ []) [] ++ bitsFrom n (i + 1) mask
 unfolding bitsFrom
 bits-next n i mask = rw (add-one i)
 
 pub bits-rest :
-    (i mask : ℕ) → i < 32
-    → bitsFrom (32 - i) i mask ≡ pick (bit i mask) (i ∷ []) [] ++ bitsFrom (32 - (i + 1)) (i + 1) mask
+    (i mask : ℕ) → i < mostLocations
+    → bitsFrom (mostLocations - i) i mask
+    ≡ pick (bit i mask) (i ∷ []) [] ++ bitsFrom (mostLocations - (i + 1)) (i + 1) mask
 bits-rest i mask h =
-    let e : 32 - i ≡ suc (32 - (i + 1)) = omega arith in
-    ap (λ (n : ℕ). bitsFrom n i mask) e ∙ bits-next (32 - (i + 1)) i mask
+    let e : mostLocations - i ≡ suc (mostLocations - (i + 1)) = omega arith in
+    ap (λ (n : ℕ). bitsFrom n i mask) e ∙ bits-next (mostLocations - (i + 1)) i mask
 
-pub bits-none : (i mask : ℕ) → 32 ≤ i → bitsFrom (32 - i) i mask ≡ []
+pub bits-none : (i mask : ℕ) → mostLocations ≤ i → bitsFrom (mostLocations - i) i mask ≡ []
 unfolding bitsFrom
-bits-none i mask h = let e : 32 - i ≡ 0 = omega arith in rw e
+bits-none i mask h = let e : mostLocations - i ≡ 0 = omega arith in rw e
 
 pub locations-rest :
-    (kind i mask : ℕ) → i < 32
-    → locationRecords kind (bitsFrom (32 - i) i mask)
+    (kind i mask : ℕ) → i < mostLocations
+    → locationRecords kind (bitsFrom (mostLocations - i) i mask)
     ≡ locationRecords kind (pick (bit i mask) (i ∷ []) [])
-    ++ locationRecords kind (bitsFrom (32 - (i + 1)) (i + 1) mask)
+    ++ locationRecords kind (bitsFrom (mostLocations - (i + 1)) (i + 1) mask)
 locations-rest kind i mask h =
     ap (locationRecords kind) (bits-rest i mask h)
-    ∙ locations-append kind (pick (bit i mask) (i ∷ []) []) (bitsFrom (32 - (i + 1)) (i + 1) mask)
+    ∙ locations-append kind (pick (bit i mask) (i ∷ []) []) (bitsFrom (mostLocations - (i + 1)) (i + 1) mask)
 
 module _
     (kind i mask : ℕ) {all was out : List ℕ} {at next : ℕ}
-    (inv : Putting all (locationRecords kind (bitsFrom (32 - i) i mask)) was at out next) (h : i < 32)
+    (inv : Putting all (locationRecords kind (bitsFrom (mostLocations - i) i mask)) was at out next)
+    (h : i < mostLocations)
   where
     pub location-room : next + length (locationRecords kind (pick (bit i mask) (i ∷ []) [])) ≤ length out
     location-room =
         putting-room inv (locationRecords kind (pick (bit i mask) (i ∷ []) []))
-        (locationRecords kind (bitsFrom (32 - (i + 1)) (i + 1) mask)) (locations-rest kind i mask h)
+        (locationRecords kind (bitsFrom (mostLocations - (i + 1)) (i + 1) mask)) (locations-rest kind i mask h)
 
     pub location-next :
         {next′ : ℕ} {out′ : List ℕ} → Puts (locationRecords kind (pick (bit i mask) (i ∷ []) [])) out next out′ next′
-        → Putting all (locationRecords kind (bitsFrom (32 - (i + 1)) (i + 1) mask)) was at out′ next′
+        → Putting all (locationRecords kind (bitsFrom (mostLocations - (i + 1)) (i + 1) mask)) was at out′ next′
     location-next p = putting-next inv (locations-rest kind i mask h) p
 
-pub locations-none : (kind i mask : ℕ) → 32 ≤ i → locationRecords kind (bitsFrom (32 - i) i mask) ≡ []
+pub locations-none :
+    (kind i mask : ℕ) → mostLocations ≤ i → locationRecords kind (bitsFrom (mostLocations - i) i mask) ≡ []
 locations-none kind i mask h = ap (locationRecords kind) (bits-none i mask h)
 
 -- a location that is in the mask, and one that is not
-pub location-in :
-    (kind mask i : ℕ) → mask / 2 ^ i % 2 ≡ 1
-    → locationRecords kind (pick (bit i mask) (i ∷ []) []) ≡ numbers (2 ∷ kind ∷ i ∷ [])
-location-in kind mask i h = rw (eq-eqb (mask / 2 ^ i % 2) 1 h)
+module _ (kind mask i : ℕ) {x : Bool} (x-is : x ≡ bit i mask) where
+  pub location-in :
+      x ≡ true → locationRecords kind (pick (bit i mask) (i ∷ []) []) ≡ numbers (numberBytes ∷ kind ∷ i ∷ [])
+  location-in h =
+      let set : bit i mask ≡ true = sym x-is ∙ h in
+      rw set
 
-pub location-out :
-    (kind mask i : ℕ) → (mask / 2 ^ i % 2 ≡ 1 → ⊥) → locationRecords kind (pick (bit i mask) (i ∷ []) []) ≡ []
-location-out kind mask i h = rw (ne-eqb (mask / 2 ^ i % 2) 1 h)
+  pub location-out : x ≡ false → locationRecords kind (pick (bit i mask) (i ∷ []) []) ≡ []
+  location-out h =
+      let unset : bit i mask ≡ false = sym x-is ∙ h in
+      rw unset
 
 -- a ceiling is stored plus 1
-pub ceiling-in : (c : ℕ) → (c ≡ 0 → ⊥) → ceilingRecord c ≡ numbers (2 ∷ 4 ∷ (c - 1) ∷ [])
+pub ceiling-in : (c : ℕ) → (c ≡ 0 → ⊥) → ceilingRecord c ≡ numbers (numberBytes ∷ 4 ∷ (c - 1) ∷ [])
 ceiling-in zero h = absurd (h refl)
 ceiling-in (suc c) h = let e : suc c - 1 ≡ c = omega arith in rw e
 
@@ -119,64 +127,59 @@ unfolding edgeRecords
 edge-records-none n e t h = let z : n - e ≡ 0 = omega arith in rw z
 
 -- an edge's places: four numbers, the atom count, three numbers per atom
-fields-are :
-    (t : List ℕ) → 4 ≤ length t → take 4 t ≡ getD t 0 0 ∷ getD t 1 0 ∷ getD t 2 0 ∷ getD t 3 0 ∷ []
-fields-are [] h = absurd (omega arith)
-fields-are (a ∷ []) h = absurd (omega arith)
-fields-are (a ∷ b ∷ []) h = absurd (omega arith)
-fields-are (a ∷ b ∷ c ∷ []) h = absurd (omega arith)
-fields-are (a ∷ b ∷ c ∷ d ∷ t) h = refl
-
-atoms-are : (n : ℕ) (t : List ℕ) → 3 * n ≤ length t → take (3 * n) t ≡ atomNumbers (atomsIn n t)
-atoms-are zero t h = refl
-atoms-are (suc n) [] h = absurd (omega arith)
-atoms-are (suc n) (a ∷ []) h = absurd (omega arith)
-atoms-are (suc n) (a ∷ b ∷ []) h = absurd (omega arith)
-atoms-are (suc n) (a ∷ b ∷ c ∷ t) h =
-    let e : 3 * suc n ≡ suc (suc (suc (3 * n))) = omega arith in
-    rw e (ap (λ (l : List ℕ). a ∷ b ∷ c ∷ l) (atoms-are n t (omega arith)))
-
-pub edge-length : (t : List ℕ) → length (edgeRecord (edgeIn t)) ≡ 12 + 6 * getD t 4 0
-edge-length t =
-    omega (arith, edge-record-length (edgeIn t), atoms-length (getD t 4 0) (drop edgeFields t))
-
-module _ (t : List ℕ) (count : ℕ) (long : edgeWidth ≤ length t) (few : getD t 4 0 ≤ 8) (count-is : count ≡ getD t 4 0)
+module _
+    (t : List ℕ) (count : ℕ) (long : edgeWidth ≤ length t) (few : length (edgeIn t .atoms) ≤ mostAtoms)
+    (count-read : count ≡ length (edgeIn t .atoms))
   where
+    count-is : count ≡ getD t 4 0
+    count-is = count-read ∙ atoms-length (getD t 4 0) (drop edgeFields t)
+
+    past-is : edgeFields + atomWidth * count - edgeFields ≡ atomWidth * count
+    past-is = omega arith
+
+    atoms-are : take (atomWidth * count) (drop edgeFields t) ≡ atomNumbers (edgeIn t .atoms)
+    atoms-are =
+        rw count-is
+        (sym (atom-numbers (getD t 4 0) (drop edgeFields t) (omega (arith, length-drop edgeFields t, count-is))))
+
     record-is :
-        numbers ((8 + 6 * count) ∷ 5 ∷ []) ++ (numbers (take 4 t) ++ numbers (take (5 + 3 * count - 5) (drop 5 t)))
+        numbers ((fieldsBody + atomBody * count) ∷ 5 ∷ [])
+        ++ (numbers (take 4 t) ++ numbers (take (edgeFields + atomWidth * count - edgeFields) (drop edgeFields t)))
         ≡ edgeRecord (edgeIn t)
-    record-is =
-        let n : 5 + 3 * getD t 4 0 - 5 ≡ 3 * getD t 4 0 = omega arith in
-        let room : 3 * getD t 4 0 ≤ length (drop 5 t) = omega (arith, length-drop 5 t) in
-        rw (
-          count-is,
-          n,
-          fields-are t (omega arith),
-          atoms-are (getD t 4 0) (drop 5 t) room,
-          atoms-length (getD t 4 0) (drop 5 t),
-        )
+    record-is = rw (past-is, atoms-are, fields-taken t (omega arith), count-read)
 
     pub edge-put :
-        {out out₁ out₂ out₃ : List ℕ} {at n₁ n₂ n₃ : ℕ} → Puts (numbers ((8 + 6 * count) ∷ 5 ∷ [])) out at out₁ n₁
+        {out out₁ out₂ out₃ : List ℕ} {at n₁ n₂ n₃ : ℕ}
+        → Puts (numbers ((fieldsBody + atomBody * count) ∷ 5 ∷ [])) out at out₁ n₁
         → Puts (numbers (take 4 t)) out₁ n₁ out₂ n₂
-        → Puts (numbers (take (5 + 3 * count - 5) (drop 5 t))) out₂ n₂ out₃ n₃
+        → Puts (numbers (take (edgeFields + atomWidth * count - edgeFields) (drop edgeFields t))) out₂ n₂ out₃ n₃
         → Puts (edgeRecord (edgeIn t)) out at out₃ n₃
     edge-put p q r = rw (← record-is) (then-put p (then-put q r))
 
     pub atoms-room :
-        {out out₁ out₂ : List ℕ} {at n₁ n₂ : ℕ} → Puts (numbers ((8 + 6 * count) ∷ 5 ∷ [])) out at out₁ n₁
+        {out out₁ out₂ : List ℕ} {at n₁ n₂ : ℕ}
+        → Puts (numbers ((fieldsBody + atomBody * count) ∷ 5 ∷ [])) out at out₁ n₁
         → Puts (numbers (take 4 t)) out₁ n₁ out₂ n₂
         → at + length (edgeRecord (edgeIn t)) ≤ length out
-        → n₂ + 2 * length (take (5 + 3 * count - 5) (drop 5 t)) ≤ length out₂
+        → n₂ + numberBytes * length (take (edgeFields + atomWidth * count - edgeFields) (drop edgeFields t))
+        ≤ length out₂
     atoms-room p q room =
         let fields : length (take 4 t) ≡ 4 = length-take-le 4 t (omega arith) in
-        let n : 5 + 3 * count - 5 ≡ 3 * count = omega arith in
         let fields-written = numbers-length (take 4 t) in
-        let atoms : length (take (3 * count) (drop 5 t)) ≡ 3 * count =
-        length-take-le (3 * count) (drop 5 t) (omega (arith, length-drop 5 t)) in
-        rw n
-        (omega
-        (arith, atoms, fields, p .next-is, q .next-is, put-wide p, put-wide q, edge-length t))
+        let atoms : length (take (atomWidth * count) (drop edgeFields t)) ≡ atomWidth * count =
+        length-take-le (atomWidth * count) (drop edgeFields t) (omega (arith, length-drop edgeFields t)) in
+        rw past-is
+        (omega (
+          arith,
+          atoms,
+          fields,
+          p .next-is,
+          q .next-is,
+          put-wide p,
+          put-wide q,
+          edge-record-length (edgeIn t),
+          count-read,
+        ))
 
 -- the edges of a table, one by one
 pub edges-begin :
@@ -188,7 +191,7 @@ edges-begin count t out at room =
 
 -- the part of the table that is lent for edge e
 abbrev part : List ℕ → ℕ → List ℕ
-part t e = take (length t - 29 * e) (drop (29 * e) t)
+part t e = take (length t - edgeWidth * e) (drop (edgeWidth * e) t)
 
 module _
     (t : List ℕ) (count e : ℕ) {all was out : List ℕ} {at next : ℕ}
@@ -196,12 +199,12 @@ module _
   where
     pub edge-fits :
         Table count t
-        → (edgeWidth ≤ length (part t e)) × (getD (part t e) 4 0 ≤ 8)
+        → (edgeWidth ≤ length (part t e)) × (length (edgeIn (part t e) .atoms) ≤ mostAtoms)
         × (next + length (edgeRecord (edgeIn (part t e))) ≤ length out)
     edge-fits table =
-        rw (part-rest (29 * e) t) (
-          omega (arith, length-drop (29 * e) t, table .long, table .count-most),
-          omega (arith, getD-drop (29 * e) t 4 0, table .few e h),
+        rw (part-rest (edgeWidth * e) t) (
+          omega (arith, length-drop (edgeWidth * e) t, table .long, table .count-most),
+          table .few e h,
           putting-room inv (edgeRecord (edgeIn (drop (edgeWidth * e) t)))
               (edgeRecords (edgesIn (count - (e + 1)) (drop (edgeWidth * (e + 1)) t))) (edge-records-rest count e t h),
         )
@@ -209,4 +212,4 @@ module _
     pub edge-next :
         {next′ : ℕ} {out′ : List ℕ} → Puts (edgeRecord (edgeIn (part t e))) out next out′ next′
         → Putting all (edgeRecords (edgesIn (count - (e + 1)) (drop (edgeWidth * (e + 1)) t))) was at out′ next′
-    edge-next p = putting-next inv (edge-records-rest count e t h) (rw (part-rest (29 * e) t) at p)
+    edge-next p = putting-next inv (edge-records-rest count e t h) (rw (part-rest (edgeWidth * e) t) at p)

@@ -7,7 +7,7 @@ use lib.ListN.{length}
 use Rattle.model.specs.declared.Head.{Head}
 use Rattle.model.specs.Files.{numbers, locationRecords, ceilingRecord, edgeRecords, ruleBytes}
 use Rattle.model.specs.Layout.{edgesIn, locationsIn, ruleIn}
-use Rattle.writer.specs.Writing.{Puts, Fits}
+use Rattle.writer.specs.Writing.{sizesBody, sizesLength, Puts, Fits}
 use Rattle.writer.proofs.Putting.{Putting, putting-start, putting-room, putting-next, putting-end}
 
 -- the next part under another name
@@ -25,7 +25,7 @@ part-next xs later inv e p = putting-next inv (ap (λ (l : List ℕ). l ++ later
 
 module _ (h : Head) (t : List ℕ) where
   abbrev sizes : List ℕ
-  sizes = numbers (6 ∷ 1 ∷ h .locations ∷ h .symbols ∷ h .clocks ∷ [])
+  sizes = numbers (sizesBody ∷ 1 ∷ h .locations ∷ h .symbols ∷ h .clocks ∷ [])
 
   abbrev initial : List ℕ
   initial = locationRecords 2 (locationsIn (h .starts))
@@ -63,12 +63,12 @@ module _ (h : Head) (t : List ℕ) where
     begun : Fits h t out → Putting all (sizes ++ (initial ++ (final ++ (ceiling ++ edges)))) out 0 out 0
     begun fits = rw (← all-is) (putting-start all out 0 (omega (arith, fits .room)))
 
-    pub sizes-room : Fits h t out → 10 ≤ length out
+    pub sizes-room : Fits h t out → sizesLength ≤ length out
     sizes-room fits = putting-room (begun fits) sizes (initial ++ (final ++ (ceiling ++ edges))) refl
 
     pub sizes-put :
         {l s k next : ℕ} {out′ : List ℕ} → Fits h t out → l ≡ h .locations → s ≡ h .symbols → k ≡ h .clocks
-        → Puts (numbers (6 ∷ 1 ∷ l ∷ s ∷ k ∷ [])) out 0 out′ next
+        → Puts (numbers (sizesBody ∷ 1 ∷ l ∷ s ∷ k ∷ [])) out 0 out′ next
         → Sized out′ next
     sizes-put fits a b c p =
         part-next sizes (initial ++ (final ++ (ceiling ++ edges))) (begun fits) (rw (a, b, c)) p

@@ -1,12 +1,12 @@
 -- The whole file: what passes 20 and 21 can be written, and the answers of write_rule.
-use mathlib.Core.Path.{_≡_, sym, _∙_, ap}
+use mathlib.Core.Path.{_≡_, sym, _∙_, subst}
 use mathlib.Core.Bool.{false, not}
 use mathlib.Core.List.{List}
-use Prim.Native.Nat.{ℕ, _+_, _*_, _≤_, _<_}
+use Prim.Native.Nat.{ℕ, _+_, _≤_, _<_}
 use native.Mathlib.Omega.{arith}
 use lib.Dec.{eqb, ltb}
-use lib.ListN.{length, getD, drop}
-use lib.Seq.{getD-drop, sets-eq}
+use lib.ListN.{length, getD}
+use lib.Seq.{sets-eq}
 use borrow.Author.Tests.{ltb-false, lt-ltb, le-ltb, ne-eqb}
 use Rattle.model.specs.declared.Head.{Head}
 use Rattle.model.specs.declared.Answer.{Answer}
@@ -14,30 +14,26 @@ use Rattle.model.specs.Basics.{Refusal, refusal, fine, refuse, _⨾_}
 use Rattle.model.specs.Rules.{Edge, mostAtoms}
 use Rattle.model.specs.Runs.{noEdge}
 use Rattle.model.specs.Files.{ruleBytes}
-use Rattle.model.specs.Layout.{edgeNeed, edgeFields, edgeWidth, edgeIn, edgesIn, ruleIn, isReadable, ruleRefusal}
+use Rattle.model.specs.Layout.{edgeNeed, edgeAt, edgesIn, ruleIn, isReadable, ruleRefusal}
 use Rattle.model.specs.Promises.{writeRefusal, ChecksRule, WritesRule}
 use Rattle.model.proofs.Logic.{In, in-at}
 use Rattle.model.proofs.Refusals.{refused-false, first-passes, on-pass, both-fine, refuse-fine, refuse-met}
 use Rattle.model.proofs.Answers.{number-is, first-refuses, answers}
 use Rattle.model.proofs.Inputs.{passed-valid}
 use Rattle.model.proofs.Valid.{Valid}
-use Rattle.model.proofs.EdgeTable.{edges-length, atoms-length, edge-at}
+use Rattle.model.proofs.EdgeTable.{edges-length, edge-at}
 use Rattle.writer.specs.Writing.{Puts, Writable}
 
 module _ (h : Head) (t : List ℕ) where
   -- an edge of a valid rule has at most 8 atoms
   atoms-few :
-      Valid (ruleIn h t) → (e : ℕ) → e < h .count → getD t (edgeWidth * e + 4) 0 ≤ mostAtoms
+      Valid (ruleIn h t) → (e : ℕ) → e < h .count → length (edgeAt e t .atoms) ≤ mostAtoms
   unfolding ruleIn
   atoms-few v e q =
       let es : List Edge = edgesIn (h .count) t in
-      let one : List ℕ = drop (edgeWidth * e) t in
       let inside : In (getD es e noEdge) es = in-at noEdge es e (omega (arith, edges-length (h .count) t)) in
-      let is-one : getD es e noEdge ≡ edgeIn one = edge-at (h .count) e t q in
-      let most : length (getD es e noEdge .atoms) ≤ mostAtoms = v .edges-in (getD es e noEdge) inside .atoms-most in
-      let count : length (getD es e noEdge .atoms) ≡ getD one 4 0 =
-      ap (λ (x : Edge). length (x .atoms)) is-one ∙ atoms-length (getD one 4 0) (drop edgeFields one) in
-      omega (arith, getD-drop (edgeWidth * e) t 4 0)
+      let is-one : getD es e noEdge ≡ edgeAt e t = edge-at (h .count) e t q in
+      subst (λ (x : Edge). length (x .atoms) ≤ mostAtoms) is-one (v .edges-in (getD es e noEdge) inside .atoms-most)
 
   long-table : ruleRefusal h t .number ≡ 0 → edgeNeed ≤ length t
   unfolding ruleRefusal

@@ -1,13 +1,36 @@
 -- Bytes written into a lent output from a place on, and an edge table whose edges can be written.
 use mathlib.Core.Path.{_≡_}
 use mathlib.Core.List.{List}
-use Prim.Native.Nat.{ℕ, _+_, _*_, _≤_, _<_}
-use lib.ListN.{length, getD}
+use Prim.Native.Nat.{ℕ, _+_, _≤_, _<_}
+use lib.ListN.{length}
 use lib.Seq.{sets}
 use Rattle.model.specs.declared.Head.{Head}
-use Rattle.model.specs.Rules.{mostEdges, mostAtoms}
-use Rattle.model.specs.Files.{ruleBytes}
-use Rattle.model.specs.Layout.{edgeNeed, edgeWidth, ruleIn}
+use Rattle.model.specs.Rules.{mostAtoms, mostClocks, mostConstant, mostEdges, mostLocations, mostSymbols}
+use Rattle.model.specs.Files.{recordHead, ruleBytes}
+use Rattle.model.specs.Layout.{edgeNeed, edgeAt, ruleIn}
+
+-- bytes: of a number, of the sizes' body, of an edge's four fields, of an atom
+abbrev pub numberBytes : ℕ
+numberBytes = 2
+
+abbrev pub sizesBody : ℕ
+sizesBody = 6
+
+abbrev pub fieldsBody : ℕ
+fieldsBody = 8
+
+abbrev pub atomBody : ℕ
+atomBody = 6
+
+-- bytes of whole records: of the sizes, of one number, of an edge without atoms
+abbrev pub sizesLength : ℕ
+sizesLength = recordHead + sizesBody
+
+abbrev pub singleLength : ℕ
+singleLength = recordHead + numberBytes
+
+abbrev pub edgeLength : ℕ
+edgeLength = recordHead + fieldsBody
 
 -- the bytes stand in the output from a place on, all else as it was; the next place is past them
 pub record Puts (bytes out : List ℕ) (at : ℕ) (out′ : List ℕ) (next : ℕ) : Type 0 where
@@ -18,14 +41,14 @@ pub record Puts (bytes out : List ℕ) (at : ℕ) (out′ : List ℕ) (next : �
 pub record Table (count : ℕ) (edges : List ℕ) : Type 0 where
   pub count-most : count ≤ mostEdges
   pub long : edgeNeed ≤ length edges
-  pub few : (e : ℕ) → e < count → getD edges (edgeWidth * e + 4) 0 ≤ mostAtoms
+  pub few : (e : ℕ) → e < count → length (edgeAt e edges .atoms) ≤ mostAtoms
 
 -- a head record whose numbers take two bytes, with such a table
 pub record Writable (head : Head) (edges : List ℕ) : Type 0 where
-  pub locations-most : head .locations ≤ 32
-  pub symbols-most : head .symbols ≤ 16
-  pub clocks-most : head .clocks ≤ 4
-  pub ceiling-most : head .ceiling ≤ 31
+  pub locations-most : head .locations ≤ mostLocations
+  pub symbols-most : head .symbols ≤ mostSymbols
+  pub clocks-most : head .clocks ≤ mostClocks
+  pub ceiling-most : head .ceiling ≤ mostConstant + 1
   pub table : Table (head .count) edges
 
 -- room for the whole file

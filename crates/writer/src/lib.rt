@@ -1,33 +1,59 @@
 // Rule files written: the length first, then record by record, each from the place where the one before ended.
 ghost use mathlib.Core.Path.{_≡_};
 ghost use mathlib.Core.List.{[], _∷_};
-ghost use Prim.Native.Nat.{_+_, _*_, _≤_, _<_};
-ghost use lib.ListN.{length, getD};
+ghost use Prim.Native.Nat.{_+_, _*_, _^_, _≤_, _<_};
+ghost use lib.ListN.{length};
 ghost use Rattle.model.specs.Basics.{pick, bit};
-ghost use Rattle.model.specs.Files.{two, numbers, locationRecords, ceilingRecord, edgeRecord, edgeRecords, ruleBytes};
+ghost use Rattle.model.specs.Rules.{mostAtoms, mostEdges, mostLocations};
+ghost use Rattle.model.specs.Files.{recordHead, two, numbers, locationRecords, ceilingRecord, edgeRecord, edgeRecords};
+ghost use Rattle.model.specs.Files.{ruleBytes};
 ghost use Rattle.model.specs.Layout.{edgeWidth, edgeIn, edgesIn, locationsIn, ruleIn};
 ghost use Rattle.model.specs.Promises.{WritesRule};
+ghost use Rattle.writer.specs.Writing.{numberBytes, sizesBody, atomBody, sizesLength, singleLength, edgeLength};
 ghost use Rattle.writer.specs.Writing.{Puts, Table, Writable, Fits};
-use edges::number_at;
-use edges::wide16;
-use edges::wide32;
+use edges::fields::count_of;
+use model::ATOM_WIDTH;
 use model::Answer;
+use model::EDGE_COUNT;
+use model::EDGE_FIELDS;
+use model::EDGE_WIDTH;
 use model::Head;
+use model::MOST_LOCATIONS;
+use numbers::has_bit;
+use numbers::narrow8;
+use numbers::wide16;
+use numbers::wide32;
 use rule::check_rule;
+
+// Bytes: of a number, of the sizes' body, of an edge's four fields, of an atom.
+const NUMBER_BYTES: usize = 2;
+
+const SIZES_BODY: usize = 6;
+
+const FIELDS_BODY: usize = 8;
+
+const ATOM_BODY: usize = 6;
+
+// Bytes of whole records: of the sizes, of one number, of an edge without atoms.
+const SIZES_LENGTH: usize = 10;
+
+const SINGLE_LENGTH: usize = 6;
+
+const EDGE_LENGTH: usize = 12;
 
 // A number as two bytes, low byte first.
 pub(crate) fn put_number(out: &mut [u8], at: usize, value: usize) -> usize
-    requires { ⌜ (value < 65536) × (at + 2 ≤ length (now out)) ⌝ }
+    requires { ⌜ (value < 2 ^ 16) × (at + numberBytes ≤ length (now out)) ⌝ }
     ensures { λ r. ⌜ Puts (two value) (now (out .entry)) at (now (out .exit)) r ⌝ }
 {
-    out[at] = (value % 256) as u8;
-    out[at + 1] = (value / 256) as u8;
-    at + 2
+    out[at] = narrow8(value);
+    out[at + 1] = narrow8(value / 256);
+    at + NUMBER_BYTES
 }
 
 // A table's numbers, one after the other.
 pub(crate) fn put_numbers(out: &mut [u8], at: usize, table: &[u16]) -> usize
-    requires { ⌜ at + 2 * length (now table) ≤ length (now out) ⌝ }
+    requires { ⌜ at + numberBytes * length (now table) ≤ length (now out) ⌝ }
     ensures { λ r. ⌜ Puts (numbers (now (table .entry))) (now (out .entry)) at (now (out .exit)) r ⌝ }
 {
     let mut next = at;
@@ -41,7 +67,7 @@ pub(crate) fn put_numbers(out: &mut [u8], at: usize, table: &[u16]) -> usize
 
 // Body length and kind of a record.
 pub(crate) fn put_start(out: &mut [u8], at: usize, size: usize, kind: usize) -> usize
-    requires { ⌜ (size < 65536) × (kind < 65536) × (at + 4 ≤ length (now out)) ⌝ }
+    requires { ⌜ (size < 2 ^ 16) × (kind < 2 ^ 16) × (at + recordHead ≤ length (now out)) ⌝ }
     ensures { λ r. ⌜ Puts (numbers (size ∷ kind ∷ [])) (now (out .entry)) at (now (out .exit)) r ⌝ }
 {
     let next = put_number(out, at, size);
@@ -50,20 +76,20 @@ pub(crate) fn put_start(out: &mut [u8], at: usize, size: usize, kind: usize) -> 
 
 // A record of one number.
 pub(crate) fn put_single(out: &mut [u8], at: usize, kind: usize, number: usize) -> usize
-    requires { ⌜ (kind < 65536) × (number < 65536) × (at + 6 ≤ length (now out)) ⌝ }
-    ensures { λ r. ⌜ Puts (numbers (2 ∷ kind ∷ number ∷ [])) (now (out .entry)) at (now (out .exit)) r ⌝ }
+    requires { ⌜ (kind < 2 ^ 16) × (number < 2 ^ 16) × (at + singleLength ≤ length (now out)) ⌝ }
+    ensures { λ r. ⌜ Puts (numbers (numberBytes ∷ kind ∷ number ∷ [])) (now (out .entry)) at (now (out .exit)) r ⌝ }
 {
-    let next = put_start(out, at, 2, kind);
+    let next = put_start(out, at, NUMBER_BYTES, kind);
     put_number(out, next, number)
 }
 
 pub(crate) fn put_sizes(out: &mut [u8], locations: usize, symbols: usize, clocks: usize) -> usize
-    requires { ⌜ (locations < 65536) × (symbols < 65536) × (clocks < 65536) × (10 ≤ length (now out)) ⌝ }
+    requires { ⌜ (locations < 2 ^ 16) × (symbols < 2 ^ 16) × (clocks < 2 ^ 16) × (sizesLength ≤ length (now out)) ⌝ }
     ensures { λ r. ⌜
-        Puts (numbers (6 ∷ 1 ∷ locations ∷ symbols ∷ clocks ∷ [])) (now (out .entry)) 0 (now (out .exit)) r
+        Puts (numbers (sizesBody ∷ 1 ∷ locations ∷ symbols ∷ clocks ∷ [])) (now (out .entry)) 0 (now (out .exit)) r
         ⌝ }
 {
-    let mut next = put_start(out, 0, 6, 1);
+    let mut next = put_start(out, 0, SIZES_BODY, 1);
     next = put_number(out, next, locations);
     next = put_number(out, next, symbols);
     put_number(out, next, clocks)
@@ -78,7 +104,7 @@ pub(crate) fn put_location(
     location: usize,
 ) -> usize
     requires { ⌜
-        (kind < 65536) × (location < 32)
+        (kind < 2 ^ 16) × (location < mostLocations)
         × (at + length (locationRecords kind (pick (bit location mask) (location ∷ []) [])) ≤ length (now out))
         ⌝ }
     ensures { λ r. ⌜
@@ -86,7 +112,7 @@ pub(crate) fn put_location(
         (now (out .exit)) r
         ⌝ }
 {
-    if (mask >> location) % 2 == 1 {
+    if has_bit(mask, location) {
         return put_single(out, at, kind, location);
     }
     at
@@ -94,12 +120,12 @@ pub(crate) fn put_location(
 
 // The locations of a mask, rising.
 pub(crate) fn put_locations(out: &mut [u8], at: usize, kind: usize, mask: usize) -> usize
-    requires { ⌜ (kind < 65536) × (at + length (locationRecords kind (locationsIn mask)) ≤ length (now out)) ⌝ }
+    requires { ⌜ (kind < 2 ^ 16) × (at + length (locationRecords kind (locationsIn mask)) ≤ length (now out)) ⌝ }
     ensures { λ r. ⌜ Puts (locationRecords kind (locationsIn mask)) (now (out .entry)) at (now (out .exit)) r ⌝ }
 {
     let mut next = at;
     let mut location: usize = 0;
-    while location < 32 {
+    while location < MOST_LOCATIONS {
         next = put_location(out, next, kind, mask, location);
         location += 1;
     }
@@ -108,7 +134,7 @@ pub(crate) fn put_locations(out: &mut [u8], at: usize, kind: usize, mask: usize)
 
 // The ceiling, if there is one: it is stored plus 1.
 pub(crate) fn put_ceiling(out: &mut [u8], at: usize, ceiling: usize) -> usize
-    requires { ⌜ (ceiling < 65536) × (at + length (ceilingRecord ceiling) ≤ length (now out)) ⌝ }
+    requires { ⌜ (ceiling < 2 ^ 16) × (at + length (ceilingRecord ceiling) ≤ length (now out)) ⌝ }
     ensures { λ r. ⌜ Puts (ceilingRecord ceiling) (now (out .entry)) at (now (out .exit)) r ⌝ }
 {
     if ceiling == 0 {
@@ -120,16 +146,16 @@ pub(crate) fn put_ceiling(out: &mut [u8], at: usize, ceiling: usize) -> usize
 // The edge at the front of a table: its four numbers, then three numbers per atom.
 pub(crate) fn put_edge(out: &mut [u8], at: usize, edge: &[u16]) -> usize
     requires { ⌜
-        (edgeWidth ≤ length (now edge)) × (getD (now edge) 4 0 ≤ 8)
+        (edgeWidth ≤ length (now edge)) × (length (edgeIn (now edge) .atoms) ≤ mostAtoms)
         × (at + length (edgeRecord (edgeIn (now edge))) ≤ length (now out))
         ⌝ }
     ensures { λ r. ⌜ Puts (edgeRecord (edgeIn (now (edge .entry)))) (now (out .entry)) at (now (out .exit)) r ⌝ }
 {
-    let count = wide16(edge[4]);
-    let past = 5 + 3 * count;
-    let fields = put_start(out, at, 8 + 6 * count, 5);
-    let atoms = put_numbers(out, fields, &edge[0..4]);
-    put_numbers(out, atoms, &edge[5..past])
+    let count = count_of(edge, 0);
+    let past = EDGE_FIELDS + ATOM_WIDTH * count;
+    let fields = put_start(out, at, FIELDS_BODY + ATOM_BODY * count, 5);
+    let atoms = put_numbers(out, fields, &edge[0..EDGE_COUNT]);
+    put_numbers(out, atoms, &edge[EDGE_FIELDS..past])
 }
 
 pub(crate) fn put_edges(out: &mut [u8], at: usize, edges: &[u16], count: usize) -> usize
@@ -143,7 +169,7 @@ pub(crate) fn put_edges(out: &mut [u8], at: usize, edges: &[u16], count: usize) 
     let mut next = at;
     let mut e: usize = 0;
     while e < count {
-        let first = 29 * e;
+        let first = EDGE_WIDTH * e;
         next = put_edge(out, next, &edges[first..]);
         e += 1;
     }
@@ -171,11 +197,11 @@ pub(crate) fn put_rule(out: &mut [u8], head: Head, edges: &[u16]) -> usize
 
 // How many locations a mask has.
 pub(crate) fn locations_in(mask: usize) -> usize
-    ensures { λ r. ⌜ (r ≡ length (locationsIn mask)) × (r ≤ 32) ⌝ }
+    ensures { λ r. ⌜ (r ≡ length (locationsIn mask)) × (r ≤ mostLocations) ⌝ }
 {
     let mut count: usize = 0;
     let mut location: usize = 0;
-    while location < 32 {
+    while location < MOST_LOCATIONS {
         count += (mask >> location) % 2;
         location += 1;
     }
@@ -183,22 +209,25 @@ pub(crate) fn locations_in(mask: usize) -> usize
 }
 
 pub(crate) fn ceiling_length(ceiling: usize) -> usize
-    ensures { λ r. ⌜ (r ≡ length (ceilingRecord ceiling)) × (r ≤ 6) ⌝ }
+    ensures { λ r. ⌜ (r ≡ length (ceilingRecord ceiling)) × (r ≤ singleLength) ⌝ }
 {
     if ceiling == 0 {
         return 0;
     }
-    6
+    SINGLE_LENGTH
 }
 
-pub(crate) fn edges_length(edges: &[u16], count: usize) -> usize
+pub(crate) fn edges_length(edges: &[u16], count: u32) -> usize
     requires { ⌜ Table count (now edges) ⌝ }
-    ensures { λ r. ⌜ (r ≡ length (edgeRecords (edgesIn count (now (edges .entry))))) × (r ≤ 60 * 256) ⌝ }
+    ensures { λ r. ⌜
+        (r ≡ length (edgeRecords (edgesIn count (now (edges .entry)))))
+        × (r ≤ (edgeLength + atomBody * mostAtoms) * mostEdges)
+        ⌝ }
 {
     let mut length: usize = 0;
-    let mut e: usize = 0;
+    let mut e: u32 = 0;
     while e < count {
-        length += 12 + 6 * number_at(edges, 29 * e + 4);
+        length += EDGE_LENGTH + ATOM_BODY * count_of(edges, e);
         e += 1;
     }
     length
@@ -210,7 +239,7 @@ pub(crate) fn file_length(head: Head, edges: &[u16]) -> usize
 {
     let locations = locations_in(wide32(head.starts)) + locations_in(wide32(head.ends));
     let ceiling = ceiling_length(wide32(head.ceiling));
-    10 + 6 * locations + ceiling + edges_length(edges, wide32(head.count))
+    SIZES_LENGTH + SINGLE_LENGTH * locations + ceiling + edges_length(edges, head.count)
 }
 
 // 20, 21 or 27, with the output untouched; else the file, with its length as the value.

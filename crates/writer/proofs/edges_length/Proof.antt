@@ -15,14 +15,8 @@ abbrev μ-loop : tie.MeasureT-loop
 loop-holds : tie.Need-loop-holds Inv-loop μ-loop
 loop-holds c = summed-start (c .before .args .count) (c .before .args .edges .now)
 
-mul-number-at : tie.Need-mul-number-at Inv-loop μ-loop
-mul-number-at c = search needs
-
-add-number-at : tie.Need-add-number-at Inv-loop μ-loop
-add-number-at c = search needs
-
-number-at-requires : tie.Need-number-at-requires Inv-loop μ-loop
-number-at-requires c κs = search needs
+count-of-requires : tie.Need-count-of-requires Inv-loop μ-loop
+count-of-requires c κs = search needs
 
 mul-length : tie.Need-mul-length Inv-loop μ-loop
 mul-length c = omega (arith, c .before .before .before .before .pre .few (c .before .before .loop .e) (search needs))
@@ -43,8 +37,8 @@ loop-again : tie.Need-loop-again Inv-loop μ-loop
 loop-again c =
     let l = c .before .before .loop in
     let pre = c .before .before .before .before .pre in
-    summed-next (l .inv) (c .number-at .result) (search needs) (pre .few (l .e) (search needs))
-    (c .number-at .ensures .0)
+    summed-next (l .inv) (c .count-of .result) (search needs) (pre .few (l .e) (search needs))
+    (c .count-of .ensures .0)
 
 returns : tie.Need-returns Inv-loop μ-loop
 returns c = (summed-end (c .before .loop .inv) (search needs), search needs)
@@ -56,9 +50,7 @@ edges-length-spec =
     Inv-loop
     μ-loop
     loop-holds
-    mul-number-at
-    add-number-at
-    number-at-requires
+    count-of-requires
     mul-length
     add-length
     add-length-2

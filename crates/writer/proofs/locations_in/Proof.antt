@@ -1,5 +1,6 @@
 -- `writer::locations_in` meets its contract: the bits so far and those still to come.
 use Prim.Native.Nat.{_-_}
+use Rattle.model.specs.Rules.{mostLocations}
 use Rattle.writer.proofs.Lengths.{Counted, counted-start, counted-next, counted-end}
 use borrow.Author.Needs.{needs}
 use Rattle.writer.proofs.locations_in.Statement.{statement}
@@ -9,7 +10,7 @@ abbrev Inv-loop : tie.InvT-loop
 Inv-loop mask count₀ location₀ count location = Counted mask location count
 
 abbrev μ-loop : tie.MeasureT-loop
-μ-loop mask count₀ location₀ count location = 32 - location
+μ-loop mask count₀ location₀ count location = mostLocations - location
 
 loop-holds : tie.Need-loop-holds Inv-loop μ-loop
 loop-holds c = counted-start (c .args .mask)

@@ -4,11 +4,8 @@ use borrow.Author.Needs.{needs}
 use Rattle.writer.proofs.put_edge.Statement.{statement}
 use Rattle.writer.proofs.put_edge.Tie as tie
 
-shared-slice-read-wide16 : tie.Need-shared-slice-read-wide16
-shared-slice-read-wide16 c = search needs
-
-wide16-requires : tie.Need-wide16-requires
-wide16-requires c κs = search needs
+count-of-requires : tie.Need-count-of-requires
+count-of-requires c κs = search needs
 
 mul-past : tie.Need-mul-past
 mul-past c = search needs
@@ -48,34 +45,31 @@ part-put-numbers-end-2 c = search needs
 
 put-numbers-requires-2 : tie.Need-put-numbers-requires-2
 put-numbers-requires-2 c κs =
-    let put-numbers = c .before .before .before .before .put-numbers in
-    let put-start = c .before .before .before .before .before .before .before .before .before .put-start in
-    let back = c .before .before .before .before .before .before .before .before .before in
-    let wide16 = back .before .before .wide16 in
-    let start = back .before .before .before .before .before .before in
-    atoms-room (start .args .edge .now) (wide16 .result) (start .pre .0) (start .pre .1) (wide16 .ensures .0)
-    (put-start .ensures) (put-numbers .ensures) (start .pre .2)
+    let fields = c .before .before .before .before in
+    let head = fields .before .before .before .before .before in
+    let count = head .before .before in
+    let start = count .before .before .before in
+    atoms-room (start .args .edge .now) _ (start .pre .0) (start .pre .1) (count .count-of .ensures .0)
+    (head .put-start .ensures) (fields .put-numbers .ensures) (start .pre .2)
 
 same-length : tie.Need-same-length
 same-length c = search needs
 
 returns : tie.Need-returns
 returns c =
-    let put-numbers2 = c .before .before .put-numbers2 in
-    let put-numbers = c .before .before .before .before .before .before .before .put-numbers in
-    let back = c .before .before .before .before .before .before .before .before .before in
-    let put-start = back .before .before .before .put-start in
-    let wide16 = back .before .before .before .before .before .wide16 in
-    let start = back .before .before .before .before .before .before .before .before .before in
-    edge-put (start .args .edge .now) (wide16 .result) (start .pre .0) (start .pre .1) (wide16 .ensures .0)
-    (put-start .ensures) (put-numbers .ensures) (put-numbers2 .ensures)
+    let atoms = c .before .before in
+    let fields = atoms .before .before .before .before .before in
+    let head = fields .before .before .before .before .before in
+    let count = head .before .before in
+    let start = count .before .before .before in
+    edge-put (start .args .edge .now) _ (start .pre .0) (start .pre .1) (count .count-of .ensures .0)
+    (head .put-start .ensures) (fields .put-numbers .ensures) (atoms .put-numbers2 .ensures)
 
 pub put-edge-spec : {M : Type 1} → statement M
 put-edge-spec =
     tie.close
     (tie.spec
-    shared-slice-read-wide16
-    wide16-requires
+    count-of-requires
     mul-past
     add-past
     mul-put-start

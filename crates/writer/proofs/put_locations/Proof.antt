@@ -1,6 +1,7 @@
 -- `writer::put_locations` meets its contract: the locations from one on are still to be put.
 use Prim.Native.Nat.{_≤_, _-_}
 use Rattle.model.specs.Basics.{bitsFrom}
+use Rattle.model.specs.Rules.{mostLocations}
 use Rattle.model.specs.Files.{locationRecords}
 use Rattle.model.specs.Layout.{locationsIn}
 use Rattle.writer.proofs.Putting.{Putting, putting-start, putting-end}
@@ -11,12 +12,12 @@ use Rattle.writer.proofs.put_locations.Tie as tie
 
 abbrev Inv-loop : tie.InvT-loop
 Inv-loop out₀ at kind mask next₀ location₀ out next location =
-    (location ≤ 32)
+    (location ≤ mostLocations)
     × Putting (locationRecords kind (locationsIn mask))
-    (locationRecords kind (bitsFrom (32 - location) location mask)) out₀ at out next
+    (locationRecords kind (bitsFrom (mostLocations - location) location mask)) out₀ at out next
 
 abbrev μ-loop : tie.MeasureT-loop
-μ-loop out₀ at kind mask next₀ location₀ out next location = 32 - location
+μ-loop out₀ at kind mask next₀ location₀ out next location = mostLocations - location
 
 loop-holds : tie.Need-loop-holds Inv-loop μ-loop
 loop-holds c =

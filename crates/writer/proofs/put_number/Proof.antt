@@ -6,14 +6,14 @@ use borrow.Author.Needs.{needs}
 use Rattle.writer.proofs.put_number.Statement.{statement}
 use Rattle.writer.proofs.put_number.Tie as tie
 
-cast-out : tie.Need-cast-out
-cast-out c = search needs
+narrow8-requires : tie.Need-narrow8-requires
+narrow8-requires c κs = search needs
 
 slice-write-out : tie.Need-slice-write-out
 slice-write-out c = search needs
 
-cast-out-2 : tie.Need-cast-out-2
-cast-out-2 c = search needs
+narrow8-requires-2 : tie.Need-narrow8-requires-2
+narrow8-requires-2 c κs = search needs
 
 add-out : tie.Need-add-out
 add-out c = search needs
@@ -28,15 +28,18 @@ same-length : tie.Need-same-length
 same-length c = search needs
 
 returns : tie.Need-returns
-returns c = number-put (c .args .out .now) (c .args .at) (c .args .value)
+returns c =
+    let a = c .before .before .before .args in
+    number-put (a .out .now) (a .at) (a .value) _ _ (c .before .narrow8 .ensures .0)
+    (c .narrow82 .ensures .1 (omega arith))
 
 pub put-number-spec : {M : Type 1} → statement M
 put-number-spec =
     tie.close
     (tie.spec
-    cast-out
+    narrow8-requires
     slice-write-out
-    cast-out-2
+    narrow8-requires-2
     add-out
     slice-write-out-2
     add-result

@@ -1,12 +1,53 @@
 -- `writer::put_rule` meets its contract: record kind by record kind, what is left is still to be put.
--- In every answer s1 to s5 are the places past the five calls.
 use native.Mathlib.Omega.{arith}
 use Rattle.writer.proofs.Lengths.{table-known}
-use Rattle.writer.proofs.Whole.{sizes-room, starts-room, ends-room, ceiling-room, edges-room}
-use Rattle.writer.proofs.Whole.{sizes-put, starts-put, ends-put, ceiling-put, edges-put}
+use Rattle.writer.proofs.Whole.{Sized, Started, Ended, Capped, sizes-room, starts-room, ends-room, ceiling-room}
+use Rattle.writer.proofs.Whole.{edges-room, sizes-put, starts-put, ends-put, ceiling-put, edges-put}
 use borrow.Author.Needs.{needs}
 use Rattle.writer.proofs.put_rule.Statement.{statement}
 use Rattle.writer.proofs.put_rule.Tie as tie
+
+-- what is put past each call
+sized-at :
+    (c : tie.After-put-sizes)
+    → let a = c .before .before .before .before .before .before .before .args in
+    Sized (a .head) (a .edges .now) (a .out .now) (c .put-sizes .last .0) (c .put-sizes .result)
+sized-at c =
+    let symbols = c .before .before in
+    let start = symbols .before .before .before .before .before in
+    let a = start .args in
+    sizes-put (a .head) (a .edges .now) (a .out .now) (start .pre) (symbols .before .wide32 .ensures .0)
+    (symbols .wide322 .ensures .0) (c .before .wide323 .ensures .0) (c .put-sizes .ensures)
+
+started-at :
+    (c : tie.After-put-locations)
+    → let sized = c .before .before .before .before .before in
+    let a = sized .before .before .before .before .before .before .before .args in
+    Started (a .head) (a .edges .now) (a .out .now) (c .put-locations .last .0) (c .put-locations .result)
+started-at c =
+    let sized = c .before .before .before .before .before in
+    starts-put _ _ _ (sized-at sized) (c .before .wide324 .ensures .0) (c .put-locations .ensures)
+
+ended-at :
+    (c : tie.After-put-locations2)
+    → let started = c .before .before .before .before .before in
+    let sized = started .before .before .before .before .before in
+    let a = sized .before .before .before .before .before .before .before .args in
+    Ended (a .head) (a .edges .now) (a .out .now) (c .put-locations2 .last .0) (c .put-locations2 .result)
+ended-at c =
+    let started = c .before .before .before .before .before in
+    ends-put _ _ _ (started-at started) (c .before .wide325 .ensures .0) (c .put-locations2 .ensures)
+
+capped-at :
+    (c : tie.After-put-ceiling)
+    → let ended = c .before .before .before .before .before in
+    let started = ended .before .before .before .before .before in
+    let sized = started .before .before .before .before .before in
+    let a = sized .before .before .before .before .before .before .before .args in
+    Capped (a .head) (a .edges .now) (a .out .now) (c .put-ceiling .last .0) (c .put-ceiling .result)
+capped-at c =
+    let ended = c .before .before .before .before .before in
+    ceiling-put _ _ _ (ended-at ended) (c .before .wide326 .ensures .0) (c .put-ceiling .ensures)
 
 wide32-requires : tie.Need-wide32-requires
 wide32-requires c κs = search needs
@@ -32,91 +73,47 @@ wide32-requires-4 c κs = search needs
 
 put-locations-requires : tie.Need-put-locations-requires
 put-locations-requires c κs =
-    let s1 = c .before .before .before .before in
-    let start = s1 .before .before .before .before .before .before .before in
-    let h = start .args .head in
-    let t = start .args .edges .now in
-    let out = start .args .out .now in
-    let sized = sizes-put h t out (start .pre) (s1 .before .before .before .wide32 .ensures .0)
-    (s1 .before .before .wide322 .ensures .0) (s1 .before .wide323 .ensures .0) (s1 .put-sizes .ensures) in
-    (search needs, starts-room h t out sized (c .wide324 .ensures .0))
+    (search needs, starts-room _ _ _ (sized-at (c .before .before .before .before)) (c .wide324 .ensures .0))
 
 wide32-requires-5 : tie.Need-wide32-requires-5
 wide32-requires-5 c κs = search needs
 
 put-locations-requires-2 : tie.Need-put-locations-requires-2
 put-locations-requires-2 c κs =
-    let s2 = c .before .before .before .before in
-    let s1 = s2 .before .before .before .before .before in
-    let start = s1 .before .before .before .before .before .before .before in
-    let h = start .args .head in
-    let t = start .args .edges .now in
-    let out = start .args .out .now in
-    let sized = sizes-put h t out (start .pre) (s1 .before .before .before .wide32 .ensures .0)
-    (s1 .before .before .wide322 .ensures .0) (s1 .before .wide323 .ensures .0) (s1 .put-sizes .ensures) in
-    let started = starts-put h t out sized (s2 .before .wide324 .ensures .0) (s2 .put-locations .ensures) in
-    (search needs, ends-room h t out started (c .wide325 .ensures .0))
+    (search needs, ends-room _ _ _ (started-at (c .before .before .before .before)) (c .wide325 .ensures .0))
 
 wide32-requires-6 : tie.Need-wide32-requires-6
 wide32-requires-6 c κs = search needs
 
 put-ceiling-requires : tie.Need-put-ceiling-requires
 put-ceiling-requires c κs =
-    let s3 = c .before .before .before .before in
-    let s2 = s3 .before .before .before .before .before in
-    let s1 = s2 .before .before .before .before .before in
-    let start = s1 .before .before .before .before .before .before .before in
-    let h = start .args .head in
-    let t = start .args .edges .now in
-    let out = start .args .out .now in
-    let sized = sizes-put h t out (start .pre) (s1 .before .before .before .wide32 .ensures .0)
-    (s1 .before .before .wide322 .ensures .0) (s1 .before .wide323 .ensures .0) (s1 .put-sizes .ensures) in
-    let started = starts-put h t out sized (s2 .before .wide324 .ensures .0) (s2 .put-locations .ensures) in
-    let ended = ends-put h t out started (s3 .before .wide325 .ensures .0) (s3 .put-locations2 .ensures) in
-    let w = start .pre .writable in
-    (omega (arith, c .wide326 .ensures .0), ceiling-room h t out ended (c .wide326 .ensures .0))
+    let ended = c .before .before .before .before in
+    let started = ended .before .before .before .before .before in
+    let sized = started .before .before .before .before .before in
+    let w = sized .before .before .before .before .before .before .before .pre .writable in
+    (omega (arith, c .wide326 .ensures .0), ceiling-room _ _ _ (ended-at ended) (c .wide326 .ensures .0))
 
 wide32-requires-7 : tie.Need-wide32-requires-7
 wide32-requires-7 c κs = search needs
 
 put-edges-requires : tie.Need-put-edges-requires
 put-edges-requires c κs =
-    let s4 = c .before .before .before .before in
-    let s3 = s4 .before .before .before .before .before in
-    let s2 = s3 .before .before .before .before .before in
-    let s1 = s2 .before .before .before .before .before in
-    let start = s1 .before .before .before .before .before .before .before in
-    let h = start .args .head in
-    let t = start .args .edges .now in
-    let out = start .args .out .now in
-    let sized = sizes-put h t out (start .pre) (s1 .before .before .before .wide32 .ensures .0)
-    (s1 .before .before .wide322 .ensures .0) (s1 .before .wide323 .ensures .0) (s1 .put-sizes .ensures) in
-    let started = starts-put h t out sized (s2 .before .wide324 .ensures .0) (s2 .put-locations .ensures) in
-    let ended = ends-put h t out started (s3 .before .wide325 .ensures .0) (s3 .put-locations2 .ensures) in
-    let capped = ceiling-put h t out ended (s4 .before .wide326 .ensures .0) (s4 .put-ceiling .ensures) in
+    let capped = c .before .before .before .before in
+    let ended = capped .before .before .before .before .before in
+    let started = ended .before .before .before .before .before in
+    let sized = started .before .before .before .before .before in
+    let start = sized .before .before .before .before .before .before .before in
     let count-is = c .wide327 .ensures .0 in
-    (table-known count-is (start .pre .writable .table), edges-room h t out capped count-is)
+    (table-known count-is (start .pre .writable .table), edges-room _ _ _ (capped-at capped) count-is)
 
 same-length : tie.Need-same-length
 same-length c = search needs
 
 returns : tie.Need-returns
 returns c =
-    let s5 = c .before .before in
-    let s4 = s5 .before .before .before .before .before in
-    let s3 = s4 .before .before .before .before .before in
-    let s2 = s3 .before .before .before .before .before in
-    let s1 = s2 .before .before .before .before .before in
-    let start = s1 .before .before .before .before .before .before .before in
-    let h = start .args .head in
-    let t = start .args .edges .now in
-    let out = start .args .out .now in
-    let sized = sizes-put h t out (start .pre) (s1 .before .before .before .wide32 .ensures .0)
-    (s1 .before .before .wide322 .ensures .0) (s1 .before .wide323 .ensures .0) (s1 .put-sizes .ensures) in
-    let started = starts-put h t out sized (s2 .before .wide324 .ensures .0) (s2 .put-locations .ensures) in
-    let ended = ends-put h t out started (s3 .before .wide325 .ensures .0) (s3 .put-locations2 .ensures) in
-    let capped = ceiling-put h t out ended (s4 .before .wide326 .ensures .0) (s4 .put-ceiling .ensures) in
-    edges-put h t out capped (s5 .before .wide327 .ensures .0) (s5 .put-edges .ensures)
+    let put = c .before .before in
+    let capped = put .before .before .before .before .before in
+    edges-put _ _ _ (capped-at capped) (put .before .wide327 .ensures .0) (put .put-edges .ensures)
 
 pub put-rule-spec : {M : Type 1} → statement M
 put-rule-spec =

@@ -10,32 +10,32 @@ check-rule-requires c κs = search needs
 
 returns : tie.Need-returns
 returns c =
-    let a = c .before .before .before .before .before .args in
-    writes-refused (a .head) (a .edges .now) (a .out .now) (c .before .before .check-rule .ensures) (c .if1 .taken)
+    let checked = c .before .before in
+    let a = checked .before .before .before .args in
+    writes-refused (a .head) (a .edges .now) (a .out .now) (checked .check-rule .ensures) (c .if1 .taken)
 
 file-length-requires : tie.Need-file-length-requires
 file-length-requires c κs =
-    let a = c .before .before .before .before .before .args in
-    is-writable (a .head) (a .edges .now) (c .before .before .check-rule .ensures) (c .if1 .left)
+    let checked = c .before .before in
+    let a = checked .before .before .before .args in
+    is-writable (a .head) (a .edges .now) (checked .check-rule .ensures) (c .if1 .left)
 
 returns-2 : tie.Need-returns-2
 returns-2 c =
-    let file-length = c .before .file-length in
-    let if1 = c .before .before .if1 in
-    let check-rule = c .before .before .before .before .check-rule in
-    let a = c .before .before .before .before .before .before .before .args in
-    writes-short (a .head) (a .edges .now) (a .out .now) (check-rule .ensures) (if1 .left)
-    (omega (arith, c .if2 .taken, file-length .ensures))
+    let passed = c .before .before in
+    let checked = passed .before .before in
+    let a = checked .before .before .before .args in
+    writes-short (a .head) (a .edges .now) (a .out .now) (checked .check-rule .ensures) (passed .if1 .left)
+    (omega (arith, c .if2 .taken, c .before .file-length .ensures))
 
 put-rule-requires : tie.Need-put-rule-requires
 put-rule-requires c κs =
-    let file-length = c .before .before .file-length in
-    let if1 = c .before .before .before .if1 in
-    let check-rule = c .before .before .before .before .before .check-rule in
-    let a = c .before .before .before .before .before .before .before .before .args in
+    let passed = c .before .before .before in
+    let checked = passed .before .before in
+    let a = checked .before .before .before .args in
     record {
-      writable = is-writable (a .head) (a .edges .now) (check-rule .ensures) (if1 .left);
-      room = omega (arith, c .before .if2 .left, file-length .ensures);
+      writable = is-writable (a .head) (a .edges .now) (checked .check-rule .ensures) (passed .if1 .left);
+      room = omega (arith, c .before .if2 .left, c .before .before .file-length .ensures);
     }
 
 same-length : tie.Need-same-length
@@ -43,14 +43,13 @@ same-length c = search needs
 
 returns-3 : tie.Need-returns-3
 returns-3 c =
-    let put-rule = c .before .before .put-rule in
-    let if2 = c .before .before .before .before .if2 in
-    let file-length = c .before .before .before .before .before .file-length in
-    let if1 = c .before .before .before .before .before .before .if1 in
-    let check-rule = c .before .before .before .before .before .before .before .before .check-rule in
-    let a = c .before .before .before .before .before .before .before .before .before .before .before .args in
-    writes-file (a .head) (a .edges .now) (a .out .now) (check-rule .ensures) (if1 .left)
-    (omega (arith, if2 .left, file-length .ensures)) (put-rule .ensures)
+    let put = c .before .before in
+    let fits = put .before .before in
+    let passed = fits .before .before in
+    let checked = passed .before .before in
+    let a = checked .before .before .before .args in
+    writes-file (a .head) (a .edges .now) (a .out .now) (checked .check-rule .ensures) (passed .if1 .left)
+    (omega (arith, fits .if2 .left, fits .before .file-length .ensures)) (put .put-rule .ensures)
 
 pub write-rule-spec : {M : Type 1} → statement M
 write-rule-spec =
