@@ -2,6 +2,7 @@
 use construct::build_table;
 use libc::STDOUT_FILENO;
 use model::Built;
+use model::EDGE_NEED;
 use numbers::part_of;
 use numbers::wide32;
 use reader::read_rule;
@@ -143,7 +144,7 @@ fn main() {
     let mut line = [0u8; 4096];
     let mut file = [0u8; 16384];
     let size = io::read_full(0, &mut file);
-    let mut edges = [0u16; 7424];
+    let mut edges = [0u16; EDGE_NEED];
     let reading = read_rule(&file[..size], &mut edges);
     if reading.number != 0 {
         print_refusal(&mut line, reading.number, reading.place);
