@@ -115,7 +115,7 @@ pub struct BranchAnswer {
     pub number: u8,
     /// The refusal's place.
     pub place: usize,
-    /// Whether some run accepts.
+    /// Whether some run accepts, false on a refusal.
     pub found: bool,
     /// The start location of the least one.
     pub start: u16,
@@ -141,7 +141,7 @@ pub struct Followed {
     pub number: u8,
     /// The refusal's place.
     pub place: usize,
-    /// The verdict of the row after the event.
+    /// The verdict of the row after the event, false on a refusal.
     pub yes: bool,
     /// The follower, unchanged on a refusal.
     pub follower: Follower,
@@ -155,7 +155,7 @@ pub struct Moved {
     pub number: u8,
     /// The refusal's place.
     pub place: usize,
-    /// The verdict of the row after the event.
+    /// The verdict of the row after the event, false on a refusal.
     pub yes: bool,
 }
 
@@ -317,7 +317,7 @@ pub fn run_exact(
     }
 }
 
-/// Looks for the least accepting run of a short word: 20, 21, 30 to 33.
+/// Looks for the least accepting run of a short word: 20, 21, 30 to 33. Can take edges to the power of events.
 #[rustfmt::skip]
 #[inline]
 pub fn run_branches(
