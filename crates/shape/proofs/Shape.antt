@@ -30,7 +30,7 @@ pub shape-refused :
 unfolding shapeRefusal
 shape-refused t h = rw h
 
--- What is settled before the rows: sizes and lengths; `p` is P as read.
+-- What is settled before the rows `ns`: sizes and lengths; `p` is P as read.
 pub record Sized (b : Built) (cs ns ps : List ℕ) (p : ℕ) : Type 0 where
   pub sizes : builtSizesOk b ≡ true
   pub long : longOk b cs ps ≡ true
