@@ -9,30 +9,39 @@ use native.Mathlib.Nat.{div-add-mod'}
 use lib.Dec.{eqb, ltb}
 use lib.ListN.{length, getD, drop, drop-of-length-le}
 use lib.Seq.{drop-cons, drop-drop, getD-drop}
-use borrow.Author.Tests.{lt-ltb, le-ltb, eq-eqb, ne-eqb}
+use borrow.Author.Tests.{lt-ltb, le-ltb, le-leb, lt-leb, eq-eqb, ne-eqb}
 use Rattle.model.specs.Basics.{remainder, allBelow}
 use Rattle.model.specs.Construction.{intervalCount}
 use Rattle.model.specs.Tables.{rowWidth, rowStart, rowLength}
 use Rattle.model.specs.Walks.{rowsChain, cellsOk}
 use Rattle.model.proofs.Logic.{remainder-is, or-right, two, less, least}
-use Rattle.shape.specs.Ranges.{resetsOk}
+use Rattle.shape.specs.Ranges.{rowsOk, resetsOk}
 
 -- the list from place i on
 from-place : (xs : List ℕ) (i : ℕ) → i < length xs → drop i xs ≡ getD xs i 0 ∷ drop (i + 1) xs
 from-place xs i h = rw (add-one i) (drop-cons xs i 0 h)
 
--- Rows: what holds of those to come, from where the last one ends, is what holds of all.
+-- Rows: fewer than R; then what holds of those to come, from where the last one ends, is what holds of all.
+pub rows-short :
+    {count n : ℕ} (xs : List ℕ) (total : ℕ) → n ≡ count → length xs < rowWidth * n → false ≡ rowsOk count xs total
+rows-short {count} xs total e h = rw (lt-leb (rowWidth * count) (length xs) (omega arith))
+
 pub record Chained (count total : ℕ) (xs : List ℕ) (end i : ℕ) : Type 0 where
+  pub long : rowWidth * count ≤ length xs
   pub turns : i ≤ count
   pub end-most : end ≤ i * 4294967295
   pub rest-is : rowsChain (count - i) end (drop (rowWidth * i) xs) total ≡ rowsChain count 0 xs total
 
-pub chain-start : (count total : ℕ) (xs : List ℕ) → Chained count total xs 0 0
-chain-start count total xs =
+pub chain-start :
+    {count n : ℕ} (total : ℕ) (xs : List ℕ) → n ≡ count → rowWidth * n ≤ length xs → Chained count total xs 0 0
+chain-start {count} total xs e h =
     let z : count - 0 ≡ count = omega arith in
-    record { turns = omega arith; end-most = omega arith; rest-is = rw z }
+    record { long = omega arith; turns = omega arith; end-most = omega arith; rest-is = rw z }
 
 module _ {count total : ℕ} {xs : List ℕ} {end i : ℕ} (inv : Chained count total xs end i) where
+  all-is : rowsChain count 0 xs total ≡ rowsOk count xs total
+  all-is = rw (le-leb (rowWidth * count) (length xs) (inv .long))
+
   chain-rest :
       i < count
       → rowsChain count 0 xs total
@@ -49,16 +58,17 @@ module _ {count total : ℕ} {xs : List ℕ} {end i : ℕ} (inv : Chained count 
       (n : ℕ) → i < count → rowStart xs i ≡ end → n ≡ rowLength xs i → n < 2 ^ 32
       → Chained count total xs (end + n) (i + 1)
   chain-next n h e q f = record {
+    long = inv .long;
     turns = omega arith;
     end-most = omega (arith, inv .end-most);
     rest-is = rw q (sym (chain-rest h ∙ rw (eq-eqb (rowStart xs i) end e)));
   }
 
-  pub chain-broken : i < count → (rowStart xs i ≡ end → ⊥) → false ≡ rowsChain count 0 xs total
-  chain-broken h n = sym (chain-rest h ∙ rw (ne-eqb (rowStart xs i) end n))
+  pub chain-broken : i < count → (rowStart xs i ≡ end → ⊥) → false ≡ rowsOk count xs total
+  chain-broken h n = sym (chain-rest h ∙ rw (ne-eqb (rowStart xs i) end n)) ∙ all-is
 
-  pub chain-end : count ≤ i → eqb end total ≡ rowsChain count 0 xs total
-  chain-end h = let z : count - i ≡ 0 = omega arith in rw z at (inv .rest-is)
+  pub chain-end : count ≤ i → eqb end total ≡ rowsOk count xs total
+  chain-end h = let z : count - i ≡ 0 = omega arith in (rw z at (inv .rest-is)) ∙ all-is
 
 -- A flag that is put out where a test fails: what it says and what holds of those to come is what holds of all.
 and-true : (b : Bool) → (b && true) ≡ b

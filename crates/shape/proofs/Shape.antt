@@ -1,6 +1,6 @@
 -- The parts of a table's shape in the order in which they are checked, and what each settles for the next.
-use mathlib.Core.Path.{_≡_, sym}
-use mathlib.Core.Bool.{true, false, _&&_}
+use mathlib.Core.Path.{_≡_, refl, sym}
+use mathlib.Core.Bool.{Bool, true, false, _&&_}
 use mathlib.Core.List.{List}
 use Prim.Native.Nat.{ℕ, _*_, _≤_}
 use lib.Dec.{leb}
@@ -15,8 +15,8 @@ use Rattle.model.specs.Tables.{Tables, tables, rowWidth}
 use Rattle.model.specs.Walks.{builtPairs, builtSizesOk, builtWidth, cellNeed, longEnough}
 use Rattle.model.specs.Walks.{rowsChain, cellsOk, inShape, shapeRefusal}
 use Rattle.model.specs.Promises.{answerOf}
-use Rattle.model.proofs.Logic.{and-left, and-right, within-most}
-use Rattle.shape.specs.Ranges.{sizesInRange, InRange, countsOk}
+use Rattle.model.proofs.Logic.{no-way, and-left, and-right, within-most}
+use Rattle.shape.specs.Ranges.{sizesInRange, InRange, countsOk, longOk, rowsOk}
 use Rattle.shape.proofs.Sizes.{in-range}
 
 -- 25 or no refusal
@@ -30,16 +30,16 @@ pub shape-refused :
 unfolding shapeRefusal
 shape-refused t h = rw h
 
--- What is settled before the rows: sizes and lengths; `p` is P as read.
+-- What is settled before the rows `ns`: sizes and lengths; `p` is P as read.
 pub record Sized (b : Built) (cs ns ps : List ℕ) (p : ℕ) : Type 0 where
   pub sizes : builtSizesOk b ≡ true
-  pub long : longEnough (tables b cs ns ps) ≡ true
+  pub long : longOk b cs ps ≡ true
   pub total-is : p ≡ b .total
 
--- And before the codes: the rows are in a chain; `m` is N.
+-- And before the codes: there are R rows, in a chain; `m` is N.
 pub record Linked (b : Built) (cs ns ps : List ℕ) (p m : ℕ) : Type 0 where
   pub sized : Sized b cs ns ps p
-  pub chain : rowsChain (b .rows) 0 ns p ≡ true
+  pub rows : rowsOk (b .rows) ns p ≡ true
   pub pairs-are : m ≡ builtPairs b
 
 -- And before the cells: the codes are below N; `k` is the number of cells.
@@ -62,20 +62,32 @@ ranges b h =
     let rows = within 1 mostRows (b .rows) in
     in-range b (and-left (sizesInRange b) pairs (and-left (sizesInRange b && pairs) rows h))
 
-record Long (b : Built) (cs ns ps : List ℕ) : Type 0 where
+record Long (b : Built) (cs ps : List ℕ) : Type 0 where
   cells-long : cellNeed b ≤ length cs
   pool-long : b .total ≤ length ps
 
-long-of : (b : Built) (cs ns ps : List ℕ) → longEnough (tables b cs ns ps) ≡ true → Long b cs ns ps
-long-of b cs ns ps h =
+long-of : (b : Built) (cs ps : List ℕ) → longOk b cs ps ≡ true → Long b cs ps
+long-of b cs ps h =
     let cells = leb (cellNeed b) (length cs) in
-    let rows = leb (rowWidth * b .rows) (length ns) in
     let pool = leb (b .total) (length ps) in
-    let two = and-left (cells && rows) pool h in
     record {
-      cells-long = leb-true _ _ (and-left cells rows two);
-      pool-long = leb-true _ _ (and-right (cells && rows) pool h);
+      cells-long = leb-true _ _ (and-left cells pool h);
+      pool-long = leb-true _ _ (and-right cells pool h);
     }
+
+-- The lengths of the tables and the chain of the rows, in the order in which they are asked.
+short-by : (cells rows pool : Bool) → (cells && pool) ≡ false → (cells && rows && pool) ≡ false
+short-by true true pool h = h
+short-by true false pool h = refl
+short-by false rows pool h = refl
+
+chain-by :
+    (cells rows pool chain : Bool) → (cells && pool) ≡ true
+    → (cells && rows && pool && chain) ≡ (rows && chain)
+chain-by true true true chain h = refl
+chain-by true false true chain h = refl
+chain-by true rows false chain h = no-way h
+chain-by false rows pool chain h = no-way h
 
 pub sizes-out : (t : Tables) → sizesInRange (t .built) ≡ false → false ≡ inShape t
 unfolding inShape
@@ -88,26 +100,35 @@ pub counts-out :
 unfolding inShape
 counts-out t m r e h = rw (sizes-fail (t .built) m r e h)
 
-pub too-short : (t : Tables) → builtSizesOk (t .built) ≡ true → longEnough t ≡ false → false ≡ inShape t
+pub too-short :
+    (t : Tables) → builtSizesOk (t .built) ≡ true → longOk (t .built) (t .cells) (t .pool) ≡ false → false ≡ inShape t
 unfolding inShape
-too-short t s h = rw (s, h)
+too-short t s h =
+    let b = t .built in
+    let long : longEnough t ≡ false =
+    short-by (leb (cellNeed b) (length (t .cells))) (leb (rowWidth * b .rows) (length (t .rows))) _ h in
+    rw (s, long)
 
 module _ {b : Built} {cs ns ps : List ℕ} where
   module _ {p : ℕ} (s : Sized b cs ns ps p) where
     pub pool-part : p ≡ length (take p ps)
-    pool-part = sym (length-take-le p ps (rw (s .total-is) (long-of b cs ns ps (s .long) .pool-long)))
+    pool-part = sym (length-take-le p ps (rw (s .total-is) (long-of b cs ps (s .long) .pool-long)))
 
-    pub chain-out : rowsChain (b .rows) 0 ns p ≡ false → false ≡ inShape (tables b cs ns ps)
+    -- lengths and chain together are what is asked of the rows
+    rows-are : (longEnough (tables b cs ns ps) && rowsChain (b .rows) 0 ns (b .total)) ≡ rowsOk (b .rows) ns p
+    rows-are =
+        let cells = leb (cellNeed b) (length cs) in
+        let pool = leb (b .total) (length ps) in
+        rw (s .total-is) (chain-by cells (leb (rowWidth * b .rows) (length ns)) pool _ (s .long))
+
+    pub rows-out : rowsOk (b .rows) ns p ≡ false → false ≡ inShape (tables b cs ns ps)
     unfolding inShape
-    chain-out h = rw (s .sizes, s .long, rw (s .total-is) at h)
+    rows-out h = rw (s .sizes, rows-are, h)
 
   module _ {p m : ℕ} (l : Linked b cs ns ps p m) where
-    chain-in : rowsChain (b .rows) 0 ns (b .total) ≡ true
-    chain-in = rw (l .sized .total-is) at (l .chain)
-
     pub code-out : allBelow m (take p ps) ≡ false → false ≡ inShape (tables b cs ns ps)
     unfolding inShape
-    code-out h = rw (l .sized .sizes, l .sized .long, chain-in, rw (l .pairs-are, l .sized .total-is) at h)
+    code-out h = rw (l .sized .sizes, rows-are (l .sized), l .rows, rw (l .pairs-are, l .sized .total-is) at h)
 
   module _ {p m k : ℕ} (d : Coded b cs ns ps p m k) where
     pub rows-most : b .rows ≤ mostRows
@@ -118,7 +139,7 @@ module _ {b : Built} {cs ns ps : List ℕ} where
 
     pub cells-part : k ≡ length (take k cs)
     cells-part =
-        sym (length-take-le k cs (rw (d .need-is) (long-of b cs ns ps (d .linked .sized .long) .cells-long)))
+        sym (length-take-le k cs (rw (d .need-is) (long-of b cs ps (d .linked .sized .long) .cells-long)))
 
     pub all-but-cells : cellsOk 0 (builtWidth b) (b .rows) (take k cs) ≡ inShape (tables b cs ns ps)
     unfolding inShape
@@ -126,4 +147,4 @@ module _ {b : Built} {cs ns ps : List ℕ} where
         let l = d .linked in
         let codes : allBelow (builtPairs b) (take (b .total) ps) ≡ true =
         rw (l .pairs-are, l .sized .total-is) at (d .codes) in
-        rw (l .sized .sizes, l .sized .long, chain-in l, codes, d .need-is)
+        rw (l .sized .sizes, rows-are (l .sized), l .rows, codes, d .need-is)

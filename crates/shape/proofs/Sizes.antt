@@ -55,7 +55,8 @@ module _ (b : Built) (i : InRange b) where
 
   module _ (n s t : ℕ) (en : n ≡ b .rows) (es : s ≡ b .symbols) (et : t ≡ b .top) where
     pub row-cells-most : s * (2 * t + 2) ≤ mostSymbols * (2 * mostConstant + 2)
-    row-cells-most = mul-le-mul {n₁ = s} {m₁ = 2 * t + 2} {n₂ = mostSymbols} {m₂ = 2 * mostConstant + 2} (omega arith) (omega arith)
+    row-cells-most =
+        mul-le-mul {n₁ = s} {m₁ = 2 * t + 2} {n₂ = mostSymbols} {m₂ = 2 * mostConstant + 2} (omega arith) (omega arith)
 
     pub cells-fit : n < 2 ^ 32 → n * (s * (2 * t + 2)) < 2 ^ 64
     cells-fit f = omega (arith, mul-le-mul {n₁ = n} {n₂ = 4294967295} (omega arith) row-cells-most)

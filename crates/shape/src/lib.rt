@@ -5,10 +5,9 @@ ghost use Prim.Native.Nat.{ℕ, _≤_};
 ghost use Rattle.model.specs.Basics.{within, allBelow};
 ghost use Rattle.model.specs.Construction.{intervalCount, mostRows};
 ghost use Rattle.model.specs.Tables.{tables};
-ghost use Rattle.model.specs.Walks.{locationWeight, builtPairs, cellNeed, longEnough, rowsChain, cellsOk, inShape};
-ghost use Rattle.model.specs.Walks.{anyFinal};
+ghost use Rattle.model.specs.Walks.{locationWeight, builtPairs, cellNeed, cellsOk, inShape, anyFinal};
 ghost use Rattle.model.specs.Promises.{ChecksTable};
-ghost use Rattle.shape.specs.Ranges.{InRange, sizesInRange, countsOk, resetsOk};
+ghost use Rattle.shape.specs.Ranges.{InRange, sizesInRange, countsOk, longOk, rowsOk, resetsOk};
 ghost use Rattle.shape.specs.Weights.{DividesAs};
 use edges::power;
 use edges::sizes_ok;
@@ -97,20 +96,22 @@ pub(crate) fn cell_need(built: Built) -> usize
     wide32(built.rows) * (wide32(built.symbols) * (2 * wide32(built.top) + 2))
 }
 
-// Tables no shorter than R and P need.
-pub(crate) fn long_enough(built: Built, cells: &[u32], rows: &[u32], pool: &[u32]) -> bool
+// Cells and pool no shorter than R and P need.
+pub(crate) fn long_enough(built: Built, cells: &[u32], pool: &[u32]) -> bool
     requires { ⌜ InRange built ⌝ }
-    ensures { λ r. ⌜ r ≡ longEnough (tables built (now (cells .entry)) (now (rows .entry)) (now (pool .entry))) ⌝ }
+    ensures { λ r. ⌜ r ≡ longOk built (now (cells .entry)) (now (pool .entry)) ⌝ }
 {
-    cell_need(built) <= cells.len()
-        && ROW_WIDTH * wide32(built.rows) <= rows.len()
-        && wide32(built.total) <= pool.len()
+    cell_need(built) <= cells.len() && wide32(built.total) <= pool.len()
 }
 
-// A row starts where the one before it ends, row 0 at 0; the lengths add up to P.
+// As many rows as R: a row starts where the one before it ends, row 0 at 0; the lengths add up to P.
+// The length is asked here, so that the compiler leaves out the tests of the two that read a row.
 pub(crate) fn rows_chain(count: u32, total: usize, rows: &[u32]) -> bool
-    ensures { λ r. ⌜ r ≡ rowsChain count 0 (now (rows .entry)) total ⌝ }
+    ensures { λ r. ⌜ r ≡ rowsOk count (now (rows .entry)) total ⌝ }
 {
+    if rows.len() < ROW_WIDTH * wide32(count) {
+        return false;
+    }
     let mut end: usize = 0;
     let mut i: u32 = 0;
     while i < count {
@@ -173,7 +174,7 @@ pub fn in_shape(built: Built, cells: &[u32], rows: &[u32], pool: &[u32]) -> bool
     if !counts_ok(pairs, built.rows) {
         return false;
     }
-    if !long_enough(built, cells, rows, pool) {
+    if !long_enough(built, cells, pool) {
         return false;
     }
     let total = wide32(built.total);

@@ -7,7 +7,7 @@ use Rattle.model.proofs.Flags.{is-false, is-true}
 use Rattle.shape.specs.Ranges.{sizesInRange}
 use Rattle.shape.proofs.Sizes.{in-range}
 use Rattle.shape.proofs.Shape.{Sized, Linked, Coded, sizes-hold, ranges, rows-most, sizes-out, counts-out}
-use Rattle.shape.proofs.Shape.{too-short, pool-part, chain-out, code-out, cells-part, all-but-cells}
+use Rattle.shape.proofs.Shape.{too-short, pool-part, rows-out, code-out, cells-part, all-but-cells}
 use Rattle.shape.proofs.in_shape.Statement.{statement}
 use Rattle.shape.proofs.in_shape.Tie as tie
 
@@ -53,7 +53,7 @@ linked-at :
     (pairs .pair-count .result)
 linked-at c = record {
   sized = measured-at (chained c);
-  chain = is-true (c .before .rows-chain .ensures) (c .if4 .left);
+  rows = is-true (c .before .rows-chain .ensures) (c .if4 .left);
   pairs-are = counted (measured (chained c)) .pair-count .ensures;
 }
 
@@ -101,7 +101,7 @@ rows-chain-requires : tie.Need-rows-chain-requires
 rows-chain-requires c κs = search needs
 
 returns-4 : tie.Need-returns-4
-returns-4 c = chain-out (measured-at (c .before .before)) (is-false (c .before .rows-chain .ensures) (c .if4 .taken))
+returns-4 c = rows-out (measured-at (c .before .before)) (is-false (c .before .rows-chain .ensures) (c .if4 .taken))
 
 slice-aggregate-codes-below : tie.Need-slice-aggregate-codes-below
 slice-aggregate-codes-below c = pool-part (measured-at (chained (c .before)))

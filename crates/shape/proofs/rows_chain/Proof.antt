@@ -2,7 +2,7 @@
 use Prim.Native.Nat.{_-_}
 use native.Mathlib.Omega.{arith}
 use borrow.Author.Needs.{needs}
-use Rattle.shape.proofs.Loops.{Chained, chain-start, chain-next, chain-broken, chain-end}
+use Rattle.shape.proofs.Loops.{Chained, rows-short, chain-start, chain-next, chain-broken, chain-end}
 use Rattle.shape.proofs.rows_chain.Statement.{statement}
 use Rattle.shape.proofs.rows_chain.Tie as tie
 
@@ -16,14 +16,25 @@ abbrev μ-loop : tie.MeasureT-loop
 abbrev turn : tie.After-row-start Inv-loop μ-loop → tie.At-loop Inv-loop μ-loop
 turn c = c .before .before
 
+wide32-requires : tie.Need-wide32-requires Inv-loop μ-loop
+wide32-requires c κs = search needs
+
+mul-if1 : tie.Need-mul-if1 Inv-loop μ-loop
+mul-if1 c = search needs
+
+returns : tie.Need-returns Inv-loop μ-loop
+returns c =
+    let a = c .before .before .before .args in
+    rows-short (a .rows .now) (a .total) (c .before .wide32 .ensures .0) (c .if1 .taken)
+
 loop-holds : tie.Need-loop-holds Inv-loop μ-loop
-loop-holds c = chain-start _ _ _
+loop-holds c = chain-start _ _ (c .before .wide32 .ensures .0) (c .if1 .left)
 
 row-start-requires : tie.Need-row-start-requires Inv-loop μ-loop
 row-start-requires c κs = search needs
 
-returns : tie.Need-returns Inv-loop μ-loop
-returns c = chain-broken (turn (c .before) .loop .inv) (search needs) (λ e. omega (arith, c .if1 .taken))
+returns-2 : tie.Need-returns-2 Inv-loop μ-loop
+returns-2 c = chain-broken (turn (c .before) .loop .inv) (search needs) (λ e. omega (arith, c .if2 .taken))
 
 row-length-requires : tie.Need-row-length-requires Inv-loop μ-loop
 row-length-requires c κs = search needs
@@ -42,8 +53,8 @@ loop-again c =
     let read = c .row-length .ensures in
     chain-next (turn (c .before .before) .loop .inv) _ (search needs) (search needs) (read .0) (read .1)
 
-returns-2 : tie.Need-returns-2 Inv-loop μ-loop
-returns-2 c = chain-end (c .before .loop .inv) (search needs)
+returns-3 : tie.Need-returns-3 Inv-loop μ-loop
+returns-3 c = chain-end (c .before .loop .inv) (search needs)
 
 pub rows-chain-spec : {M : Type 1} → statement M
 rows-chain-spec =
@@ -51,12 +62,15 @@ rows-chain-spec =
     (tie.spec
     Inv-loop
     μ-loop
+    wide32-requires
+    mul-if1
+    returns
     loop-holds
     row-start-requires
-    returns
+    returns-2
     row-length-requires
     add-end
     add-i
     loop-less
     loop-again
-    returns-2)
+    returns-3)
