@@ -4,8 +4,8 @@ use Prim.Native.Nat.{_+_, _-_, _*_}
 use native.Mathlib.Omega.{arith}
 use borrow.Author.Needs.{needs}
 use lib.ListN.{length}
-use Rattle.exact.proofs.Running.{other-known, to-known, final-known, Running, running, from-most, Next, step-ready}
-use Rattle.exact.proofs.Running.{running-full, running-next, final-fits, running-end}
+use Rattle.exact.proofs.Running.{other-known, to-known, final-known, Running, running, from-most, Next}
+use Rattle.exact.proofs.Running.{step-ready, running-full, running-next, final-fits, running-end}
 use Rattle.exact.proofs.follow_events.Statement.{statement}
 use Rattle.exact.proofs.follow_events.Tie as tie
 
