@@ -102,10 +102,6 @@ module _
         row-below = inv .row-below;
       }
 
-  -- the row that the cell leads to, and the rows with it
-  abbrev next-row : List ℕ
-  next-row = nextRow r s i (rowAt rs row)
-
   module _ {at′ : Input} {marks′ rows′ pool′ : List ℕ} {answer : Filled} (l : i < width r)
       (is-symbol : at′ .symbol ≡ s) (is-interval : at′ .interval ≡ i)
       (made : CellMade says r row at′ (rowsIn (p .rows) rows pool) (p .room) marks marks′ rows′ pool′ answer) where
