@@ -1,13 +1,13 @@
 -- The tables by place: the cell of a row at a symbol and an interval, a row's start and length, its codes in the pool
 -- and its verdict are those of the construction. Over any rows and any lent lengths.
-use mathlib.Core.Path.{_≡_, refl, _∙_, ap, ap₂}
+use mathlib.Core.Path.{_≡_, refl, sym, _∙_, ap, ap₂}
 use mathlib.Core.Bool.{_||_}
 use mathlib.Core.List.{List, [], _∷_, _++_, append-assoc}
 use Prim.Native.Nat.{ℕ, zero, suc, _+_, _-_, _*_, _≤_, _<_}
 use native.Mathlib.Omega.{arith}
 use native.Mathlib.Nat.{mul-le-mul-right, zero-add}
 use lib.ListN.{length, getD, take, drop, length-append}
-use lib.Seq.{getD-append-add, take-append-seam, drop-append-add}
+use lib.Seq.{getD-append-add, getD-drop, take-append-seam, drop-append-add}
 use borrow.Author.Tests.{ltb-true}
 use Rattle.model.specs.Basics.{zeros}
 use Rattle.model.specs.Rules.{Rule}
@@ -103,8 +103,9 @@ pub start-number :
 start-number p [] n h = absurd (omega arith)
 start-number p (x ∷ xs) zero h = omega arith
 start-number p (x ∷ xs) (suc n) h =
-    let e : rowWidth * suc n ≡ suc (suc (rowWidth * n)) = omega arith in
-    rw e (start-number (p + length x) xs n (omega arith) ∙ (omega arith))
+    let e : rowWidth * suc n ≡ rowWidth + rowWidth * n = omega arith in
+    rw e (sym (getD-drop rowWidth (rowNumbers codesSay p (x ∷ xs)) (rowWidth * n) 0)
+    ∙ (start-number (p + length x) xs n (omega arith) ∙ omega arith))
 
 pub length-number :
     (p : ℕ) (xs : List (List ℕ)) (n : ℕ)
@@ -113,8 +114,9 @@ pub length-number :
 length-number p [] n h = absurd (omega arith)
 length-number p (x ∷ xs) zero h = refl
 length-number p (x ∷ xs) (suc n) h =
-    let e : rowWidth * suc n + 1 ≡ suc (suc (rowWidth * n + 1)) = omega arith in
-    rw e (length-number (p + length x) xs n (omega arith))
+    let e : rowWidth * suc n + 1 ≡ rowWidth + (rowWidth * n + 1) = omega arith in
+    rw e (sym (getD-drop rowWidth (rowNumbers codesSay p (x ∷ xs)) (rowWidth * n + 1) 0)
+    ∙ length-number (p + length x) xs n (omega arith))
 
 pub row-numbers-length : (p : ℕ) (xs : List (List ℕ)) → length (rowNumbers codesSay p xs) ≡ rowWidth * length xs
 row-numbers-length p [] = refl
