@@ -4,7 +4,8 @@ use mathlib.Core.Bool.{true, false}
 use mathlib.Core.List.{List, [], _∷_}
 use Rattle.model.specs.Rules.{Rule, rule, cm, pairCount}
 use Rattle.model.specs.Words.{Event, eventsOf}
-use Rattle.model.specs.Runs.{isAcceptingRun, path, leastFrom, leastStart, leastRun}
+use Rattle.model.specs.Runs.{isAcceptingRun, acceptsFrom, acceptsFromSome, accepts, path, leastFrom, leastStart}
+use Rattle.model.specs.Runs.{leastRun}
 use Rattle.model.specs.Files.{recordRefusal, withRecord, atEnd, readFrom, readRule}
 use Rattle.model.specs.Construction.{codeOf, locationOf, basesOf, startRow, allows, rowResets, targetOf}
 use Rattle.model.specs.Construction.{nextRow, holdsFinal, walksFrom, walks}
@@ -42,13 +43,13 @@ two-starts = rule 2 1 1 (0 ∷ 1 ∷ []) (1 ∷ []) 0 (free-edge 1 1 0 ∷ free-
 
 leasts : Type 0
 leasts =
-    (leastRun two-starts 1 [] ≡ path true 1 [])
+    (accepts two-starts 1 [] ≡ true) × (leastRun two-starts 1 [] ≡ path true 1 [])
     × (leastRun two-starts 1 (eventsOf (0 ∷ []) (0 ∷ [])) ≡ path true 0 (1 ∷ []))
     × (leastRun two-starts 1 (eventsOf (0 ∷ 0 ∷ []) (0 ∷ 7 ∷ [])) ≡ path true 0 (1 ∷ 0 ∷ []))
 
 leasts-are : leasts
-unfolding leastFrom leastStart leastRun free-edge two-starts leasts
-leasts-are = (refl, refl, refl)
+unfolding acceptsFrom acceptsFromSome accepts leastFrom leastStart leastRun free-edge two-starts leasts
+leasts-are = (refl, refl, refl, refl)
 
 -- an edge back to 0, and one to 1 at age 1 that resets the clock
 stays-or-resets : Rule
