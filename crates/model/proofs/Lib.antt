@@ -20,7 +20,7 @@ pub mod EdgesWritten
 pub mod Ages
 pub mod Inputs
 -- By computation from the definitions: P1 to P9 and two whole tables; every refusal on both sides of its range; whole
--- calls with all that they leave
+-- calls with all that they leave; runs, and the least of them
 pub mod Examples
 pub mod Cases
 pub mod RefusedFiles
@@ -56,7 +56,7 @@ pub mod Agreement
 pub mod RowsKeep
 pub mod RowNumbers
 pub mod Discovery
--- The tables: room, places, walk, shape; the follower against the runs
+-- The tables: room, places, row 0, walk, shape; the follower against the runs
 pub mod CodeBounds
 pub mod TableRoom
 pub mod TablePlaces

@@ -1,5 +1,5 @@
--- The follower by computation: the order of its refusals, and whole answers with the follower after them. The table is
--- the worked one.
+-- The follower by computation: the order of its refusals, and whole answers with the follower after them. The tables
+-- are those of the two rules.
 use mathlib.Core.Path.{_≡_, refl}
 use mathlib.Core.Bool.{Bool, true, false}
 use mathlib.Core.List.{List, [], _∷_}
@@ -10,7 +10,7 @@ use Rattle.model.specs.declared.Followed.{Followed}
 use Rattle.model.specs.Basics.{Refusal, refusal, fine}
 use Rattle.model.specs.Walks.{inShape, shapeRefusal, verdict, step, followRefusal}
 use Rattle.model.specs.Promises.{StartsFollower, followed, FollowsEvent}
-use Rattle.model.proofs.Examples.{worked-tables}
+use Rattle.model.proofs.Examples.{worked-tables, second-tables}
 use Rattle.model.proofs.Cases.{Case, case, allMet}
 
 at : ℕ → Stamp
@@ -102,6 +102,24 @@ moves-are = (
   record { answer-is = refl },
   record { answer-is = refl },
 )
+
+-- over the second table, whose cells tell symbols and the intervals between whole seconds apart
+second-answers : Follower → ℕ → ℕ → Followed → Type 0
+second-answers f symbol t answer =
+    FollowsEvent f (second-tables .built) (second-tables .cells) (second-tables .rows) (second-tables .pool) symbol
+    (at t)
+    answer
+
+second-moves : Type 0
+second-moves =
+    second-answers (standing 2 3 0 0 0) 0 1 (moved true (standing 2 5 0 1 1))
+    × second-answers (standing 2 3 0 0 0) 0 0 (moved true (standing 2 4 0 0 1))
+    × second-answers (standing 2 4 0 0 0) 1 3 (moved true (standing 2 5 0 3 1))
+
+second-moves-are : second-moves
+unfolding inShape shapeRefusal verdict step followRefusal followed second-tables at standing second-answers moved
+    second-moves
+second-moves-are = (record { answer-is = refl }, record { answer-is = refl }, record { answer-is = refl })
 
 -- a refused event leaves the follower as it was, and says no; the row in which it stands has verdict yes
 stays : Type 0

@@ -140,10 +140,13 @@ ranges =
     ∷ case (reads (sized 3 1 3 ++ location 4 30)) (refusal 8 16)
     ∷ case (reads (sized 2 1 4 ++ edge 14 0 (3 ∷ 0 ∷ 11 ∷ []))) fine
     ∷ case (reads (sized 2 1 4 ++ edge 14 0 (3 ∷ 0 ∷ 12 ∷ []))) (refusal 8 28)
+    ∷ case (reads (sized 2 1 4 ++ edge 20 0 (3 ∷ 0 ∷ 11 ∷ 3 ∷ 0 ∷ 12 ∷ []))) (refusal 8 34)
+    ∷ case (reads (sized 2 1 4 ++ times 2 (edge 14 0 (3 ∷ 0 ∷ 11 ∷ [])))) fine
+    ∷ case (reads (sized 2 1 4 ++ (edge 8 0 [] ++ edge 14 0 (3 ∷ 0 ∷ 12 ∷ [])))) (refusal 8 40)
     ∷ case (reads (sized 3 1 4 ++ edge 14 1 (3 ∷ 0 ∷ 12 ∷ []))) (refusal 7 10)
     ∷ []
 
 ranges-met : allMet ranges ≡ true
 unfolding cm pairCount recordRefusal withRecord atEnd readFrom readRule allMet reads sized sizes location edge bare
-    ranges
+    times ranges
 ranges-met = refl

@@ -4,7 +4,8 @@ use mathlib.Core.Bool.{true, false}
 use mathlib.Core.List.{List, [], _∷_}
 use Rattle.model.specs.Rules.{Rule, rule, cm, pairCount}
 use Rattle.model.specs.Words.{Event, eventsOf}
-use Rattle.model.specs.Runs.{isAcceptingRun, path, leastFrom, leastStart, leastRun}
+use Rattle.model.specs.Runs.{isAcceptingRun, acceptsFrom, acceptsFromSome, accepts, path, leastFrom, leastStart}
+use Rattle.model.specs.Runs.{leastRun}
 use Rattle.model.specs.Files.{recordRefusal, withRecord, atEnd, readFrom, readRule}
 use Rattle.model.specs.Construction.{codeOf, locationOf, basesOf, startRow, allows, rowResets, targetOf}
 use Rattle.model.specs.Construction.{nextRow, holdsFinal, walksFrom, walks}
@@ -29,11 +30,12 @@ runs =
     × (isAcceptingRun worked 2 seventh 0 (0 ∷ 1 ∷ 0 ∷ 1 ∷ []) ≡ true)
     × (isAcceptingRun worked 2 [] 0 [] ≡ true)
     × (isAcceptingRun worked 2 [] 1 [] ≡ false)
+    × (isAcceptingRun worked 2 (eventsOf (1 ∷ []) (2 ∷ [])) 1 (1 ∷ []) ≡ false)
 
 runs-are : runs
-unfolding cm pairCount isAcceptingRun recordRefusal withRecord atEnd readFrom readRule worked-file worked third seventh
-    runs
-runs-are = (refl, refl, refl, refl, refl, refl, refl, refl, refl)
+unfolding cm pairCount isAcceptingRun recordRefusal withRecord atEnd readFrom readRule worked-file worked third
+    seventh runs
+runs-are = (refl, refl, refl, refl, refl, refl, refl, refl, refl, refl)
 
 -- two starts: with no event only location 1 serves; by the first event 0 by edge 1 comes before 1 by edge 0
 two-starts : Rule
@@ -41,13 +43,39 @@ two-starts = rule 2 1 1 (0 ∷ 1 ∷ []) (1 ∷ []) 0 (free-edge 1 1 0 ∷ free-
 
 leasts : Type 0
 leasts =
-    (leastRun two-starts 1 [] ≡ path true 1 [])
+    (accepts two-starts 1 [] ≡ true) × (leastRun two-starts 1 [] ≡ path true 1 [])
     × (leastRun two-starts 1 (eventsOf (0 ∷ []) (0 ∷ [])) ≡ path true 0 (1 ∷ []))
     × (leastRun two-starts 1 (eventsOf (0 ∷ 0 ∷ []) (0 ∷ 7 ∷ [])) ≡ path true 0 (1 ∷ 0 ∷ []))
 
 leasts-are : leasts
-unfolding leastFrom leastStart leastRun free-edge two-starts leasts
-leasts-are = (refl, refl, refl)
+unfolding acceptsFrom acceptsFromSome accepts leastFrom leastStart leastRun free-edge two-starts leasts
+leasts-are = (refl, refl, refl, refl)
+
+-- an edge back to 0, and one to 1 at age 1 that resets the clock
+stays-or-resets : Rule
+stays-or-resets =
+    rule 2 1 1 (0 ∷ []) [] 0
+    (free-edge 0 0 0
+    ∷ record {
+      source = 0;
+      target = 1;
+      symbol = 0;
+      resets = 1;
+      atoms = record { clock = 0; relation = 2; constant = 1 } ∷ [];
+    }
+    ∷ [])
+
+-- "above cm" is above it at every interval, and a base brought forward is cut there: codes 2 and 5 have base 2, cm is 1
+aboves : Type 0
+aboves =
+    (nextRow worked 1 0 (5 ∷ []) ≡ 2 ∷ []) × (nextRow worked 1 3 (5 ∷ []) ≡ 2 ∷ []) × (nextRow worked 0 2 (2 ∷ []) ≡ [])
+    × (nextRow worked 0 0 (1 ∷ []) ≡ 3 ∷ [])
+    × (nextRow stays-or-resets 0 2 (0 ∷ 2 ∷ []) ≡ 1 ∷ 2 ∷ 3 ∷ [])
+
+aboves-are : aboves
+unfolding cm pairCount recordRefusal withRecord atEnd readFrom readRule codeOf locationOf basesOf allows rowResets
+    targetOf nextRow worked-file worked free-edge stays-or-resets aboves
+aboves-are = (refl, refl, refl, refl, refl)
 
 -- the one timer walks from its last reset, not from the event before
 walks-all : Type 0

@@ -21,5 +21,5 @@ pub mod Walks
 pub mod Promises
 -- Demands 2 and 3 as claims about the definitions and the promises
 pub mod Demands
--- Further claims that pin the definitions: runs, successor sets, every place of the tables, the follower
+-- Further claims that pin the definitions: runs, configurations, successor sets, the tables by place, the follower
 pub mod Claims
