@@ -3,7 +3,7 @@
 use mathlib.Core.Path.{_≡_, sym, _∙_, ap, ap₂, subst}
 use mathlib.Core.Bool.{Bool, true, false}
 use mathlib.Core.List.{List}
-use Prim.Native.Nat.{ℕ, zero, suc, _+_, _*_, _<_}
+use Prim.Native.Nat.{ℕ, zero, suc, _+_, _-_, _*_, _≤_, _<_}
 use native.Mathlib.Omega.{arith}
 use lib.ListN.{length, take, drop}
 use Rattle.model.specs.Basics.{oneIf, zeros}
@@ -15,7 +15,7 @@ use Rattle.construct.specs.declared.Marked.{Marked}
 use Rattle.construct.specs.declared.Progress.{Progress}
 use Rattle.construct.specs.declared.Placed.{Placed}
 use Rattle.construct.specs.Marks.{codesIn, NextMarked}
-use Rattle.construct.specs.Rows.{rowsHeld, rowsIn, Grown, MarksNumbered}
+use Rattle.construct.specs.Rows.{rowsHeld, rowsIn, Within, Grown, MarksNumbered}
 use Rattle.construct.specs.Cells.{CellMade}
 
 -- the cell's two parts
@@ -33,17 +33,19 @@ held-at (suc n) i (suc k) rows pool h =
     let e : suc i + k ≡ i + suc k = omega arith in
     held-at n (suc i) k rows pool (omega arith) ∙ ap (codesAt rows pool) e
 
-pub part-is :
-    (rows pool x : List ℕ) (p : Progress) (row number start n : ℕ) → row < p .rows → number ≡ row
-    → start ≡ rowStart rows number
-    → n ≡ rowLength rows number
-    → x ≡ take n (drop start pool)
-    → x ≡ rowAt (rowsIn (p .rows) rows pool) row
-part-is rows pool x p row number start n below is-row is-start is-length e =
-    let z : 0 + row ≡ row = omega arith in
-    e
-    ∙ rw (is-start, is-length, is-row)
-    (sym (held-at (p .rows) 0 row rows pool below ∙ ap (codesAt rows pool) z))
+module _
+    (rows pool : List ℕ) (p : Progress) (row number start n : ℕ) (below : row < p .rows) (is-row : number ≡ row)
+    (is-start : start ≡ rowStart rows number) (is-length : n ≡ rowLength rows number) where
+  pub part-fits : Within (p .rows) rows pool → start + n ≤ length pool
+  part-fits within =
+      rw (is-start, is-length, is-row) (within .in-pool row below)
+
+  pub part-is : take (start + n - start) (drop start pool) ≡ rowAt (rowsIn (p .rows) rows pool) row
+  part-is =
+      let e : start + n - start ≡ n = omega arith in
+      let z : 0 + row ≡ row = omega arith in
+      rw (e, is-start, is-length, is-row)
+      (sym (held-at (p .rows) 0 row rows pool below ∙ ap (codesAt rows pool) z))
 
 pub cell-made :
     {says : List ℕ → List ℕ} (r : Rule) (row : ℕ) (at : Input) (rs : List (List ℕ)) {room : ℕ}

@@ -226,19 +226,15 @@ found-nothing x rs f e g =
 
 module _
     {says : List ℕ → List ℕ} {rows pool : List ℕ} {p : Progress} (held : Held says rows pool p) (x : List ℕ)
-    (f : Found) (count : ℕ)
-    (is-count : count ≡ p .rows) (found : f ≡ foundIn x (rowsIn count rows pool)) where
-  is-found : f ≡ foundIn x (rowsIn (p .rows) rows pool)
-  is-found = found ∙ ap (λ (n : ℕ). foundIn x (rowsIn n rows pool)) is-count
-
+    (f : Found) (is-found : f ≡ foundIn x (rowsIn (p .rows) rows pool)) where
   -- an equal row has a number: that one is used
   pub placed-found :
-      (number row : ℕ) → f ≡ At number → row ≡ number
+      (row : ℕ) → f ≡ At row
       → Numbered says (p .room) (withRow x (rowsIn (p .rows) rows pool)) (numberOf x (rowsIn (p .rows) rows pool)) rows
       pool
       (record { row = row; progress = p })
-  placed-found number row g same =
-      let k = found-at x (rowsIn (p .rows) rows pool) f number is-found g in
+  placed-found row g =
+      let k = found-at x (rowsIn (p .rows) rows pool) f row is-found g in
       record {
         grown = record {
           held = λ e. held;
@@ -246,8 +242,8 @@ module _
           refused = λ e. absurd (e (held .going));
           room-kept = refl;
         };
-        row-is = λ e. same ∙ k .1;
-        row-below = omega (arith, k .0, same ∙ k .1, rows-length (p .rows) 0 rows pool, held .in-room, held .room-most);
+        row-is = λ e. k .1;
+        row-below = omega (arith, k .0, k .1, rows-length (p .rows) 0 rows pool, held .in-room, held .room-most);
       }
 
   -- none has: the next one is used

@@ -91,16 +91,16 @@ rows-again rs rows pool n l m e f g =
     (held-from (length rs) 0 (filled l (rowNumbers codesSay 0 rs)) (filled m (poolNumbers rs)) rs (omega arith)
     (row-in rs l m))
 
--- every row lies in the pool
+-- every row lies in its tables
 pub row-within :
-    {rows pool : List ℕ} {p : Progress} → Held codesSay rows pool p → (count : ℕ) → count ≡ p .rows → Within count rows
-    pool
-row-within {rows} {pool} {p} held below is-count =
+    {rows pool : List ℕ} {p : Progress} → Held codesSay rows pool p → Within (p .rows) rows pool
+row-within {rows} {pool} {p} held =
     let rs : List (List ℕ) = rowsIn (p .rows) rows pool in
     let count : length rs ≡ p .rows = rows-length (p .rows) 0 rows pool in
     record {
+      rows-long = omega (arith, held .room-fits, held .in-room);
       in-pool = λ n h.
-          let l : n < length rs = omega (arith, count, is-count) in
+          let l : n < length rs = omega (arith, count) in
           let a : rowStart rows n ≡ startOf n rs =
           ap (λ (t : List ℕ). rowStart t n) (held .rows-are) ∙ start-is rs (length rows) 0 n l in
           let b : rowLength rows n ≡ length (rowAt rs n) =

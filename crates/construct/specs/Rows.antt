@@ -33,8 +33,9 @@ pub record CodeSet (codes : List ℕ) : Type 0 where
   pub ascends : Asc 0 codes
   pub few : length codes ≤ mostPairs
 
--- the rows' codes lie in the pool
+-- the rows lie in their tables
 pub record Within (count : ℕ) (rows pool : List ℕ) : Type 0 where
+  pub rows-long : rowWidth * count ≤ length rows
   pub in-pool : (n : ℕ) → n < count → rowStart rows n + rowLength rows n ≤ length pool
 
 -- The tables hold the rows numbered so far, each ascending, and zero past them, and there is room for what was put in.

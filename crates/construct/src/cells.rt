@@ -15,7 +15,6 @@ use crate::marks::mark_next;
 use crate::rows::place_marks;
 use model::Head;
 use numbers::narrow32;
-use numbers::part_of;
 use numbers::wide8;
 use numbers::wide32;
 use pairs::Input;
@@ -56,9 +55,8 @@ pub(crate) fn make_cell(
 {
     let number = narrow32(row);
     let start = row_start(rows, number);
-    let size = row_length(rows, number);
-    let codes = part_of(pool, start, size);
-    let marked = mark_next(head, edges, links, scale, input, codes, marks);
+    let end = start + row_length(rows, number);
+    let marked = mark_next(head, edges, links, scale, input, &pool[start..end], marks);
     let placed = place_marks(marks, marked.span, rows, pool, p);
     let progress = placed.progress;
     Filled {

@@ -26,7 +26,7 @@ pub(crate) struct Marked {
 
 // Where a set of codes is found among the rows already numbered.
 pub(crate) enum Found {
-    At(u32),
+    At(usize),
     Nothing,
 }
 

@@ -19,22 +19,21 @@ use model::ROW_WIDTH;
 use numbers::clear32;
 use numbers::narrow32;
 use numbers::wide32;
-use tables::row_length;
-use tables::row_start;
 
-// The first row that holds exactly `codes`.
-pub(crate) fn find_row(rows: &[u32], pool: &[u32], count: u32, codes: &[u32]) -> Found
+// The first row that holds exactly `codes`. A build spends most of its time here: the rows are known to lie in their
+// tables, so no place is tested.
+pub(crate) fn find_row(rows: &[u32], pool: &[u32], count: usize, codes: &[u32]) -> Found
     requires { ⌜ Within count (now rows) (now pool) ⌝ }
     ensures { λ r. ⌜ r ≡ foundIn (now (codes .entry)) (rowsIn count (now (rows .entry)) (now (pool .entry))) ⌝ }
 {
-    let mut row: u32 = 0;
+    let mut row: usize = 0;
     loop {
         if count <= row {
             break Found::Nothing;
         }
-        let size = row_length(rows, row);
+        let size = wide32(rows[ROW_WIDTH * row + ROW_LENGTH]);
         if size == codes.len() {
-            let start = row_start(rows, row);
+            let start = wide32(rows[ROW_WIDTH * row]);
             let mut j: usize = 0;
             'codes: while j < size {
                 if pool[start + j] != codes[j] {
@@ -120,15 +119,11 @@ pub(crate) fn place_row(codes: &[u32], rows: &mut [u32], pool: &mut [u32], p: Pr
         (numberOf (now (codes .entry)) (rowsIn (p .rows) (now (rows .entry)) (now (pool .entry))))
         (now (rows .exit)) (now (pool .exit)) r ⌝ }
 {
-    let count = narrow32(p.rows);
-    let found = find_row(rows, pool, count, codes);
+    let found = find_row(rows, pool, p.rows, codes);
     let Found::At(row) = found else {
         return add_row(codes, rows, pool, p);
     };
-    Placed {
-        row: wide32(row),
-        progress: p,
-    }
+    Placed { row, progress: p }
 }
 
 // The number of the row that is marked; the marks are zero again.
