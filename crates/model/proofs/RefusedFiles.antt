@@ -47,6 +47,7 @@ cuts =
     ∷ case (reads (worked-file ++ location 6 0)) (refusal 2 58)
     ∷ case (reads (worked-file ++ location 0 0)) (refusal 2 58)
     ∷ case (reads (sizes ++ location 258 0)) (refusal 2 10)
+    ∷ case (reads (sizes ++ numbers (8 ∷ 6 ∷ 0 ∷ 0 ∷ 0 ∷ 0 ∷ []))) (refusal 2 10)
     ∷ case (reads (numbers (4 ∷ 1 ∷ 2 ∷ 2 ∷ []))) (refusal 2 0)
     ∷ case (reads (numbers (8 ∷ 1 ∷ 2 ∷ 2 ∷ 1 ∷ 0 ∷ []))) (refusal 2 0)
     ∷ case (reads (sizes ++ numbers (4 ∷ 2 ∷ 1 ∷ 1 ∷ []))) (refusal 2 10)
