@@ -56,12 +56,17 @@ pub(crate) fn copy_numbers(bytes: &[u8], out: &mut [u16])
     }
 }
 
-// The numbers of a body, at the front of an array.
+// The numbers of a body, at the front of an array. Where the file goes on far enough the array is filled, since a copy
+// of a fixed length takes fewer steps.
 pub(crate) fn body_numbers(body: &[u8], count: usize) -> [u16; BODY_NUMBERS]
     requires { ⌜ (count ≤ bodyNumbers) × (numberBytes * count ≤ length (now body)) ⌝ }
     ensures { λ r. ⌜ (take count r ≡ numbersOf count (now (body .entry))) × (length r ≡ bodyNumbers) ⌝ }
 {
     let mut numbers = [0u16; BODY_NUMBERS];
+    if MOST_BODY <= body.len() {
+        copy_numbers(body, &mut numbers[0..BODY_NUMBERS]);
+        return numbers;
+    }
     copy_numbers(body, &mut numbers[0..count]);
     numbers
 }
