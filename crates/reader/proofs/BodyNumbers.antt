@@ -117,10 +117,12 @@ array-whole count body x few x-is =
     let is : x ++ [] ≡ numbersOf bodyNumbers body = append-nil x ∙ x-is in
     (ap (take count) is ∙ numbers-front count bodyNumbers body few, ap length is ∙ numbers-length bodyNumbers body)
 
-pub front-is : (count : ℕ) (l x : List ℕ) → take count l ≡ x → take (count - 0) l ≡ x
-front-is count l x e =
-    let n : count - 0 ≡ count = omega arith in
-    ap (λ (k : ℕ). take k l) n ∙ e
+pub front-is :
+    (count n : ℕ) (l body : List ℕ) → count ≡ n → take count l ≡ numbersOf count body
+    → take (count - 0) l ≡ numbersOf n body
+front-is count n l body is e =
+    let z : count - 0 ≡ count = omega arith in
+    ap (λ (k : ℕ). take k l) z ∙ (e ∙ ap (λ (k : ℕ). numbersOf k body) is)
 
 -- the atoms of a body
 atoms-of : (n m : ℕ) (s : List ℕ) → atomWidth * n ≤ m → atomsIn n (numbersOf m s) ≡ atomsFrom n s

@@ -1,6 +1,6 @@
 // Numbers of a file: two bytes each, low byte first. The names of the lengths have their twins in specs/Bodies.antt.
 ghost use mathlib.Core.Path.{_≡_};
-ghost use Prim.Native.Nat.{_+_, _*_, _^_, _≤_, _<_};
+ghost use Prim.Native.Nat.{_+_, _*_, _/_, _^_, _≤_, _<_};
 ghost use lib.ListN.{length, take};
 ghost use Rattle.model.specs.Rules.{mostLocations};
 ghost use Rattle.model.specs.Files.{numberAt};
@@ -54,6 +54,16 @@ pub(crate) fn copy_numbers(bytes: &[u8], out: &mut [u16])
         out[i] = narrow16(number_at(bytes, i));
         i += 1;
     }
+}
+
+// How many numbers of a body are copied: those of an edge.
+pub(crate) fn edge_count(kind: usize, size: usize) -> usize
+    ensures { λ r. ⌜ (kind ≡ 5 → r ≡ size / numberBytes) × (r ≤ size / numberBytes) ⌝ }
+{
+    if kind != 5 {
+        return 0;
+    }
+    size / NUMBER_BYTES
 }
 
 // The numbers of a body, at the front of an array. Where the file goes on far enough the array is filled, since a copy
