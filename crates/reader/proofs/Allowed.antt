@@ -142,7 +142,7 @@ module _ {r : Rule} {c : Cursor} {t : List ℕ} (state : State r c t) {kind n : 
         let a = is-edge allowed k in
         let count-is : c .head .count ≡ length (r .edges) = ap (λ (h : Head). h .count) (state .holds .head-is) in
         let wide = numbers-wide (c .last) r (state .stage) ∙ ap (λ (m : ℕ). edgeWidth * m) (sym count-is) in
-        let counted = ap length (b .numbers-are) ∙ numbers-length (n / numberBytes) body in
+        let counted = ap length (b .numbers-are k) ∙ numbers-length (n / numberBytes) body in
         record {
           least = omega (arith, counted, a .length-least);
           most = omega (arith, counted, a .length-most);

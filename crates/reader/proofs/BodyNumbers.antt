@@ -103,10 +103,26 @@ array-filled count body x few x-is =
       ),
     )
 
-pub front-is : (count : ℕ) (l x : List ℕ) → take count l ≡ x → take (count - 0) l ≡ x
-front-is count l x e =
-    let n : count - 0 ≡ count = omega arith in
-    ap (λ (k : ℕ). take k l) n ∙ e
+-- the same where the array is filled
+numbers-front : (n m : ℕ) (s : List ℕ) → n ≤ m → take n (numbersOf m s) ≡ numbersOf n s
+numbers-front zero m s h = refl
+numbers-front (suc n) zero s h = absurd (omega arith)
+numbers-front (suc n) (suc m) s h =
+    ap (λ (l : List ℕ). numberAt 0 s ∷ l) (numbers-front n m (drop 2 s) (omega arith))
+
+pub array-whole :
+    (count : ℕ) (body x : List ℕ) → count ≤ bodyNumbers → x ≡ numbersOf bodyNumbers body
+    → (take count (x ++ []) ≡ numbersOf count body) × (length (x ++ []) ≡ bodyNumbers)
+array-whole count body x few x-is =
+    let is : x ++ [] ≡ numbersOf bodyNumbers body = append-nil x ∙ x-is in
+    (ap (take count) is ∙ numbers-front count bodyNumbers body few, ap length is ∙ numbers-length bodyNumbers body)
+
+pub front-is :
+    (count n : ℕ) (l body : List ℕ) → count ≡ n → take count l ≡ numbersOf count body
+    → take (count - 0) l ≡ numbersOf n body
+front-is count n l body is e =
+    let z : count - 0 ≡ count = omega arith in
+    ap (λ (k : ℕ). take k l) z ∙ (e ∙ ap (λ (k : ℕ). numbersOf k body) is)
 
 -- the atoms of a body
 atoms-of : (n m : ℕ) (s : List ℕ) → atomWidth * n ≤ m → atomsIn n (numbersOf m s) ≡ atomsFrom n s

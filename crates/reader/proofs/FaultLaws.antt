@@ -86,11 +86,11 @@ module _ (c : Cursor) (r : Rule) (h : Holds r c) (kind : ℕ) (body : List ℕ) 
 -- the edge that a body's numbers spell
 pub body-edge-is :
     {kind n : ℕ} {body v : List ℕ} → Body kind n body v → kind ≡ 5 → edgeSpelt v ≡ edgeFrom n body
-body-edge-is {kind} {n} {body} b e = ap edgeSpelt (b .numbers-are) ∙ edge-spelt n body (b .edge-least e)
+body-edge-is {kind} {n} {body} b e = ap edgeSpelt (b .numbers-are e) ∙ edge-spelt n body (b .edge-least e)
 
 pub body-fields : {kind n : ℕ} {body v : List ℕ} → Body kind n body v → kind ≡ 5 → bodyFields ≤ length v
 body-fields {kind} {n} {body} b e =
-    omega (arith, ap length (b .numbers-are), numbers-length (n / numberBytes) body, b .edge-least e)
+    omega (arith, ap length (b .numbers-are e), numbers-length (n / numberBytes) body, b .edge-least e)
 
 -- 7: pinned resets
 pub pinned-is :

@@ -58,7 +58,8 @@ body-least kind n h =
     (λ b. omega (arith, edge-least n (and-right (eqb kind 5) (edgeBody n) (rw (a, b) at h)))))
 
 pub body-of :
-    (kind n : ℕ) (body v : List ℕ) → bodyOk kind n ≡ true → n ≤ length body → v ≡ numbersOf (n / numberBytes) body
+    (kind n : ℕ) (body v : List ℕ) → bodyOk kind n ≡ true → n ≤ length body
+    → (kind ≡ 5 → v ≡ numbersOf (n / numberBytes) body)
     → Body kind n body v
 body-of kind n body v h whole v-is = record {
   whole = whole;
@@ -128,11 +129,13 @@ module _ {file : List ℕ} {c : Cursor} {size kind : ℕ} (whole : Whole file c 
 
   -- its numbers fit the array, and stand in the file
   pub numbers-fit :
-      (size / numberBytes ≤ bodyNumbers) × (numberBytes * (size / numberBytes) ≤ length (bodyIn file (c .at)))
-  numbers-fit = (omega (arith, body-most kind size (whole .ok)), omega (arith, body-whole))
+      (count : ℕ) → count ≤ size / numberBytes
+      → (count ≤ bodyNumbers) × (numberBytes * count ≤ length (bodyIn file (c .at)))
+  numbers-fit count h = (omega (arith, body-most kind size (whole .ok)), omega (arith, body-whole))
 
   pub body-known :
-      {v : List ℕ} → v ≡ numbersOf (size / numberBytes) (bodyIn file (c .at)) → Body kind size (bodyIn file (c .at)) v
+      {v : List ℕ} → (kind ≡ 5 → v ≡ numbersOf (size / numberBytes) (bodyIn file (c .at)))
+      → Body kind size (bodyIn file (c .at)) v
   body-known {v} v-is = body-of kind size (bodyIn file (c .at)) v (whole .ok) body-whole v-is
 
   module _
@@ -166,7 +169,8 @@ module _ {file : List ℕ} {c : Cursor} {size kind : ℕ} (whole : Whole file c 
             omega (arith, whole .long)
 
         pub taken-room :
-            {v : List ℕ} → v ≡ numbersOf (size / numberBytes) (bodyIn file (c .at)) → length file < 2 ^ 64
+            {v : List ℕ} → (kind ≡ 5 → v ≡ numbersOf (size / numberBytes) (bodyIn file (c .at)))
+            → length file < 2 ^ 64
             → Room c kind size (bodyIn file (c .at)) v t
         taken-room v-is h = room-for state allowed-known (body-known v-is) (omega (arith, place-inside))
 

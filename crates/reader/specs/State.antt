@@ -37,13 +37,13 @@ bodyRefusal p last r kind n body =
     ⨾ refuse (outOfRange r kind n body) 6 p
     ⨾ refuse (notPinned kind n body) 7 p
 
--- a body of a length that its kind has, and its numbers
+-- a body of a length that its kind has, and the numbers of an edge's
 pub record Body (kind size : ℕ) (body numbers : List ℕ) : Type 0 where
   pub whole : size ≤ length body
   pub least : numberBytes ≤ size
   pub sizes : kind ≡ 1 → size ≡ sizesBody
   pub edge-least : kind ≡ 5 → fieldsBody ≤ size
-  pub numbers-are : numbers ≡ numbersOf (size / numberBytes) body
+  pub numbers-are : kind ≡ 5 → numbers ≡ numbersOf (size / numberBytes) body
 
 -- the same place in the file
 pub record Stays (c d : Cursor) : Type 0 where

@@ -1,6 +1,6 @@
 // Numbers of a file: two bytes each, low byte first. The names of the lengths have their twins in specs/Bodies.antt.
 ghost use mathlib.Core.Path.{_≡_};
-ghost use Prim.Native.Nat.{_+_, _*_, _^_, _≤_, _<_};
+ghost use Prim.Native.Nat.{_+_, _*_, _/_, _^_, _≤_, _<_};
 ghost use lib.ListN.{length, take};
 ghost use Rattle.model.specs.Rules.{mostLocations};
 ghost use Rattle.model.specs.Files.{numberAt};
@@ -56,12 +56,27 @@ pub(crate) fn copy_numbers(bytes: &[u8], out: &mut [u16])
     }
 }
 
-// The numbers of a body, at the front of an array.
+// How many numbers of a body are copied: those of an edge.
+pub(crate) fn edge_count(kind: usize, size: usize) -> usize
+    ensures { λ r. ⌜ (kind ≡ 5 → r ≡ size / numberBytes) × (r ≤ size / numberBytes) ⌝ }
+{
+    if kind != 5 {
+        return 0;
+    }
+    size / NUMBER_BYTES
+}
+
+// The numbers of a body, at the front of an array. Where the file goes on far enough the array is filled, since a copy
+// of a fixed length takes fewer steps.
 pub(crate) fn body_numbers(body: &[u8], count: usize) -> [u16; BODY_NUMBERS]
     requires { ⌜ (count ≤ bodyNumbers) × (numberBytes * count ≤ length (now body)) ⌝ }
     ensures { λ r. ⌜ (take count r ≡ numbersOf count (now (body .entry))) × (length r ≡ bodyNumbers) ⌝ }
 {
     let mut numbers = [0u16; BODY_NUMBERS];
+    if MOST_BODY <= body.len() {
+        copy_numbers(body, &mut numbers[0..BODY_NUMBERS]);
+        return numbers;
+    }
     copy_numbers(body, &mut numbers[0..count]);
     numbers
 }

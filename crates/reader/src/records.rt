@@ -7,9 +7,9 @@ ghost use Rattle.reader.specs.Bodies.{sizesBody};
 ghost use Rattle.reader.specs.State.{Holds, Stays, EdgeRoom, TakesEdge, Room, Takes, State, Under-way, StepIs};
 use crate::Cursor;
 use crate::Step;
-use crate::bytes::NUMBER_BYTES;
 use crate::bytes::RECORD_HEAD;
 use crate::bytes::body_numbers;
+use crate::bytes::edge_count;
 use crate::bytes::mask_of;
 use crate::bytes::number_at;
 use crate::edge::store_edge;
@@ -143,7 +143,7 @@ impl Cursor {
             return Step::Refused(2);
         }
         let body = &rest[RECORD_HEAD..];
-        let count = size / NUMBER_BYTES;
+        let count = edge_count(kind, size);
         let held = body_numbers(body, count);
         let numbers = &held[0..count];
         let fault = body_fault(self, kind, size, body, numbers);

@@ -25,20 +25,20 @@ whole-at c =
     whole-read (start .args .file .now) (start .args .self) (uncut .before .cut-short .ensures) (uncut .if1 .left) _ _
     (kind .before .number-at .ensures .0) (kind .number-at2 .ensures .0) (c .before .body-ok .ensures) (c .if2 .left)
 
--- its numbers
+-- the numbers of an edge
 numbers-at :
     (c : tie.After-numbers)
-    → let whole = c .before .before .before .before in
+    → let whole = c .before .before .before .before .before in
     let kind = whole .before .before in
     let start = kind .before .before .before .before .before .before .before in
-    let size = kind .before .number-at .result in
-    take (size / numberBytes - 0) (c .before .before .body-numbers .result)
-    ≡ numbersOf (size / numberBytes) (bodyIn (start .args .file .now) (start .args .self .at))
-numbers-at c =
+    kind .number-at2 .result ≡ 5
+    → take (c .before .before .before .edge-count .result - 0) (c .before .before .body-numbers .result)
+    ≡ numbersOf (kind .before .number-at .result / numberBytes)
+    (bodyIn (start .args .file .now) (start .args .self .at))
+numbers-at c e =
     let made = c .before .before in
-    let kind = made .before .before .before .before in
-    front-is (kind .before .number-at .result / numberBytes) (made .body-numbers .result) _
-    (made .body-numbers .ensures .0)
+    let count = made .before .edge-count in
+    front-is (count .result) _ (made .body-numbers .result) _ (count .ensures .0 e) (made .body-numbers .ensures .0)
 
 sub-rest : tie.Need-sub-rest
 sub-rest c = search needs
@@ -97,8 +97,11 @@ part-body-start c = omega (arith, whole-at c .long)
 part-body-end : tie.Need-part-body-end
 part-body-end c = search needs
 
+edge-count-requires : tie.Need-edge-count-requires
+edge-count-requires c κs = search needs
+
 body-numbers-requires : tie.Need-body-numbers-requires
-body-numbers-requires c κs = numbers-fit (whole-at (c .before))
+body-numbers-requires c κs = numbers-fit (whole-at (c .before .before)) _ (c .edge-count .ensures .1)
 
 sub-numbers : tie.Need-sub-numbers
 sub-numbers c = search needs
@@ -109,22 +112,24 @@ part-numbers-start c = search needs
 part-numbers-end : tie.Need-part-numbers-end
 part-numbers-end c =
     let made = c .before in
-    omega (arith, made .body-numbers .ensures .1, numbers-fit (whole-at (made .before .before)) .0)
+    let count = made .before in
+    let fits = numbers-fit (whole-at (count .before .before)) _ (count .edge-count .ensures .1) in
+    omega (arith, made .body-numbers .ensures .1, fits .0)
 
 body-fault-requires : tie.Need-body-fault-requires
-body-fault-requires c κs = body-known (whole-at (c .before .before .before .before)) (numbers-at c)
+body-fault-requires c κs = body-known (whole-at (c .before .before .before .before .before)) (numbers-at c)
 
 returns-3 : tie.Need-returns-3
 returns-3 c =
     let fault = c .before in
-    let whole = whole-at (fault .before .before .before .before .before) in
+    let whole = whole-at (fault .before .before .before .before .before .before) in
     λ r state. stops-fault whole r _ (fault .body-fault .ensures r (state .holds)) (c .if3 .taken)
 
 taken-requires : tie.Need-taken-requires
 taken-requires c κs =
     let fault = c .before .before in
     let numbers = fault .before in
-    let whole = numbers .before .before .before .before in
+    let whole = numbers .before .before .before .before .before in
     let start = whole .before .before .before .before .before .before .before .before .before in
     let r = start .pre .1 .rule in
     let state = start .pre .1 .state in
@@ -138,7 +143,7 @@ returns-4 : tie.Need-returns-4
 returns-4 c =
     let took = c .before .before in
     let fault = took .before .before .before in
-    let whole = fault .before .before .before .before .before in
+    let whole = fault .before .before .before .before .before .before in
     let start = whole .before .before .before .before .before .before .before .before .before in
     λ r state. goes-on (whole-at whole) r _ (fault .body-fault .ensures r (state .holds))
     (took .before .before .if3 .left) (start .pre .0) _ state (took .taken .ensures)
@@ -159,6 +164,7 @@ step-spec =
     sub-body
     part-body-start
     part-body-end
+    edge-count-requires
     body-numbers-requires
     sub-numbers
     part-numbers-start
