@@ -34,17 +34,17 @@ held-at (suc n) i (suc k) rows pool h =
     held-at n (suc i) k rows pool (omega arith) ∙ ap (codesAt rows pool) e
 
 module _
-    (rows pool : List ℕ) (p : Progress) (row number start n : ℕ) (below : row < p .rows) (is-row : number ≡ row)
-    (is-start : start ≡ rowStart rows number) (is-length : n ≡ rowLength rows number) where
+    (rows pool : List ℕ) (p : Progress) (row start n : ℕ) (below : row < p .rows) (is-start : start ≡ rowStart rows row)
+    (is-length : n ≡ rowLength rows row) where
   pub part-fits : Within (p .rows) rows pool → start + n ≤ length pool
   part-fits within =
-      rw (is-start, is-length, is-row) (within .in-pool row below)
+      rw (is-start, is-length) (within .in-pool row below)
 
   pub part-is : take (start + n - start) (drop start pool) ≡ rowAt (rowsIn (p .rows) rows pool) row
   part-is =
       let e : start + n - start ≡ n = omega arith in
       let z : 0 + row ≡ row = omega arith in
-      rw (e, is-start, is-length, is-row)
+      rw (e, is-start, is-length)
       (sym (held-at (p .rows) 0 row rows pool below ∙ ap (codesAt rows pool) z))
 
 pub cell-made :

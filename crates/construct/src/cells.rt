@@ -14,13 +14,13 @@ use crate::Progress;
 use crate::marks::mark_next;
 use crate::rows::place_marks;
 use model::Head;
+use model::ROW_LENGTH;
+use model::ROW_WIDTH;
 use numbers::narrow32;
 use numbers::wide8;
 use numbers::wide32;
 use pairs::Input;
 use pairs::Scale;
-use tables::row_length;
-use tables::row_start;
 
 // Next row · 2, plus 1 if the timer is reset.
 pub(crate) fn cell_of(row: usize, timer: bool) -> u32
@@ -33,7 +33,8 @@ pub(crate) fn cell_of(row: usize, timer: bool) -> u32
     narrow32(2 * row)
 }
 
-// The cell of a row at a symbol and an interval; the row that it leads to is numbered if it is new.
+// The cell of a row at a symbol and an interval; the row that it leads to is numbered if it is new. The row is known to
+// lie in its tables, so no place is tested.
 pub(crate) fn make_cell(
     head: Head,
     edges: &[u16],
@@ -53,9 +54,8 @@ pub(crate) fn make_cell(
         (rowsIn (p .rows) (now (rows .entry)) (now (pool .entry))) (p .room) (now (marks .entry)) (now (marks .exit))
         (now (rows .exit)) (now (pool .exit)) r ⌝ }
 {
-    let number = narrow32(row);
-    let start = row_start(rows, number);
-    let end = start + row_length(rows, number);
+    let start = wide32(rows[ROW_WIDTH * row]);
+    let end = start + wide32(rows[ROW_WIDTH * row + ROW_LENGTH]);
     let marked = mark_next(head, edges, links, scale, input, &pool[start..end], marks);
     let placed = place_marks(marks, marked.span, rows, pool, p);
     let progress = placed.progress;

@@ -10,6 +10,20 @@ use Rattle.construct.proofs.Outcome.{builds-done, builds-unfit, builds-
 use Rattle.construct.proofs.build.build_in.Statement.{statement}
 use Rattle.construct.proofs.build.build_in.Tie as tie
 
+-- from a call back to the one before it, and to the entry
+abbrev filled : tie.After-clear-tables2 → tie.After-fill-tables
+filled w =
+    w .before .before .before .before .before .before .before .before .before .before .before .before .before .before
+
+abbrev clears : tie.After-fill-tables → tie.After-clear-tables
+clears w = w .before .before .before .before .before .before .before .before .before .before .before
+
+abbrev clear : tie.After-clear-tables → tie.After-clear32
+clear w = w .before .before .before .before .before .before
+
+abbrev Entry : tie.After-clear32 → tie.Start
+Entry w = w .before .before .before .before .before .before .before
+
 clear32-requires : tie.Need-clear32-requires
 clear32-requires c κs = search needs
 
@@ -19,8 +33,8 @@ clear-tables-requires c κs = search needs
 fill-tables-requires : tie.Need-fill-tables-requires
 fill-tables-requires c κs =
     let after-clear-tables = c .before .before .before .before .before .before .before .before .before .before in
-    let after-clear = after-clear-tables .before .before .before .before .before .before in
-    let s = after-clear .before .before .before .before .before .before .before in
+    let after-clear = clear after-clear-tables in
+    let s = Entry after-clear in
     can-build (s .args .head) (s .args .edges .now) (s .args .scale) (s .args .scratch .now) _ (s .args .cells .now) _
     (s .args .rows .now) _ (s .args .pool .now) _ (s .pre .0) (s .pre .1 .0) (s .pre .1 .1)
     (after-clear .clear32 .ensures)
@@ -36,39 +50,31 @@ not-built-requires c κs = search needs
 
 same-length : tie.Need-same-length
 same-length c =
-    let after-fill-tables = c .before .before .before .before .before .before .before .before .before .before .before
-    .before .before .before .before .before .before .before .before .before .before in
-    let after-clear = after-fill-tables .before .before .before .before .before .before .before .before .before
-    .before .before .before .before .before .before .before .before in
+    let after-fill-tables = filled (c .before .before .before .before .before .before .before) in
+    let after-clear = clear (clears after-fill-tables) in
     after-fill-tables .fill-tables .kept .1 .1 .1 .0 ∙ after-clear .clear32 .kept .0
 
 same-length-2 : tie.Need-same-length-2
 same-length-2 c =
     let after-clear-tables2 = c .before .before .before .before .before .before .before in
-    let after-fill-tables = after-clear-tables2 .before .before .before .before .before .before .before .before
-    .before .before .before .before .before .before in
-    let after-clear-tables = after-fill-tables .before .before .before .before .before .before .before .before
-    .before .before .before in
+    let after-fill-tables = filled after-clear-tables2 in
+    let after-clear-tables = clears after-fill-tables in
     after-clear-tables2 .clear-tables2 .kept .0 ∙
     (after-fill-tables .fill-tables .kept .1 .1 .1 .1 .0 ∙ after-clear-tables .clear-tables .kept .0)
 
 same-length-3 : tie.Need-same-length-3
 same-length-3 c =
     let after-clear-tables2 = c .before .before .before .before .before .before .before in
-    let after-fill-tables = after-clear-tables2 .before .before .before .before .before .before .before .before
-    .before .before .before .before .before .before in
-    let after-clear-tables = after-fill-tables .before .before .before .before .before .before .before .before
-    .before .before .before in
+    let after-fill-tables = filled after-clear-tables2 in
+    let after-clear-tables = clears after-fill-tables in
     after-clear-tables2 .clear-tables2 .kept .1 .0 ∙
     (after-fill-tables .fill-tables .kept .1 .1 .1 .1 .1 .0 ∙ after-clear-tables .clear-tables .kept .1 .0)
 
 same-length-4 : tie.Need-same-length-4
 same-length-4 c =
     let after-clear-tables2 = c .before .before .before .before .before .before .before in
-    let after-fill-tables = after-clear-tables2 .before .before .before .before .before .before .before .before
-    .before .before .before .before .before .before in
-    let after-clear-tables = after-fill-tables .before .before .before .before .before .before .before .before
-    .before .before .before in
+    let after-fill-tables = filled after-clear-tables2 in
+    let after-clear-tables = clears after-fill-tables in
     after-clear-tables2 .clear-tables2 .kept .1 .1 .0 ∙
     (after-fill-tables .fill-tables .kept .1 .1 .1 .1 .1 .1 .0 ∙ after-clear-tables .clear-tables .kept .1 .1 .0)
 
@@ -77,10 +83,9 @@ returns c =
     let after-clear-tables2 = c .before .before .before .before .before .before .before in
     let at-if1 = after-clear-tables2 .before .before .before .before in
     let after-fill-tables = at-if1 .before .before .before .before .before .before .before .before .before .before in
-    let after-clear-tables = after-fill-tables .before .before .before .before .before .before .before .before
-    .before .before .before in
-    let after-clear = after-clear-tables .before .before .before .before .before .before in
-    let s = after-clear .before .before .before .before .before .before .before in
+    let after-clear-tables = clears after-fill-tables in
+    let after-clear = clear after-clear-tables in
+    let s = Entry after-clear in
     let first = after-clear-tables .clear-tables in
     let fill = after-fill-tables .fill-tables in
     let last = after-clear-tables2 .clear-tables2 in
@@ -112,8 +117,7 @@ built-from-requires c κs =
 same-length-5 : tie.Need-same-length-5
 same-length-5 c =
     let after-fill-tables = c .before .before .before .before .before .before .before .before .before .before .before in
-    let after-clear = after-fill-tables .before .before .before .before .before .before .before .before .before
-    .before .before .before .before .before .before .before .before in
+    let after-clear = clear (clears after-fill-tables) in
     after-fill-tables .fill-tables .kept .1 .1 .1 .0 ∙ after-clear .clear32 .kept .0
 
 same-length-6 : tie.Need-same-length-6
@@ -128,10 +132,9 @@ same-length-8 c = search needs
 returns-2 : tie.Need-returns-2
 returns-2 c =
     let after-fill-tables = c .before .before .before .before .before .before .before .before .before .before .before in
-    let after-clear-tables = after-fill-tables .before .before .before .before .before .before .before .before
-    .before .before .before in
-    let after-clear = after-clear-tables .before .before .before .before .before .before in
-    let s = after-clear .before .before .before .before .before .before .before in
+    let after-clear-tables = clears after-fill-tables in
+    let after-clear = clear after-clear-tables in
+    let s = Entry after-clear in
     let first = after-clear-tables .clear-tables in
     let fill = after-fill-tables .fill-tables in
     builds-as _

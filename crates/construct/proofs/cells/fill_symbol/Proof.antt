@@ -29,15 +29,16 @@ abbrev μ-loop : tie.MeasureT-loop
     progress i =
     width - i
 
+-- from a turn of the loop back to the entry
+abbrev Entry : tie.In-loop Inv-loop μ-loop → tie.Start Inv-loop μ-loop
+Entry c = c .before .before .before .before .before .before .before .before .before .before .before .before
+
 -- the cell's place lies in the table
 fits :
     (c : tie.In-loop Inv-loop μ-loop)
-    → c .before .before .place-of .result + c .before .loop .i
-    < length (c .before .before .before .before .before .before .before .before .before .before .before .before
-    .args .cells
-    .now)
+    → c .before .before .place-of .result + c .before .loop .i < length (Entry c .args .cells .now)
 fits c =
-    let s = c .before .before .before .before .before .before .before .before .before .before .before .before in
+    let s = Entry c in
     let l = c .before .loop in
     filling-fits (l .inv .6) _ (l .inv .0) (c .loop-test .taken)
     (rw (symbols-of (s .args .head) (s .args .edges .now)) (s .pre .1 .0))
@@ -121,26 +122,24 @@ returns c =
 
 add-cells : tie.Need-add-cells Inv-loop μ-loop
 add-cells c =
-    let after-place = c .before .before .before .before .before .before .before .before .before .before .before
+    let in-loop = c .before .before .before .before .before .before .before .before .before .before .before
     .before .before .before in
-    let start = after-place .before .before .before .before .before .before .before .before .before .before .before
-    .before in
-    omega (arith, fits after-place, start .good .1 .1 .1 .1 .1 .1 .1 .0 .0)
+    let start = Entry in-loop in
+    omega (arith, fits in-loop, start .good .1 .1 .1 .1 .1 .1 .1 .0 .0)
 
 mul-cells : tie.Need-mul-cells Inv-loop μ-loop
 mul-cells c =
-    let after-place = c .before .before .before .before .before .before .before .before .before .before .before
+    let in-loop = c .before .before .before .before .before .before .before .before .before .before .before
     .before .before .before in
-    let start = after-place .before .before .before .before .before .before .before .before .before .before .before
-    .before in
-    scaled-fits _ (length (start .args .cells .now)) 4 (fits after-place) (start .good .1 .1 .1 .1 .1 .1 .1 .0 .1)
+    let start = Entry in-loop in
+    scaled-fits _ (length (start .args .cells .now)) 4 (fits in-loop) (start .good .1 .1 .1 .1 .1 .1 .1 .0 .1)
 
 slice-write-cells : tie.Need-slice-write-cells Inv-loop μ-loop
 slice-write-cells c =
-    let after-place = c .before .before .before .before .before .before .before .before .before .before .before
+    let in-loop = c .before .before .before .before .before .before .before .before .before .before .before
     .before .before .before in
-    let at-loop = after-place .before in
-    omega (arith, fits after-place, at-loop .loop .inv .6 .cells-long)
+    let at-loop = in-loop .before in
+    omega (arith, fits in-loop, at-loop .loop .inv .6 .cells-long)
 
 add-i : tie.Need-add-i Inv-loop μ-loop
 add-i c = search needs

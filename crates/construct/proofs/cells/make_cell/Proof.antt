@@ -1,5 +1,4 @@
 -- `construct::cells::make_cell` meets its contract: the part of the pool is the row, its next row is marked and placed.
-use mathlib.Core.Path.{_≡_}
 use borrow.Author.Needs.{needs}
 use Rattle.model.specs.Layout.{ruleIn}
 use Rattle.construct.proofs.CellLaws.{part-fits, part-is, cell-made}
@@ -8,14 +7,32 @@ use Rattle.construct.specs.Rows.{rowsIn}
 use Rattle.construct.proofs.cells.make_cell.Statement.{statement}
 use Rattle.construct.proofs.cells.make_cell.Tie as tie
 
-narrow32-requires : tie.Need-narrow32-requires
-narrow32-requires c κs = search needs
+mul-wide32 : tie.Need-mul-wide32
+mul-wide32 c = search needs
 
-row-start-requires : tie.Need-row-start-requires
-row-start-requires c κs = search needs
+mul-wide32-2 : tie.Need-mul-wide32-2
+mul-wide32-2 c = search needs
 
-row-length-requires : tie.Need-row-length-requires
-row-length-requires c κs = search needs
+slice-read-wide32 : tie.Need-slice-read-wide32
+slice-read-wide32 c = search needs
+
+wide32-requires : tie.Need-wide32-requires
+wide32-requires c κs = search needs
+
+mul-wide32-3 : tie.Need-mul-wide32-3
+mul-wide32-3 c = search needs
+
+add-wide32 : tie.Need-add-wide32
+add-wide32 c = search needs
+
+mul-wide32-4 : tie.Need-mul-wide32-4
+mul-wide32-4 c = search needs
+
+slice-read-wide32-2 : tie.Need-slice-read-wide32-2
+slice-read-wide32-2 c = search needs
+
+wide32-requires-2 : tie.Need-wide32-requires-2
+wide32-requires-2 c κs = search needs
 
 add-end : tie.Need-add-end
 add-end c = search needs
@@ -29,22 +46,15 @@ sub-mark-next c = search needs
 part-mark-next-start : tie.Need-part-mark-next-start
 part-mark-next-start c = search needs
 
--- after the row's two numbers are read
-abbrev Entry : tie.After-row-length → tie.Start
-Entry w = w .before .before .before .before .before .before .before .before .before .before
-
-same-row : (w : tie.After-row-length) → w .before .before .before .before .narrow32 .result ≡ Entry w .args .row
-same-row w = w .before .before .before .before .narrow32 .ensures .1 (search needs)
-
 part-mark-next-end : tie.Need-part-mark-next-end
 part-mark-next-end c =
-    let w = c .before in
-    let s = Entry w in
-    part-fits (s .args .rows .now) (s .args .pool .now) (s .args .p) (s .args .row) _ _ _ (s .pre .0 .row-below)
-    (same-row w)
-    (w .before .before .row-start .ensures .0)
-    (w .row-length .ensures .0)
-    (row-within (s .pre .0 .held))
+    let after-wide32 = c .before .before .before in
+    let start = after-wide32 .before .before .before .before .before .before .before in
+    let a = start .args in
+    part-fits (a .rows .now) (a .pool .now) (a .p) (a .row) _ _ (start .pre .0 .row-below)
+    (after-wide32 .wide32 .ensures .0)
+    (c .before .wide322 .ensures .0)
+    (row-within (start .pre .0 .held))
 
 mark-next-requires : tie.Need-mark-next-requires
 mark-next-requires c κs = search needs
@@ -68,14 +78,14 @@ returns : tie.Need-returns
 returns c =
     let after-place-marks = c .before .before .before .before .before .before .before .before in
     let after-mark-next = after-place-marks .before .before .before .before .before .before in
-    let w = after-mark-next .before .before .before .before in
-    let s = Entry w in
+    let after-wide322 = after-mark-next .before .before .before .before in
+    let after-wide32 = after-wide322 .before .before in
+    let s = after-wide32 .before .before .before .before .before .before .before in
     let a = s .args in
     cell-made (ruleIn (a .head) (a .edges .now)) (a .row) (a .input) (rowsIn (a .p .rows) (a .rows .now) (a .pool .now))
     (after-mark-next .mark-next .result) (after-place-marks .place-marks .result) _
-    (part-is (a .rows .now) (a .pool .now) (a .p) (a .row) _ _ _ (s .pre .0 .row-below) (same-row w)
-    (w .before .before .row-start .ensures .0)
-    (w .row-length .ensures .0))
+    (part-is (a .rows .now) (a .pool .now) (a .p) (a .row) _ _ (s .pre .0 .row-below) (after-wide32 .wide32 .ensures .0)
+    (after-wide322 .wide322 .ensures .0))
     (after-mark-next .mark-next .kept .1 .1 .1 .1 .1 .1 .0)
     (after-mark-next .mark-next .ensures)
     (after-place-marks .place-marks .ensures)
@@ -85,9 +95,15 @@ pub make-cell-spec : {M : Type 1} → statement M
 make-cell-spec =
     tie.close
     (tie.spec
-    narrow32-requires
-    row-start-requires
-    row-length-requires
+    mul-wide32
+    mul-wide32-2
+    slice-read-wide32
+    wide32-requires
+    mul-wide32-3
+    add-wide32
+    mul-wide32-4
+    slice-read-wide32-2
+    wide32-requires-2
     add-end
     mul-mark-next
     sub-mark-next
