@@ -2,7 +2,7 @@
 use mathlib.Core.Path.{_≡_, refl, sym, _∙_, ap}
 use mathlib.Core.Bool.{true, false}
 use mathlib.Core.List.{List, _∷_}
-use Prim.Native.Nat.{ℕ, zero, suc, _+_, _-_, _≤_, _<_}
+use Prim.Native.Nat.{ℕ, zero, suc, _+_, _-_, _*_, _≤_, _<_}
 use native.Mathlib.Omega.{arith}
 use native.Mathlib.Numerals.{add-one}
 use lib.ListN.{length, getD, take, drop, length-take, length-drop}
@@ -10,7 +10,7 @@ use lib.Seq.{ext-getD, getD-take, getD-drop}
 use borrow.Author.Tests.{lt-ltb, le-ltb}
 use Rattle.model.specs.Basics.{same}
 use Rattle.model.specs.Construction.{numberFrom, numberOf}
-use Rattle.model.specs.Tables.{rowStart, rowLength, codesAt}
+use Rattle.model.specs.Tables.{rowWidth, rowStart, rowLength, codesAt}
 use Rattle.model.proofs.Logic.{by-test, same-equal, same-self}
 use Rattle.construct.specs.declared.Found.the-variants.{At, Nothing}
 use Rattle.construct.specs.Rows.{rowsHeld, rowsIn, foundIn, Within}
@@ -29,6 +29,12 @@ other x y n = by-test (same x y) (λ e. absurd (n (same-equal x y e))) (λ e. e)
 number-there :
     (n : ℕ) (x y : List ℕ) (ys : List (List ℕ)) → (x ≡ y → ⊥) → numberFrom n x (y ∷ ys) ≡ numberFrom (suc n) x ys
 number-there n x y ys e = let h : same x y ≡ false = other x y e in cc
+
+-- a row that has a number lies in the row table
+pub row-inside :
+    {count row : ℕ} {rows pool : List ℕ} → Within count rows pool → row < count
+    → rowWidth * row + rowWidth ≤ length rows
+row-inside w h = omega (arith, w .rows-long)
 
 pub record Searching (count row : ℕ) (rows pool codes : List ℕ) : Type 0 where
   pub turns : row ≤ count

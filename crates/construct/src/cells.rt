@@ -12,10 +12,10 @@ ghost use Rattle.construct.specs.Cells.{AllFilled};
 use crate::Filled;
 use crate::Progress;
 use crate::marks::mark_next;
+use crate::rows::length_in;
 use crate::rows::place_marks;
+use crate::rows::start_in;
 use model::Head;
-use model::ROW_LENGTH;
-use model::ROW_WIDTH;
 use numbers::narrow32;
 use numbers::wide8;
 use numbers::wide32;
@@ -33,8 +33,7 @@ pub(crate) fn cell_of(row: usize, timer: bool) -> u32
     narrow32(2 * row)
 }
 
-// The cell of a row at a symbol and an interval; the row that it leads to is numbered if it is new. The row is known to
-// lie in its tables, so no place is tested.
+// The cell of a row at a symbol and an interval; the row that it leads to is numbered if it is new.
 pub(crate) fn make_cell(
     head: Head,
     edges: &[u16],
@@ -54,8 +53,8 @@ pub(crate) fn make_cell(
         (rowsIn (p .rows) (now (rows .entry)) (now (pool .entry))) (p .room) (now (marks .entry)) (now (marks .exit))
         (now (rows .exit)) (now (pool .exit)) r ⌝ }
 {
-    let start = wide32(rows[ROW_WIDTH * row]);
-    let end = start + wide32(rows[ROW_WIDTH * row + ROW_LENGTH]);
+    let start = start_in(rows, row);
+    let end = start + length_in(rows, row);
     let marked = mark_next(head, edges, links, scale, input, &pool[start..end], marks);
     let placed = place_marks(marks, marked.span, rows, pool, p);
     let progress = placed.progress;

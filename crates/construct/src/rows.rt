@@ -1,11 +1,11 @@
 // Rows, numbered by discovery: a new set is looked for among the rows already numbered, code by code.
 ghost use mathlib.Core.Path.{_≡_};
 ghost use mathlib.Core.List.{_∷_, _++_, []};
-ghost use Prim.Native.Nat.{_+_, _≤_};
+ghost use Prim.Native.Nat.{_+_, _*_, _^_, _≤_, _<_};
 ghost use lib.ListN.{length};
 ghost use Rattle.numbers.specs.Lent.{laid};
 ghost use Rattle.model.specs.Construction.{numberOf, withRow};
-ghost use Rattle.model.specs.Tables.{codesSay};
+ghost use Rattle.model.specs.Tables.{rowWidth, rowStart, rowLength, codesSay};
 ghost use Rattle.construct.specs.Marks.{codesIn, InSpan};
 ghost use Rattle.construct.specs.Rows.{rowsIn, foundIn, CodeSet, Within, Held, Numbered};
 ghost use Rattle.construct.specs.Rows.{MarksNumbered};
@@ -20,8 +20,24 @@ use numbers::clear32;
 use numbers::narrow32;
 use numbers::wide32;
 
-// The first row that holds exactly `codes`. A build spends most of its time here: the rows are known to lie in their
-// tables, so no place is tested.
+// Where the codes of a row start in the pool. A build spends most of its time in the search: its rows are known to lie in
+// their table, so no place is tested here, as `tables` does.
+pub(crate) fn start_in(rows: &[u32], row: usize) -> usize
+    requires { ⌜ rowWidth * row + rowWidth ≤ length (now rows) ⌝ }
+    ensures { λ r. ⌜ (r ≡ rowStart (now (rows .entry)) row) × (r < 2 ^ 32) ⌝ }
+{
+    wide32(rows[ROW_WIDTH * row])
+}
+
+// How many codes it has.
+pub(crate) fn length_in(rows: &[u32], row: usize) -> usize
+    requires { ⌜ rowWidth * row + rowWidth ≤ length (now rows) ⌝ }
+    ensures { λ r. ⌜ (r ≡ rowLength (now (rows .entry)) row) × (r < 2 ^ 32) ⌝ }
+{
+    wide32(rows[ROW_WIDTH * row + ROW_LENGTH])
+}
+
+// The first row that holds exactly `codes`.
 pub(crate) fn find_row(rows: &[u32], pool: &[u32], count: usize, codes: &[u32]) -> Found
     requires { ⌜ Within count (now rows) (now pool) ⌝ }
     ensures { λ r. ⌜ r ≡ foundIn (now (codes .entry)) (rowsIn count (now (rows .entry)) (now (pool .entry))) ⌝ }
@@ -31,9 +47,9 @@ pub(crate) fn find_row(rows: &[u32], pool: &[u32], count: usize, codes: &[u32]) 
         if count <= row {
             break Found::Nothing;
         }
-        let size = wide32(rows[ROW_WIDTH * row + ROW_LENGTH]);
+        let size = length_in(rows, row);
         if size == codes.len() {
-            let start = wide32(rows[ROW_WIDTH * row]);
+            let start = start_in(rows, row);
             let mut j: usize = 0;
             'codes: while j < size {
                 if pool[start + j] != codes[j] {

@@ -2,37 +2,28 @@
 use borrow.Author.Needs.{needs}
 use Rattle.model.specs.Layout.{ruleIn}
 use Rattle.construct.proofs.CellLaws.{part-fits, part-is, cell-made}
+use Rattle.construct.proofs.RowSearch.{row-inside}
 use Rattle.construct.proofs.RowTables.{row-within}
 use Rattle.construct.specs.Rows.{rowsIn}
 use Rattle.construct.proofs.cells.make_cell.Statement.{statement}
 use Rattle.construct.proofs.cells.make_cell.Tie as tie
 
-mul-wide32 : tie.Need-mul-wide32
-mul-wide32 c = search needs
+-- after the row's length is read, and where the function began
+abbrev Sized : Type 0
+Sized = tie.After-length-in
 
-mul-wide32-2 : tie.Need-mul-wide32-2
-mul-wide32-2 c = search needs
+abbrev Entry : Sized → tie.Start
+Entry w = w .before .before .before .before .before .before .before .before .before
 
-slice-read-wide32 : tie.Need-slice-read-wide32
-slice-read-wide32 c = search needs
+start-in-requires : tie.Need-start-in-requires
+start-in-requires c κs =
+    let s = c .before .before .before .before .before .before in
+    row-inside (row-within (s .pre .0 .held)) (s .pre .0 .row-below)
 
-wide32-requires : tie.Need-wide32-requires
-wide32-requires c κs = search needs
-
-mul-wide32-3 : tie.Need-mul-wide32-3
-mul-wide32-3 c = search needs
-
-add-wide32 : tie.Need-add-wide32
-add-wide32 c = search needs
-
-mul-wide32-4 : tie.Need-mul-wide32-4
-mul-wide32-4 c = search needs
-
-slice-read-wide32-2 : tie.Need-slice-read-wide32-2
-slice-read-wide32-2 c = search needs
-
-wide32-requires-2 : tie.Need-wide32-requires-2
-wide32-requires-2 c κs = search needs
+length-in-requires : tie.Need-length-in-requires
+length-in-requires c κs =
+    let s = c .before .before .before .before .before .before .before .before in
+    row-inside (row-within (s .pre .0 .held)) (s .pre .0 .row-below)
 
 add-end : tie.Need-add-end
 add-end c = search needs
@@ -48,13 +39,13 @@ part-mark-next-start c = search needs
 
 part-mark-next-end : tie.Need-part-mark-next-end
 part-mark-next-end c =
-    let after-wide32 = c .before .before .before in
-    let start = after-wide32 .before .before .before .before .before .before .before in
-    let a = start .args in
-    part-fits (a .rows .now) (a .pool .now) (a .p) (a .row) _ _ (start .pre .0 .row-below)
-    (after-wide32 .wide32 .ensures .0)
-    (c .before .wide322 .ensures .0)
-    (row-within (start .pre .0 .held))
+    let w = c .before in
+    let s = Entry w in
+    let a = s .args in
+    part-fits (a .rows .now) (a .pool .now) (a .p) (a .row) _ _ (s .pre .0 .row-below)
+    (w .before .before .start-in .ensures .0)
+    (w .length-in .ensures .0)
+    (row-within (s .pre .0 .held))
 
 mark-next-requires : tie.Need-mark-next-requires
 mark-next-requires c κs = search needs
@@ -78,14 +69,13 @@ returns : tie.Need-returns
 returns c =
     let after-place-marks = c .before .before .before .before .before .before .before .before in
     let after-mark-next = after-place-marks .before .before .before .before .before .before in
-    let after-wide322 = after-mark-next .before .before .before .before in
-    let after-wide32 = after-wide322 .before .before in
-    let s = after-wide32 .before .before .before .before .before .before .before in
+    let w = after-mark-next .before .before .before .before in
+    let s = Entry w in
     let a = s .args in
     cell-made (ruleIn (a .head) (a .edges .now)) (a .row) (a .input) (rowsIn (a .p .rows) (a .rows .now) (a .pool .now))
     (after-mark-next .mark-next .result) (after-place-marks .place-marks .result) _
-    (part-is (a .rows .now) (a .pool .now) (a .p) (a .row) _ _ (s .pre .0 .row-below) (after-wide32 .wide32 .ensures .0)
-    (after-wide322 .wide322 .ensures .0))
+    (part-is (a .rows .now) (a .pool .now) (a .p) (a .row) _ _ (s .pre .0 .row-below) (w .before .before .start-in .ensures .0)
+    (w .length-in .ensures .0))
     (after-mark-next .mark-next .kept .1 .1 .1 .1 .1 .1 .0)
     (after-mark-next .mark-next .ensures)
     (after-place-marks .place-marks .ensures)
@@ -95,15 +85,8 @@ pub make-cell-spec : {M : Type 1} → statement M
 make-cell-spec =
     tie.close
     (tie.spec
-    mul-wide32
-    mul-wide32-2
-    slice-read-wide32
-    wide32-requires
-    mul-wide32-3
-    add-wide32
-    mul-wide32-4
-    slice-read-wide32-2
-    wide32-requires-2
+    start-in-requires
+    length-in-requires
     add-end
     mul-mark-next
     sub-mark-next

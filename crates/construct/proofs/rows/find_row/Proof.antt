@@ -8,7 +8,7 @@ use borrow.Author.Count.{below-more}
 use borrow.Author.Needs.{needs, scaled-fits}
 use Rattle.model.specs.Tables.{codesAt}
 use Rattle.construct.proofs.RowSearch.{Searching, searching, search-next, search-found, search-ends, row-fits}
-use Rattle.construct.proofs.RowSearch.{row-is, row-differs, row-longer}
+use Rattle.construct.proofs.RowSearch.{row-inside, row-is, row-differs, row-longer}
 use Rattle.construct.proofs.rows.find_row.Statement.{statement}
 use Rattle.construct.proofs.rows.find_row.Tie as tie
 
@@ -27,57 +27,36 @@ abbrev μ-loop : tie.MeasureT-loop
 
 -- after a row's length is read, and after its start
 abbrev Sized : Type 0
-Sized = tie.After-wide32 Inv-codes μ-codes Inv-loop μ-loop
+Sized = tie.After-length-in Inv-codes μ-codes Inv-loop μ-loop
 
 abbrev Placed : Type 0
-Placed = tie.After-wide322 Inv-codes μ-codes Inv-loop μ-loop
+Placed = tie.After-start-in Inv-codes μ-codes Inv-loop μ-loop
 
 abbrev Entry : Sized → tie.Start Inv-codes μ-codes Inv-loop μ-loop
-Entry w = w .before .before .before .before .before .before .before
+Entry w = w .before .before .before .before .before .before
 
 abbrev Row : Sized → ℕ
-Row w = w .before .before .before .loop .row
+Row w = w .before .before .loop .row
 
 more : (w : Sized) → Row w < Entry w .args .count
-more w = w .before .before .if1 .left
+more w = w .before .if1 .left
 
 fits :
     (s : Placed)
-    → (let w = s .before .before .before in
-    s .wide322 .result + w .wide32 .result ≤ length (Entry w .args .pool .now))
+    → (let w = s .before .before in
+    s .start-in .result + w .length-in .result ≤ length (Entry w .args .pool .now))
 fits s =
-    let w = s .before .before .before in
-    row-fits (Entry w .args .codes .now) _ _ (Entry w .pre) (more w) (s .wide322 .ensures .0) (w .wide32 .ensures .0)
+    let w = s .before .before in
+    row-fits (Entry w .args .codes .now) _ _ (Entry w .pre) (more w) (s .start-in .ensures .0) (w .length-in .ensures .0)
 
 loop-holds : tie.Need-loop-holds Inv-codes μ-codes Inv-loop μ-loop
 loop-holds c = searching _ _ _ _
 
-mul-wide32 : tie.Need-mul-wide32 Inv-codes μ-codes Inv-loop μ-loop
-mul-wide32 c = search needs
+length-in-requires : tie.Need-length-in-requires Inv-codes μ-codes Inv-loop μ-loop
+length-in-requires c κs = row-inside (c .before .before .before .before .before .pre) (c .if1 .left)
 
-add-wide32 : tie.Need-add-wide32 Inv-codes μ-codes Inv-loop μ-loop
-add-wide32 c = search needs
-
-mul-wide32-2 : tie.Need-mul-wide32-2 Inv-codes μ-codes Inv-loop μ-loop
-mul-wide32-2 c = search needs
-
-shared-slice-read-wide32 : tie.Need-shared-slice-read-wide32 Inv-codes μ-codes Inv-loop μ-loop
-shared-slice-read-wide32 c = search needs
-
-wide32-requires : tie.Need-wide32-requires Inv-codes μ-codes Inv-loop μ-loop
-wide32-requires c κs = search needs
-
-mul-wide32-3 : tie.Need-mul-wide32-3 Inv-codes μ-codes Inv-loop μ-loop
-mul-wide32-3 c = search needs
-
-mul-wide32-4 : tie.Need-mul-wide32-4 Inv-codes μ-codes Inv-loop μ-loop
-mul-wide32-4 c = search needs
-
-shared-slice-read-wide32-2 : tie.Need-shared-slice-read-wide32-2 Inv-codes μ-codes Inv-loop μ-loop
-shared-slice-read-wide32-2 c = search needs
-
-wide32-requires-2 : tie.Need-wide32-requires-2 Inv-codes μ-codes Inv-loop μ-loop
-wide32-requires-2 c κs = search needs
+start-in-requires : tie.Need-start-in-requires Inv-codes μ-codes Inv-loop μ-loop
+start-in-requires c κs = row-inside (Entry (c .before) .pre) (more (c .before))
 
 codes-holds : tie.Need-codes-holds Inv-codes μ-codes Inv-loop μ-loop
 codes-holds c = search needs
@@ -88,7 +67,7 @@ add-if3 c = omega (arith, fits (c .before .before))
 mul-if3 : tie.Need-mul-if3 Inv-codes μ-codes Inv-loop μ-loop
 mul-if3 c =
     let s = c .before .before in
-    scaled-fits _ (length (Entry (s .before .before .before) .args .pool .now)) 4 (omega (arith, fits s)) (search needs)
+    scaled-fits _ (length (Entry (s .before .before) .args .pool .now)) 4 (omega (arith, fits s)) (search needs)
 
 shared-slice-read-if3 : tie.Need-shared-slice-read-if3 Inv-codes μ-codes Inv-loop μ-loop
 shared-slice-read-if3 c = omega (arith, fits (c .before .before .before))
@@ -125,16 +104,16 @@ other c e =
     let codes = Entry w .args .codes .now in
     ⊎-elim
     (λ v.
-    ⊎-elim (λ u. v .5 .left (omega (arith, u .left, v .3 .inv .0)))
+    ⊎-elim (λ u. v .4 .left (omega (arith, u .left, v .2 .inv .0)))
     (λ u.
-    row-differs codes _ _ (Entry w .pre) (more w) (v .2 .ensures .0) (w .wide32 .ensures .0) (v .3 .j)
+    row-differs codes _ _ (Entry w .pre) (more w) (v .1 .ensures .0) (w .length-in .ensures .0) (v .2 .j)
     (u .0 .taken) (u .3 .taken) e)
-    (v .4 .came))
-    (λ v. row-longer codes _ _ (Entry w .pre) (more w) refl (w .wide32 .ensures .0) (v .left) e)
+    (v .3 .came))
+    (λ v. row-longer codes _ _ (Entry w .pre) (more w) refl (w .length-in .ensures .0) (v .left) e)
     (c .if2 .came)
 
 loop-again : tie.Need-loop-again Inv-codes μ-codes Inv-loop μ-loop
-loop-again c = let w = c .before in search-next (w .before .before .before .loop .inv) (more w) (other c)
+loop-again c = let w = c .before in search-next (w .before .before .loop .inv) (more w) (other c)
 
 returns : tie.Need-returns Inv-codes μ-codes Inv-loop μ-loop
 returns c = search-ends (c .before .loop .inv) (c .if1 .taken)
@@ -143,12 +122,12 @@ returns-2 : tie.Need-returns-2 Inv-codes μ-codes Inv-loop μ-loop
 returns-2 c =
     let at-codes = c .before .before in
     let s = at-codes .before in
-    let at-if2 = s .before .before in
+    let at-if2 = s .before in
     let w = at-if2 .before in
-    let e : at-codes .codes .j ≡ w .wide32 .result = c .if4 .taken in
-    search-found (w .before .before .before .loop .inv) (more w)
-    (row-is (Entry w .args .codes .now) _ _ (Entry w .pre) (more w) (s .wide322 .ensures .0)
-    (w .wide32 .ensures .0)
+    let e : at-codes .codes .j ≡ w .length-in .result = c .if4 .taken in
+    search-found (w .before .before .loop .inv) (more w)
+    (row-is (Entry w .args .codes .now) _ _ (Entry w .pre) (more w) (s .start-in .ensures .0)
+    (w .length-in .ensures .0)
     (at-if2 .if2 .taken)
     (rw e at (at-codes .codes .inv .1)))
 
@@ -161,15 +140,8 @@ find-row-spec =
     Inv-loop
     μ-loop
     loop-holds
-    mul-wide32
-    add-wide32
-    mul-wide32-2
-    shared-slice-read-wide32
-    wide32-requires
-    mul-wide32-3
-    mul-wide32-4
-    shared-slice-read-wide32-2
-    wide32-requires-2
+    length-in-requires
+    start-in-requires
     codes-holds
     add-if3
     mul-if3
