@@ -2,14 +2,14 @@
 use mathlib.Core.Path.{_≡_, sym, _∙_, ap}
 use mathlib.Core.Bool.{true}
 use mathlib.Core.List.{List, [], _∷_, _++_}
-use Prim.Native.Nat.{ℕ, _+_, _-_, _*_, _/_, _^_, _≤_, _<_}
+use Prim.Native.Nat.{ℕ, _+_, _*_, _^_, _≤_, _<_}
 use native.Mathlib.Omega.{arith}
 use lib.Dec.{eqb}
-use lib.ListN.{length, drop}
+use lib.ListN.{length, take, drop}
 use lib.Pow.{pow-mono}
 use Rattle.model.specs.declared.Head.{Head}
-use Rattle.model.specs.Basics.{pick, filled, maskOf}
-use Rattle.model.specs.Rules.{Edge, Rule, mostAtoms, mostLocations, rising}
+use Rattle.model.specs.Basics.{pick, zeros, filled, maskOf}
+use Rattle.model.specs.Rules.{Edge, Rule, mostEdges, mostLocations, rising}
 use Rattle.model.specs.Files.{pastLast, numberAt, recordHead, edgeFrom, noRule, withRecord}
 use Rattle.model.specs.Layout.{edgeWidth, edgesNumbers, edgeTable}
 use Rattle.model.proofs.Valid.{sizes-of}
@@ -17,14 +17,12 @@ use Rattle.model.proofs.ValidParts.{rising-last}
 use Rattle.model.proofs.MaskSets.{mask-last, mask-below}
 use Rattle.model.proofs.EdgesWritten.{edges-numbers-length}
 use Rattle.model.proofs.Readable.{table-length}
-use Rattle.model.proofs.FileRecords.{Location-allowed, Ceiling-allowed, Edge-allowed, Allowed, sizes, initial, final}
+use Rattle.model.proofs.FileRecords.{Location-allowed, Ceiling-allowed, Allowed, sizes, initial, final}
 use Rattle.model.proofs.FileRecords.{ceiling, edge}
-use Rattle.model.proofs.FileSoFar.{So-far, sizes-so-far, record-so-far, atoms-from-length}
+use Rattle.model.proofs.FileSoFar.{So-far, sizes-so-far, record-so-far}
 use Rattle.reader.specs.declared.Cursor.{Cursor}
-use Rattle.reader.specs.Bodies.{numberBytes, fieldsBody, atomBody}
 use Rattle.reader.specs.State.{tableWith, Body, Room, Takes, Stage, none, some, State}
-use Rattle.reader.proofs.BodyNumbers.{numbers-length}
-use Rattle.reader.proofs.FaultLaws.{body-edge-is}
+use Rattle.reader.proofs.Stored.{atoms-few}
 use Rattle.reader.proofs.Tables.{next-zero, table-more}
 
 -- which kind it is
@@ -63,13 +61,6 @@ module _ {last : ℕ} {r : Rule} {kind n : ℕ} {body : List ℕ} where
   is-ceiling (final e a) k = absurd (omega arith)
   is-ceiling (ceiling e a) k = a
   is-ceiling (edge e a) k = absurd (omega arith)
-
-  is-edge : Allowed last r kind n body → kind ≡ 5 → Edge-allowed last r n body
-  is-edge (sizes e a) k = absurd (omega arith)
-  is-edge (initial e a) k = absurd (omega arith)
-  is-edge (final e a) k = absurd (omega arith)
-  is-edge (ceiling e a) k = absurd (omega arith)
-  is-edge (edge e a) k = a
 
 -- nothing is read yet where no sizes were seen
 unseen : (last : ℕ) (r : Rule) → Stage last r → r .locations ≡ 0 → r ≡ noRule
@@ -120,13 +111,14 @@ module _ {r : Rule} {c : Cursor} {t : List ℕ} (state : State r c t) {kind n : 
   locations-most h =
       sizes-of (r .locations) (r .symbols) (r .clocks) (seen (c .last) r (state .stage) h .parts .sizes) .locations-most
 
-  pub room-for : {v : List ℕ} → Body kind n body v → c .at + (recordHead + n) < 2 ^ 64 → Room c kind n body v t
-  room-for {v} b next = record {
+  pub room-for :
+      (kind ≡ 5 → ⊥) → Body kind body → c .at + (recordHead + n) < 2 ^ 64 → Room c kind n body
+  room-for not-5 b next = record {
     kind-least = kind-least allowed;
-    kind-most = kind-most allowed;
+    kind-most = omega (arith, kind-most allowed, not-5);
     next = next;
-    number = omega (arith, b .least, b .whole);
-    sizes = λ k. omega (arith, b .sizes k, b .whole);
+    number = b .number;
+    sizes = b .sizes;
     initial = λ k.
         let a = is-initial allowed k in
         location-fits (r .locations) (r .initial) (numberAt 0 body) (c .head .starts) (locations-most (a .sizes-seen))
@@ -138,20 +130,16 @@ module _ {r : Rule} {c : Cursor} {t : List ℕ} (state : State r c t) {kind n : 
         (seen (c .last) r (state .stage) (a .sizes-seen) .parts .final-rises) (a .rises) (a .in-range)
         (ap (λ (h : Head). h .ends) (state .holds .head-is));
     ceiling = λ k. is-ceiling allowed k .in-range;
-    edge = λ k.
-        let a = is-edge allowed k in
-        let count-is : c .head .count ≡ length (r .edges) = ap (λ (h : Head). h .count) (state .holds .head-is) in
-        let wide = numbers-wide (c .last) r (state .stage) ∙ ap (λ (m : ℕ). edgeWidth * m) (sym count-is) in
-        let counted = ap length (b .numbers-are k) ∙ numbers-length (n / numberBytes) body in
-        record {
-          least = omega (arith, counted, a .length-least);
-          most = omega (arith, counted, a .length-most);
-          few = omega (arith, a .room);
-          long = state .long;
-          zero = next-zero r t (c .head .count) wide (state .table-is) (omega (arith, a .room, state .long));
-        };
-    edge-is = body-edge-is b;
   }
+
+-- an edge's places are zero before it is stored
+pub edge-zero :
+    {r : Rule} {c : Cursor} {t : List ℕ} → State r c t → length (r .edges) < mostEdges
+    → (c .head .count < mostEdges) × (take edgeWidth (drop (edgeWidth * c .head .count) t) ≡ zeros edgeWidth)
+edge-zero {r} {c} {t} state few =
+    let count-is : c .head .count ≡ length (r .edges) = ap (λ (h : Head). h .count) (state .holds .head-is) in
+    let wide = numbers-wide (c .last) r (state .stage) ∙ ap (λ (m : ℕ). edgeWidth * m) (sym count-is) in
+    (omega arith, next-zero r t (c .head .count) wide (state .table-is) (omega (arith, state .long)))
 
 -- the table after a record
 table-after :
@@ -170,8 +158,7 @@ table-after last r count t t′ kind n body s c is q (final e a) = rw e ((rw e a
 table-after last r count t t′ kind n body s c is q (ceiling e a) = rw e ((rw e at q) ∙ is)
 table-after last r count t t′ kind n body s c is q (edge e a) =
     let wide = numbers-wide last r s ∙ ap (λ (m : ℕ). edgeWidth * m) (sym c) in
-    let few : length (edgeFrom n body .atoms) ≤ mostAtoms =
-    omega (arith, atoms-from-length ((n - fieldsBody) / atomBody) (drop fieldsBody body), a .length-most) in
+    let few = atoms-few n body (a .length-most) in
     rw e ((rw e at q) ∙ table-more r t count wide is (edgeFrom n body) few)
 
 -- cursor and table after a record

@@ -2,23 +2,21 @@
 use mathlib.Core.Path.{_≡_, refl, _∙_, ap, ap₂}
 use mathlib.Core.Bool.{Bool, true, false, _||_, not}
 use mathlib.Core.List.{List}
-use Prim.Native.Nat.{ℕ, _-_, _/_, _≤_, _<_}
+use Prim.Native.Nat.{ℕ, _+_, _-_, _*_, _/_, _≤_, _<_}
 use native.Mathlib.Omega.{arith}
 use lib.Dec.{eqb, ltb, leb}
-use lib.ListN.{length, getD, take, drop}
+use lib.ListN.{length, getD, take, drop, length-drop}
 use borrow.Author.Tests.{lt-ltb, le-ltb, le-leb, lt-leb, ne-eqb}
 use Rattle.model.specs.declared.Head.{Head}
-use Rattle.model.specs.Rules.{Edge, Rule, mostConstant, edgeOk, atomsOk, hasEqual, integerReset}
-use Rattle.model.specs.Files.{numberAt, edgeBody, bodyOk, edgeFrom, outOfOrder, oneTooMany, badSizes}
-use Rattle.model.specs.Files.{outOfRange, notPinned}
-use Rattle.model.specs.Layout.{atomWidth, atomsIn, headOf}
+use Rattle.model.specs.Rules.{Atom, Rule, mostConstant, edgeOk, atomsOk, hasEqual, integerReset}
+use Rattle.model.specs.Files.{numberAt, edgeBody, bodyOk, outOfOrder, oneTooMany, badSizes, outOfRange}
+use Rattle.model.specs.Layout.{edgeFields, atomWidth, atomsIn, edgeIn, headOf}
 use Rattle.numbers.proofs.Answers.{failed, passed}
-use Rattle.numbers.proofs.Parts.{part-rest}
 use Rattle.edges.specs.Checks.{fieldsOk}
+use Rattle.edges.proofs.EdgeChecks.{atoms-part}
 use Rattle.reader.specs.declared.Cursor.{Cursor}
-use Rattle.reader.specs.Bodies.{numberBytes, sizesBody, bodyFields, edgeSpelt}
-use Rattle.reader.specs.State.{Holds, numbered, bodyRefusal, Body}
-use Rattle.reader.proofs.BodyNumbers.{numbers-length, edge-spelt}
+use Rattle.reader.specs.Bodies.{numberBytes, sizesBody}
+use Rattle.reader.specs.State.{Holds, orderFault, edgeFault, Standing}
 
 or-none : (a : Bool) → a ≡ (a || false)
 or-none true = refl
@@ -83,20 +81,25 @@ module _ (c : Cursor) (r : Rule) (h : Holds r c) (kind : ℕ) (body : List ℕ) 
         order-other not-2 not-3 not-4 =
             rw (ne-eqb kind 1 other, seen, rises, ne-eqb kind 2 not-2, ne-eqb kind 3 not-3, ne-eqb kind 4 not-4)
 
--- the edge that a body's numbers spell
-pub body-edge-is :
-    {kind n : ℕ} {body v : List ℕ} → Body kind n body v → kind ≡ 5 → edgeSpelt v ≡ edgeFrom n body
-body-edge-is {kind} {n} {body} b e = ap edgeSpelt (b .numbers-are e) ∙ edge-spelt n body (b .edge-least e)
+-- 3 to 5 in their order
+module _ (last : ℕ) (r : Rule) (kind : ℕ) (body : List ℕ) where
+  pub order-3 : outOfOrder last r kind body ≡ true → _≡_ {A = ℕ} 3 (orderFault last r kind body)
+  unfolding orderFault
+  order-3 a = rw a
 
-pub body-fields : {kind n : ℕ} {body v : List ℕ} → Body kind n body v → kind ≡ 5 → bodyFields ≤ length v
-body-fields {kind} {n} {body} b e =
-    omega (arith, ap length (b .numbers-are e), numbers-length (n / numberBytes) body, b .edge-least e)
+  module _ (a : outOfOrder last r kind body ≡ false) where
+    pub order-4 : oneTooMany r kind ≡ true → _≡_ {A = ℕ} 4 (orderFault last r kind body)
+    unfolding orderFault
+    order-4 b = rw (a, b)
 
--- 7: pinned resets
-pub pinned-is :
-    {kind n : ℕ} {body v : List ℕ} → Body kind n body v → kind ≡ 5 → {x : Bool} → x ≡ integerReset (edgeSpelt v)
-    → not x ≡ notPinned kind n body
-pinned-is b e q = rw e (ap not q ∙ ap (λ (y : Edge). not (integerReset y)) (body-edge-is b e))
+    module _ (b : oneTooMany r kind ≡ false) where
+      pub order-5 : badSizes kind body ≡ true → _≡_ {A = ℕ} 5 (orderFault last r kind body)
+      unfolding orderFault
+      order-5 d = rw (a, b, d)
+
+      pub order-fine : badSizes kind body ≡ false → _≡_ {A = ℕ} 0 (orderFault last r kind body)
+      unfolding orderFault
+      order-fine d = rw (a, b, d)
 
 -- 6: the ranges of a record's numbers
 module _ (h : Head) (r : Rule) (h-is : h ≡ headOf r) (kind n : ℕ) (body : List ℕ) where
@@ -117,11 +120,6 @@ module _ (h : Head) (r : Rule) (h-is : h ≡ headOf r) (kind n : ℕ) (body : Li
   pub range-ceiling : (x : ℕ) → kind ≡ 4 → x ≡ numberAt 0 body → ltb mostConstant x ≡ outOfRange r kind n body
   range-ceiling x e x-is = rw (e, x-is) (or-none _)
 
-  pub range-edge :
-      {x : Bool} {v : List ℕ} → Body kind n body v → kind ≡ 5 → x ≡ edgeOk r (edgeSpelt v)
-      → not x ≡ outOfRange r kind n body
-  range-edge b e q = rw e (ap not q ∙ ap (λ (y : Edge). not (edgeOk r y)) (body-edge-is b e))
-
   module _ (not-4 : kind ≡ 4 → ⊥) (not-5 : kind ≡ 5 → ⊥) where
     pub range-low : kind < 2 → false ≡ outOfRange r kind n body
     range-low a = rw (lt-leb 2 kind a, ne-eqb kind 4 not-4, ne-eqb kind 5 not-5)
@@ -129,56 +127,54 @@ module _ (h : Head) (r : Rule) (h-is : h ≡ headOf r) (kind n : ℕ) (body : Li
     pub range-high : 2 ≤ kind → 3 < kind → false ≡ outOfRange r kind n body
     range-high a b = rw (le-leb 2 kind a, lt-leb kind 3 b, ne-eqb kind 4 not-4, ne-eqb kind 5 not-5)
 
--- an edge's numbers, by its checks
-module _ (h : Head) (r : Rule) (h-is : h ≡ headOf r) (v : List ℕ) {x : Bool} (fields : x ≡ fieldsOk h v) where
-  fields-known : x ≡ fieldsOk (headOf r) v
-  fields-known = fields ∙ ap (λ (y : Head). fieldsOk y v) h-is
+-- 6 and 7 of an edge at its place: its fields, its atoms, its resets
+module _
+    (h : Head) (r : Rule) (h-is : h ≡ headOf r) {v : List ℕ} (standing : Standing v) {x : Bool}
+    (fields : x ≡ fieldsOk h v)
+  where
+    fields-known : x ≡ fieldsOk (headOf r) v
+    fields-known = fields ∙ ap (λ (y : Head). fieldsOk y v) h-is
 
-  pub edge-fields : not x ≡ true → false ≡ edgeOk r (edgeSpelt v)
-  edge-fields q = rw (failed fields-known q)
+    pub edge-fields : not x ≡ true → _≡_ {A = ℕ} 6 (edgeFault r (edgeIn v))
+    unfolding edgeFault
+    edge-fields q = rw (failed fields-known q)
 
-  pub edge-atoms :
-      not x ≡ false → {y : Bool} (k : ℕ) → k ≡ h .clocks
-      → (let part = take (length v - bodyFields) (drop bodyFields v) in
-      y ≡ atomsOk k (atomsIn (length part / atomWidth) part))
-      → y ≡ edgeOk r (edgeSpelt v)
-  edge-atoms q k k-is e =
-      let clocks : k ≡ r .clocks = k-is ∙ ap (λ (y : Head). y .clocks) h-is in
-      rw (passed fields-known q) (e ∙ rw (clocks, part-rest bodyFields v))
+    module _ (fields-fine : not x ≡ false) (m : ℕ) (m-is : m ≡ getD v 4 0) where
+      abbrev part : List ℕ
+      part = take (edgeFields + atomWidth * m - edgeFields) (drop edgeFields v)
 
-pub edge-pins :
-    (v : List ℕ) {x : Bool} (m : ℕ) → m ≡ getD v 3 0
-    → (let part = take (length v - bodyFields) (drop bodyFields v) in
-    x ≡ (eqb m 0 || hasEqual (atomsIn (length part / atomWidth) part)))
-    → x ≡ integerReset (edgeSpelt v)
-edge-pins v m m-is e = e ∙ rw (m-is, part-rest bodyFields v)
+      part-is : atomsIn (length part / atomWidth) part ≡ edgeIn v .atoms
+      part-is =
+          let n : edgeFields + atomWidth * m - edgeFields ≡ atomWidth * m = omega arith in
+          let fits : atomWidth * m ≤ length (drop edgeFields v) =
+          omega (arith, length-drop edgeFields v, standing .wide, standing .few) in
+          rw n
+          (atoms-part m (drop edgeFields v) fits ∙ ap (λ (j : ℕ). atomsIn j (drop edgeFields v)) m-is)
 
--- the faults in order
-module _ (p last : ℕ) (r : Rule) (kind n : ℕ) (body : List ℕ) where
-  pub body-3 : outOfOrder last r kind body ≡ true → bodyRefusal p last r kind n body ≡ numbered 3 p
-  unfolding bodyRefusal
-  body-3 a = rw a
+      module _
+          (k : ℕ) (k-is : k ≡ h .clocks) {y : Bool} (atoms : y ≡ atomsOk k (atomsIn (length part / atomWidth) part))
+        where
+          ok-known : y ≡ edgeOk r (edgeIn v)
+          ok-known =
+              let clocks : k ≡ r .clocks = k-is ∙ ap (λ (y : Head). y .clocks) h-is in
+              rw (passed fields-known fields-fine) (atoms ∙ ap₂ atomsOk clocks part-is)
 
-  module _ (a : outOfOrder last r kind body ≡ false) where
-    pub body-4 : oneTooMany r kind ≡ true → bodyRefusal p last r kind n body ≡ numbered 4 p
-    unfolding bodyRefusal
-    body-4 b = rw (a, b)
+          pub edge-atoms : not y ≡ true → _≡_ {A = ℕ} 6 (edgeFault r (edgeIn v))
+          unfolding edgeFault
+          edge-atoms q = rw (failed ok-known q)
 
-    module _ (b : oneTooMany r kind ≡ false) where
-      pub body-5 : badSizes kind body ≡ true → bodyRefusal p last r kind n body ≡ numbered 5 p
-      unfolding bodyRefusal
-      body-5 d = rw (a, b, d)
+          module _
+              (atoms-fine : not y ≡ false) (resets : ℕ) (resets-is : resets ≡ getD v 3 0) {z : Bool}
+              (pins : z ≡ (eqb resets 0 || hasEqual (atomsIn (length part / atomWidth) part)))
+            where
+              pins-known : z ≡ integerReset (edgeIn v)
+              pins-known =
+                  pins ∙ ap₂ (λ (j : ℕ) (l : List Atom). eqb j 0 || hasEqual l) resets-is part-is
 
-      module _ (d : badSizes kind body ≡ false) where
-        pub body-6 : outOfRange r kind n body ≡ true → bodyRefusal p last r kind n body ≡ numbered 6 p
-        unfolding bodyRefusal
-        body-6 e = rw (a, b, d, e)
+              pub edge-pins : not z ≡ true → _≡_ {A = ℕ} 7 (edgeFault r (edgeIn v))
+              unfolding edgeFault
+              edge-pins q = rw (passed ok-known atoms-fine, failed pins-known q)
 
-        module _ (e : outOfRange r kind n body ≡ false) where
-          pub body-7 : notPinned kind n body ≡ true → bodyRefusal p last r kind n body ≡ numbered 7 p
-          unfolding bodyRefusal
-          body-7 f = rw (a, b, d, e, f)
-
-          pub body-fine : notPinned kind n body ≡ false → bodyRefusal p last r kind n body ≡ numbered 0 p
-          unfolding bodyRefusal
-          body-fine f = rw (a, b, d, e, f)
+              pub edge-fine : not z ≡ false → _≡_ {A = ℕ} 0 (edgeFault r (edgeIn v))
+              unfolding edgeFault
+              edge-fine q = rw (passed ok-known atoms-fine, passed pins-known q)

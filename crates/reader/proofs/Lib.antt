@@ -1,5 +1,5 @@
+pub mod Stored
 pub mod FaultLaws
-pub mod BodyNumbers
 pub mod Taken
 pub mod Tables
 pub mod Allowed

@@ -1,31 +1,34 @@
 -- One step of the reading: the record at the cursor is refused, or taken, as the definition has it.
-use mathlib.Core.Path.{_≡_, sym, _∙_, ap}
+use mathlib.Core.Path.{_≡_, refl, sym, _∙_, ap}
 use mathlib.Core.Bool.{Bool, true, false, not}
 use mathlib.Core.List.{List}
-use Prim.Native.Nat.{ℕ, _+_, _-_, _*_, _/_, _%_, _^_, _≤_, _<_}
+use Prim.Native.Nat.{ℕ, _+_, _-_, _%_, _^_, _≤_, _<_}
 use native.Mathlib.Omega.{arith}
 use lib.Dec.{eqb, ltb}
 use lib.ListN.{length, take, drop, length-drop}
-use borrow.Author.Tests.{ltb-false, eqb-true, ne-eqb}
-use Rattle.model.specs.Basics.{within, Refusal}
-use Rattle.model.specs.Rules.{Rule}
+use borrow.Author.Tests.{ltb-false, leb-false, eqb-true, ne-eqb}
+use Rattle.model.specs.Basics.{pick, within, Refusal, refuse, _⨾_}
+use Rattle.model.specs.Rules.{Rule, mostEdges, edgeOk, integerReset}
 use Rattle.model.specs.Files.{recordHead, bodyLength, kindOf, bodyOf, edgeBody, bodyOk, cutShort, recordRefusal}
+use Rattle.model.specs.Files.{outOfOrder, oneTooMany, badSizes, outOfRange, notPinned, edgeFrom}
 use Rattle.model.proofs.Logic.{by-test, and-left, and-right, neither-right, within-least, within-most}
-use Rattle.model.proofs.Bytes.{numbersOf}
 use Rattle.model.proofs.FileRecords.{Allowed}
 use Rattle.model.proofs.FileChecks.{record-allowed}
 use Rattle.numbers.proofs.Answers.{failed, passed}
 use Rattle.numbers.proofs.Parts.{part-rest}
 use Rattle.reader.specs.declared.Cursor.{Cursor}
-use Rattle.reader.specs.Bodies.{numberBytes, sizesBody, fieldsBody, atomBody, mostBody, bodyNumbers}
-use Rattle.reader.specs.State.{numbered, bodyRefusal, Body, Room, Takes, State, Goes-on, Stops}
-use Rattle.reader.proofs.Allowed.{room-for, state-after}
+use Rattle.reader.specs.declared.Step.{Step}
+use Rattle.reader.specs.declared.Step.the-variants.{Next, Refused}
+use Rattle.reader.specs.Bodies.{numberBytes, sizesBody, fieldsBody, atomBody, mostBody}
+use Rattle.reader.specs.State.{numbered, bodyRefusal, orderFault, edgeFault, Body, Room, Takes, EdgeRoom}
+use Rattle.reader.specs.State.{EdgeIs, State, Goes-on, Stops, StepIs}
+use Rattle.reader.proofs.Allowed.{room-for, edge-zero, state-after}
 
 -- the file from the record on, and its body, as the code has them
 abbrev pub restOf : List ℕ → ℕ → List ℕ
 restOf file at = take (length file - at) (drop at file)
 
-abbrev pub bodyIn : List ℕ → ℕ → List ℕ
+abbrev bodyIn : List ℕ → ℕ → List ℕ
 bodyIn file at = take (length (restOf file at) - recordHead) (drop recordHead (restOf file at))
 
 rest-is : (file : List ℕ) (at : ℕ) → restOf file at ≡ drop at file
@@ -57,23 +60,63 @@ body-least kind n h =
     (λ a. by-test (within 2 4 kind) (λ b. omega (arith, eqb-true n numberBytes (rw (a, b) at h)))
     (λ b. omega (arith, edge-least n (and-right (eqb kind 5) (edgeBody n) (rw (a, b) at h)))))
 
-pub body-of :
-    (kind n : ℕ) (body v : List ℕ) → bodyOk kind n ≡ true → n ≤ length body
-    → (kind ≡ 5 → v ≡ numbersOf (n / numberBytes) body)
-    → Body kind n body v
-body-of kind n body v h whole v-is = record {
-  whole = whole;
-  least = body-least kind n h;
-  sizes = λ k. eqb-true n sizesBody (rw k at h);
-  edge-least = λ k. edge-least n (rw k at h);
-  numbers-are = v-is;
-}
+-- 3 to 5 as the code has them: the first refuses, or none does
+first-refuses :
+    (a b d : Bool) (p f : ℕ) (g : Refusal) → f ≡ pick a 3 (pick b 4 (pick d 5 0)) → (f ≡ 0 → ⊥)
+    → (refuse a 3 p ⨾ refuse b 4 p ⨾ refuse d 5 p ⨾ g) ≡ numbered f p
+first-refuses true b d p f g e z = rw e
+first-refuses false true d p f g e z = rw e
+first-refuses false false true p f g e z = rw e
+first-refuses false false false p f g e z = absurd (z e)
 
-body-most : (kind n : ℕ) → bodyOk kind n ≡ true → n ≤ mostBody
-body-most kind n h =
-    by-test (eqb kind 1) (λ a. omega (arith, eqb-true n sizesBody (rw a at h)))
-    (λ a. by-test (within 2 4 kind) (λ b. omega (arith, eqb-true n numberBytes (rw (a, b) at h)))
-    (λ b. omega (arith, edge-most n (and-right (eqb kind 5) (edgeBody n) (rw (a, b) at h)))))
+none-refuses :
+    (a b d : Bool) → _≡_ {A = ℕ} 0 (pick a 3 (pick b 4 (pick d 5 0)))
+    → (a ≡ false) × (b ≡ false) × (d ≡ false)
+none-refuses true b d e = absurd (omega arith)
+none-refuses false true d e = absurd (omega arith)
+none-refuses false false true e = absurd (omega arith)
+none-refuses false false false e = (refl, refl, refl)
+
+-- 6 and 7 of an edge, 6 of another record
+edge-refuses :
+    (a b : Bool) (p : ℕ) → (refuse (not a) 6 p ⨾ refuse (not b) 7 p) ≡ numbered (pick a (pick b 0 7) 6) p
+edge-refuses true true p = refl
+edge-refuses true false p = refl
+edge-refuses false b p = refl
+
+other-refuses : (a b : Bool) (p : ℕ) → b ≡ false → (refuse a 6 p ⨾ refuse b 7 p) ≡ refuse a 6 p
+other-refuses true b p e = refl
+other-refuses false b p e = rw e
+
+module _ (p last : ℕ) (r : Rule) (kind n : ℕ) (body : List ℕ) where
+  order-stops :
+      (f : ℕ) → f ≡ orderFault last r kind body → (f ≡ 0 → ⊥) → bodyRefusal p last r kind n body ≡ numbered f p
+  unfolding bodyRefusal orderFault
+  order-stops f e z =
+      first-refuses (outOfOrder last r kind body) (oneTooMany r kind) (badSizes kind body) p f _ e z
+
+  module _ (fine : 0 ≡ orderFault last r kind body) where
+    order-passes :
+        (outOfOrder last r kind body ≡ false) × (oneTooMany r kind ≡ false) × (badSizes kind body ≡ false)
+    unfolding orderFault
+    order-passes = none-refuses (outOfOrder last r kind body) (oneTooMany r kind) (badSizes kind body) fine
+
+    later-refuses :
+        bodyRefusal p last r kind n body ≡ (refuse (outOfRange r kind n body) 6 p ⨾ refuse (notPinned kind n body) 7 p)
+    unfolding bodyRefusal
+    later-refuses = rw (order-passes .0, order-passes .1, order-passes .2)
+
+    edge-known : kind ≡ 5 → bodyRefusal p last r kind n body ≡ numbered (edgeFault r (edgeFrom n body)) p
+    unfolding edgeFault
+    edge-known k =
+        later-refuses ∙ rw k (edge-refuses (edgeOk r (edgeFrom n body)) (integerReset (edgeFrom n body)) p)
+
+    other-known : (kind ≡ 5 → ⊥) → bodyRefusal p last r kind n body ≡ refuse (outOfRange r kind n body) 6 p
+    other-known k =
+        later-refuses ∙ other-refuses (outOfRange r kind n body) (notPinned kind n body) p (rw (ne-eqb kind 5 k))
+
+    edges-few : kind ≡ 5 → length (r .edges) < mostEdges
+    edges-few k = leb-false mostEdges (length (r .edges)) (rw k at (order-passes .1))
 
 -- A record that is whole and whose body has a length of its kind: size and kind are as the code read them.
 pub record Whole (file : List ℕ) (c : Cursor) (size kind : ℕ) : Type 0 where
@@ -127,60 +170,104 @@ module _ {file : List ℕ} {c : Cursor} {size kind : ℕ} (whole : Whole file c 
       let rest : List ℕ = restOf file (c .at) in
       rw (part-rest recordHead rest, length-drop recordHead rest) (omega (arith, whole .long))
 
-  -- its numbers fit the array, and stand in the file
-  pub numbers-fit :
-      (count : ℕ) → count ≤ size / numberBytes
-      → (count ≤ bodyNumbers) × (numberBytes * count ≤ length (bodyIn file (c .at)))
-  numbers-fit count h = (omega (arith, body-most kind size (whole .ok)), omega (arith, body-whole))
+  abbrev body : List ℕ
+  body = bodyIn file (c .at)
 
-  pub body-known :
-      {v : List ℕ} → (kind ≡ 5 → v ≡ numbersOf (size / numberBytes) (bodyIn file (c .at)))
-      → Body kind size (bodyIn file (c .at)) v
-  body-known {v} v-is = body-of kind size (bodyIn file (c .at)) v (whole .ok) body-whole v-is
+  pub body-known : Body kind body
+  body-known = record {
+    number = omega (arith, body-least kind size (whole .ok), body-whole);
+    sizes = λ k. omega (arith, eqb-true size sizesBody (rw k at (whole .ok)), body-whole);
+  }
 
-  module _
-      (r : Rule) (n : ℕ) (fault : bodyRefusal (c .at) (c .last) r kind size (bodyIn file (c .at)) ≡ numbered n (c .at))
-    where
-      record-known : recordRefusal (c .at) (c .last) r (drop (c .at) file) ≡ numbered n (c .at)
-      unfolding recordRefusal bodyRefusal
-      record-known =
-          let fine : bodyOk (kindOf (drop (c .at) file)) (bodyLength (drop (c .at) file)) ≡ true =
-          rw (← whole .kind-is, ← whole .size-is) (whole .ok) in
-          rw (whole .not-cut, fine) (rw (whole .kind-is, whole .size-is, body-is file (c .at)) at fault)
+  place-inside : c .at < length file → c .at + (recordHead + size) ≤ length file
+  place-inside inside =
+      let long : length (restOf file (c .at)) ≡ length file - c .at =
+      ap length (rest-is file (c .at)) ∙ length-drop (c .at) file in
+      omega (arith, whole .long)
 
-      pub stops-fault : (n ≡ 0 → ⊥) → Stops file r c n
-      stops-fault z = record { refused-is = record-known ∙ rw (ne-eqb n 0 z); refuses = z }
+  module _ (r : Rule) (n : ℕ) (fault : bodyRefusal (c .at) (c .last) r kind size body ≡ numbered n (c .at)) where
+    record-known : recordRefusal (c .at) (c .last) r (drop (c .at) file) ≡ numbered n (c .at)
+    unfolding recordRefusal bodyRefusal
+    record-known =
+        let fine : bodyOk (kindOf (drop (c .at) file)) (bodyLength (drop (c .at) file)) ≡ true =
+        rw (← whole .kind-is, ← whole .size-is) (whole .ok) in
+        rw (whole .not-cut, fine) (rw (whole .kind-is, whole .size-is, body-is file (c .at)) at fault)
 
-      -- not refused: taken
-      module _ (none : n ≡ 0) (inside : c .at < length file) (t : List ℕ) (state : State r c t) where
-        passes-known : recordRefusal (c .at) (c .last) r (drop (c .at) file) .number ≡ 0
-        passes-known =
-            ap (λ (f : Refusal). f .number) record-known ∙ ap (λ (m : ℕ). numbered m (c .at) .number) none
+    stops-fault : (n ≡ 0 → ⊥) → Stops file r c n
+    stops-fault z = record { refused-is = record-known ∙ rw (ne-eqb n 0 z); refuses = z }
 
-        allowed-known : Allowed (c .last) r kind size (bodyIn file (c .at))
-        allowed-known =
-            rw (whole .kind-is, whole .size-is, body-is file (c .at))
-            (record-allowed (c .at) (c .last) r (drop (c .at) file) passes-known .allowed)
+    -- not refused: taken
+    module _ (none : n ≡ 0) (inside : c .at < length file) (t : List ℕ) (state : State r c t) where
+      passes-known : recordRefusal (c .at) (c .last) r (drop (c .at) file) .number ≡ 0
+      passes-known =
+          ap (λ (f : Refusal). f .number) record-known ∙ ap (λ (m : ℕ). numbered m (c .at) .number) none
 
-        place-inside : c .at + (recordHead + size) ≤ length file
-        place-inside =
-            let long : length (restOf file (c .at)) ≡ length file - c .at =
-            ap length (rest-is file (c .at)) ∙ length-drop (c .at) file in
-            omega (arith, whole .long)
+      allowed-known : Allowed (c .last) r kind size body
+      allowed-known =
+          rw (whole .kind-is, whole .size-is, body-is file (c .at))
+          (record-allowed (c .at) (c .last) r (drop (c .at) file) passes-known .allowed)
 
-        pub taken-room :
-            {v : List ℕ} → (kind ≡ 5 → v ≡ numbersOf (size / numberBytes) (bodyIn file (c .at)))
-            → length file < 2 ^ 64
-            → Room c kind size (bodyIn file (c .at)) v t
-        taken-room v-is h = room-for state allowed-known (body-known v-is) (omega (arith, place-inside))
+      goes-on : {t′ : List ℕ} {d : Cursor} → Takes c kind size body t t′ d → Goes-on file r c t′ d
+      goes-on takes = record {
+        passes-all = passes-known;
+        at-is = omega (arith, takes .at-is, whole .size-is);
+        inside = omega (arith, takes .at-is, place-inside inside);
+        last-is = takes .last-is ∙ whole .kind-is;
+        state =
+            rw (← whole .kind-is, ← whole .size-is, ← body-is file (c .at)) (state-after state allowed-known takes);
+      }
 
-        pub goes-on :
-            {t′ : List ℕ} {d : Cursor} → Takes c kind size (bodyIn file (c .at)) t t′ d → Goes-on file r c t′ d
-        goes-on takes = record {
-          passes-all = passes-known;
-          at-is = omega (arith, takes .at-is, whole .size-is);
-          inside = omega (arith, takes .at-is, place-inside);
-          last-is = takes .last-is ∙ whole .kind-is;
-          state =
-              rw (← whole .kind-is, ← whole .size-is, ← body-is file (c .at)) (state-after state allowed-known takes);
-        }
+  -- what the code found for 3 to 5
+  module _ (r : Rule) (f : ℕ) (f-is : f ≡ orderFault (c .last) r kind body) where
+    pub stops-order : (f ≡ 0 → ⊥) → Stops file r c f
+    stops-order z = stops-fault r f (order-stops (c .at) (c .last) r kind size body f f-is z) z
+
+    module _ (none : f ≡ 0) (inside : c .at < length file) (t : List ℕ) (state : State r c t) where
+      fine : 0 ≡ orderFault (c .last) r kind body
+      fine = sym none ∙ f-is
+
+      -- an edge
+      module _ (k : kind ≡ 5) where
+        pub edge-room : length file < 2 ^ 64 → EdgeRoom c size body t
+        edge-room h =
+            let ok : edgeBody size ≡ true = rw k at (whole .ok) in
+            let places = edge-zero state (edges-few (c .at) (c .last) r kind size body fine k) in
+            record {
+              size-least = edge-least size ok;
+              size-most = edge-most size ok;
+              whole = body-whole;
+              next = omega (arith, place-inside inside);
+              few = places .0;
+              long = state .long;
+              zero = places .1;
+            }
+
+        pub edge-step : (t′ : List ℕ) (x : Step) → EdgeIs r c size body t t′ x → StepIs file r c t′ x
+        edge-step t′ (Next d) h =
+            let known = edge-known (c .at) (c .last) r kind size body fine k in
+            goes-on r _ known (h .fine) inside t state (rw k (h .takes))
+        edge-step t′ (Refused n) h =
+            let known = edge-known (c .at) (c .last) r kind size body fine k in
+            stops-fault r n (known ∙ ap (λ (m : ℕ). numbered m (c .at)) (h .fault)) (h .refuses)
+
+      -- another record: x is what the code found for 6
+      module _ (k : kind ≡ 5 → ⊥) {x : Bool} (x-is : (n : ℕ) → x ≡ outOfRange r kind n body) where
+        other-found : bodyRefusal (c .at) (c .last) r kind size body ≡ refuse x 6 (c .at)
+        other-found =
+            other-known (c .at) (c .last) r kind size body fine k
+            ∙ ap (λ (y : Bool). refuse y 6 (c .at)) (sym (x-is size))
+
+        pub stops-range : x ≡ true → Stops file r c 6
+        stops-range q = stops-fault r 6 (other-found ∙ rw q) (λ z. omega arith)
+
+        module _ (q : x ≡ false) where
+          other-fine : bodyRefusal (c .at) (c .last) r kind size body ≡ numbered 0 (c .at)
+          other-fine = other-found ∙ rw q
+
+          pub taken-room : length file < 2 ^ 64 → Room c kind size body
+          taken-room h =
+              room-for state (allowed-known r 0 other-fine refl inside t state) k body-known
+              (omega (arith, place-inside inside))
+
+          pub taken-on : {d : Cursor} → Takes c kind size body t t d → Goes-on file r c t d
+          taken-on takes = goes-on r 0 other-fine refl inside t state takes

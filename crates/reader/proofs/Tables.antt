@@ -12,7 +12,7 @@ use Rattle.model.specs.Files.{withEdge}
 use Rattle.model.specs.Layout.{edgeWidth, edgeNumbers, edgesNumbers, edgeTable}
 use Rattle.model.proofs.EdgesWritten.{edge-numbers-length, edges-numbers-last}
 use Rattle.reader.specs.State.{tableWith}
-use Rattle.reader.proofs.BodyNumbers.{drop-zeros}
+use Rattle.reader.proofs.Stored.{drop-zeros}
 
 take-zeros : (k n : ℕ) → k ≤ n → take k (zeros n) ≡ zeros k
 take-zeros zero n h = refl

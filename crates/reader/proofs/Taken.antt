@@ -1,22 +1,25 @@
 -- A record taken: what the cursor holds afterwards, for each kind, and the table with one edge more.
-use mathlib.Core.Path.{_≡_, refl, sym, _∙_, ap, subst}
-use mathlib.Core.List.{List, [], _∷_}
-use Prim.Native.Nat.{ℕ, _+_, _-_, _*_, _^_}
+use mathlib.Core.Path.{_≡_, refl, sym, _∙_, ap}
+use mathlib.Core.List.{List, [], _∷_, _++_, append-nil}
+use Prim.Native.Nat.{ℕ, _+_, _-_, _*_, _^_, _≤_}
 use native.Mathlib.Omega.{arith}
 use native.Mathlib.Numerals.{add-one}
 use lib.ListN.{length, take, drop, length-append}
+use lib.Seq.{length-take-le, take-at, drop-at}
 use borrow.Rule.Slice.PartMut.{putMid}
 use Rattle.model.specs.declared.Head.{Head}
 use Rattle.model.specs.Basics.{zeros, maskOf}
-use Rattle.model.specs.Rules.{Edge, Rule}
+use Rattle.model.specs.Rules.{Edge, Rule, mostAtoms}
 use Rattle.model.specs.Files.{numberAt, recordHead, edgeFrom, withSizes, withInitial, withFinal, withCeiling}
 use Rattle.model.specs.Files.{withEdge, withRecord}
-use Rattle.model.specs.Layout.{edgeWidth, edgeNumbers}
+use Rattle.model.specs.Layout.{edgeWidth, edgeNumbers, edgeIn}
 use Rattle.model.proofs.ValidParts.{past-last}
 use Rattle.model.proofs.MaskSets.{mask-last}
+use Rattle.model.proofs.EdgesWritten.{edge-numbers-length, edge-written}
 use Rattle.reader.specs.declared.Cursor.{Cursor}
-use Rattle.reader.specs.Bodies.{edgeSpelt}
-use Rattle.reader.specs.State.{Holds, Stays, Places, tableWith, EdgeRoom, TakesEdge, Takes}
+use Rattle.reader.specs.State.{Holds, edgeFault, Stays, Places, Standing, EdgeRoom, Takes, Edge-taken}
+use Rattle.reader.specs.State.{Edge-refused}
+use Rattle.reader.proofs.Stored.{atoms-few}
 
 abbrev pub cursor : ℕ → ℕ → ℕ → ℕ → Head → Cursor
 cursor at last start end head = record { at = at; last = last; start = start; end = end; head = head }
@@ -89,10 +92,10 @@ module _ (c : Cursor) (r : Rule) (h : Holds r c) where
     end-is = h .end-is;
   }
 
-  pub edge-held :
-      (e : Edge)
+  edge-held :
+      (at last : ℕ) (e : Edge)
       → Holds (withEdge r e)
-      (cursor (c .at) (c .last) (c .start) (c .end)
+      (cursor at last (c .start) (c .end)
       (record {
         locations = c .head .locations;
         symbols = c .head .symbols;
@@ -102,27 +105,94 @@ module _ (c : Cursor) (r : Rule) (h : Holds r c) where
         ceiling = c .head .ceiling;
         count = c .head .count + 1;
       }))
-  edge-held e = record {
+  edge-held at last e = record {
     head-is = rw (h .head-is, length-append (r .edges) (e ∷ []));
     start-is = h .start-is;
     end-is = h .end-is;
   }
 
 -- the places of an edge in the table: n is the edge count as it was read
-module _ {count : ℕ} {v t : List ℕ} (room : EdgeRoom count v t) (n : ℕ) (n-is : n ≡ count) where
-  width-is : edgeWidth * n + edgeWidth - edgeWidth * n ≡ edgeWidth
-  width-is = omega arith
+module _ {c : Cursor} {size : ℕ} {body t : List ℕ} (room : EdgeRoom c size body t) (n : ℕ) (n-is : n ≡ c .head .count)
+  where
+    width-is : edgeWidth * n + edgeWidth - edgeWidth * n ≡ edgeWidth
+    width-is = omega arith
 
-  pub edge-places : Places v (take (edgeWidth * n + edgeWidth - edgeWidth * n) (drop (edgeWidth * n) t))
-  edge-places =
-      let zero-is : take (edgeWidth * n + edgeWidth - edgeWidth * n) (drop (edgeWidth * n) t) ≡ zeros edgeWidth =
-      rw (width-is, n-is) (room .zero) in
-      record { least = room .least; most = room .most; wide = ap length zero-is; zero = zero-is }
+    pub edge-places : Places size body (take (edgeWidth * n + edgeWidth - edgeWidth * n) (drop (edgeWidth * n) t))
+    edge-places =
+        let zero-is : take (edgeWidth * n + edgeWidth - edgeWidth * n) (drop (edgeWidth * n) t) ≡ zeros edgeWidth =
+        rw (width-is, n-is) (room .zero) in
+        record {
+          size-least = room .size-least;
+          size-most = room .size-most;
+          whole = room .whole;
+          wide = ap length zero-is;
+          zero = zero-is;
+        }
 
-  pub edge-put :
-      (stored : List ℕ) → stored ≡ edgeNumbers (edgeSpelt v)
-      → putMid (edgeWidth * n) (edgeWidth * n + edgeWidth - edgeWidth * n) t stored ≡ tableWith count (edgeSpelt v) t
-  edge-put stored e = rw (width-is, n-is, e)
+    -- the table with the edge, which stands at its place
+    module _ (stored : List ℕ) (stored-is : stored ≡ edgeNumbers (edgeFrom size body)) where
+      abbrev table : List ℕ
+      table = putMid (edgeWidth * n) (edgeWidth * n + edgeWidth - edgeWidth * n) t stored
+
+      abbrev place : List ℕ
+      place = take (edgeWidth * n + edgeWidth - edgeWidth * n) (drop (edgeWidth * n) table)
+
+      few : length (edgeFrom size body .atoms) ≤ mostAtoms
+      few = atoms-few size body (room .size-most)
+
+      stored-wide : length stored ≡ edgeWidth
+      stored-wide = ap length stored-is ∙ edge-numbers-length (edgeFrom size body) few
+
+      stands : place ≡ edgeNumbers (edgeFrom size body)
+      stands =
+          let front : length (take (edgeWidth * n) t) ≡ edgeWidth * n =
+          length-take-le (edgeWidth * n) t (omega (arith, room .few, room .long)) in
+          let after : List ℕ = drop edgeWidth (drop (edgeWidth * n) t) in
+          rw width-is
+          (ap (take edgeWidth) (drop-at (take (edgeWidth * n) t) (stored ++ after) (edgeWidth * n) front)
+          ∙ (take-at stored after edgeWidth stored-wide ∙ stored-is))
+
+      pub edge-standing : Standing place
+      edge-standing = record {
+        wide = ap length stands ∙ edge-numbers-length (edgeFrom size body) few;
+        few = rw stands few;
+      }
+
+      fault-is : (r : Rule) (f : ℕ) → f ≡ edgeFault r (edgeIn place) → edgeFault r (edgeFrom size body) ≡ f
+      fault-is r f e =
+          let e-is : edgeIn place ≡ edgeFrom size body =
+          ap edgeIn (stands ∙ sym (append-nil (edgeNumbers (edgeFrom size body))))
+          ∙ edge-written (edgeFrom size body) [] in
+          sym (e ∙ ap (edgeFault r) e-is)
+
+      -- refused there, or taken
+      module _ (r : Rule) (f : ℕ) (f-is : f ≡ edgeFault r (edgeIn place)) where
+        pub edge-refused : (f ≡ 0 → ⊥) → Edge-refused r (edgeFrom size body) f
+        edge-refused z = record { fault = fault-is r f f-is; refuses = z }
+
+        pub edge-taken :
+            f ≡ 0
+            → Edge-taken r c size body t table
+            (cursor (c .at + recordHead + size) 5 (c .start) (c .end)
+            (record {
+              locations = c .head .locations;
+              symbols = c .head .symbols;
+              clocks = c .head .clocks;
+              starts = c .head .starts;
+              ends = c .head .ends;
+              ceiling = c .head .ceiling;
+              count = c .head .count + 1;
+            }))
+        unfolding withRecord
+        edge-taken z = record {
+          fine = fault-is r f f-is ∙ z;
+          takes = record {
+            at-is = omega arith;
+            last-is = refl;
+            holds = λ s h. edge-held c s h (c .at + recordHead + size) 5 (edgeFrom size body);
+            table-is = rw (width-is, n-is, stored-is);
+          };
+        }
 
 -- the cursor past a record, with what it held
 abbrev pub past : Cursor → ℕ → ℕ → Cursor
@@ -179,16 +249,3 @@ module _ (c : Cursor) (kind size : ℕ) (body t : List ℕ) (d : Cursor) (stays 
     holds = λ r q. rw (e, ← x-is) (h r (past-holds c kind size r q));
     table-is = rw e;
   }
-
-pub takes-edge :
-    (c : Cursor) (kind size : ℕ) (body v t t′ : List ℕ) (d : Cursor) → kind ≡ 5 → edgeSpelt v ≡ edgeFrom size body
-    → TakesEdge (past c kind size) v t t′ d
-    → Takes c kind size body t t′ d
-unfolding withRecord
-takes-edge c kind size body v t t′ d e is h = record {
-  at-is = place-is c kind size body t d (h .stays);
-  last-is = h .stays .last-is;
-  holds = λ r q.
-      rw e (subst (λ (y : Edge). Holds (withEdge r y) d) is (h .holds r (past-holds c kind size r q)));
-  table-is = rw e (h .table-is ∙ ap (λ (y : Edge). tableWith (c .head .count) y t) is);
-}

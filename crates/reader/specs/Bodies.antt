@@ -1,9 +1,6 @@
--- A record's body by its bytes and by its numbers, and the edge that the numbers of a body spell.
-use mathlib.Core.List.{List}
-use Prim.Native.Nat.{ℕ, _+_, _*_, _/_}
-use lib.ListN.{length, getD, drop}
-use Rattle.model.specs.Rules.{Edge, mostAtoms}
-use Rattle.model.specs.Layout.{atomWidth, atomsIn}
+-- A record's body by its bytes.
+use Prim.Native.Nat.{ℕ, _+_, _*_}
+use Rattle.model.specs.Rules.{mostAtoms}
 
 abbrev pub numberBytes : ℕ
 numberBytes = 2
@@ -20,19 +17,3 @@ atomBody = 6
 
 abbrev pub mostBody : ℕ
 mostBody = fieldsBody + atomBody * mostAtoms
-
--- an edge's body by its numbers: four fields, then its atoms
-abbrev pub bodyFields : ℕ
-bodyFields = 4
-
-abbrev pub bodyNumbers : ℕ
-bodyNumbers = bodyFields + atomWidth * mostAtoms
-
-abbrev pub edgeSpelt : List ℕ → Edge
-edgeSpelt v = record {
-  source = getD v 0 0;
-  target = getD v 1 0;
-  symbol = getD v 2 0;
-  resets = getD v 3 0;
-  atoms = atomsIn (length (drop bodyFields v) / atomWidth) (drop bodyFields v);
-}

@@ -2,20 +2,19 @@
 use mathlib.Core.Path.{_≡_}
 use mathlib.Core.Bool.{not}
 use mathlib.Core.List.{List, _++_}
-use Prim.Native.Nat.{ℕ, _+_, _*_, _/_, _^_, _≤_, _<_}
+use Prim.Native.Nat.{ℕ, _+_, _*_, _^_, _≤_, _<_}
 use lib.Dec.{eqb}
-use lib.ListN.{length, take, drop}
+use lib.ListN.{length, getD, take, drop}
 use Rattle.model.specs.declared.Reading.{Reading}
 use Rattle.model.specs.Basics.{pick, zeros, Refusal, refusal, refuse, _⨾_}
-use Rattle.model.specs.Rules.{Edge, Rule, mostConstant, mostEdges, mostLocations}
+use Rattle.model.specs.Rules.{Edge, Rule, mostAtoms, mostConstant, mostEdges, mostLocations, edgeOk, integerReset}
 use Rattle.model.specs.Files.{numberAt, recordHead, kindOf, edgeFrom, noRule, pastLast, outOfOrder, oneTooMany}
-use Rattle.model.specs.Files.{badSizes, outOfRange, notPinned, recordRefusal, withEdge, withRecord, atEnd, readRule}
+use Rattle.model.specs.Files.{badSizes, outOfRange, notPinned, recordRefusal, withRecord, atEnd, readRule}
 use Rattle.model.specs.Layout.{edgeNeed, edgeWidth, headOf, noHead, edgeNumbers, edgeTable}
 use Rattle.model.specs.Promises.{readingOf}
-use Rattle.model.proofs.Bytes.{numbersOf}
 use Rattle.model.proofs.FileSteps.{recordLength, ruleAfter}
 use Rattle.model.proofs.FileSoFar.{So-far}
-use Rattle.reader.specs.Bodies.{numberBytes, sizesBody, fieldsBody, bodyFields, bodyNumbers, edgeSpelt}
+use Rattle.reader.specs.Bodies.{numberBytes, sizesBody, fieldsBody, mostBody}
 use Rattle.reader.specs.declared.Cursor.{Cursor}
 use Rattle.reader.specs.declared.Step.{Step}
 use Rattle.reader.specs.declared.Step.the-variants.{Next, Refused}
@@ -37,61 +36,80 @@ bodyRefusal p last r kind n body =
     ⨾ refuse (outOfRange r kind n body) 6 p
     ⨾ refuse (notPinned kind n body) 7 p
 
--- a body of a length that its kind has, and the numbers of an edge's
-pub record Body (kind size : ℕ) (body numbers : List ℕ) : Type 0 where
-  pub whole : size ≤ length body
-  pub least : numberBytes ≤ size
-  pub sizes : kind ≡ 1 → size ≡ sizesBody
-  pub edge-least : kind ≡ 5 → fieldsBody ≤ size
-  pub numbers-are : kind ≡ 5 → numbers ≡ numbersOf (size / numberBytes) body
+-- the numbers of these that the code answers, 0 for none: 3 to 5 of any record, 6 and 7 of an edge
+unfoldable pub orderFault : ℕ → Rule → ℕ → List ℕ → ℕ
+orderFault last r kind body =
+    pick (outOfOrder last r kind body) 3 (pick (oneTooMany r kind) 4 (pick (badSizes kind body) 5 0))
+
+unfoldable pub edgeFault : Rule → Edge → ℕ
+edgeFault r e = pick (edgeOk r e) (pick (integerReset e) 0 7) 6
+
+-- a body as long as its kind asks
+pub record Body (kind : ℕ) (body : List ℕ) : Type 0 where
+  pub number : numberBytes ≤ length body
+  pub sizes : kind ≡ 1 → sizesBody ≤ length body
 
 -- the same place in the file
 pub record Stays (c d : Cursor) : Type 0 where
   pub at-is : d .at ≡ c .at
   pub last-is : d .last ≡ c .last
 
--- an edge's numbers, and 29 places of zeros for them
-pub record Places (numbers edge : List ℕ) : Type 0 where
-  pub least : bodyFields ≤ length numbers
-  pub most : length numbers ≤ bodyNumbers
+-- an edge's body, and 29 places of zeros for it
+pub record Places (size : ℕ) (body edge : List ℕ) : Type 0 where
+  pub size-least : fieldsBody ≤ size
+  pub size-most : size ≤ mostBody
+  pub whole : size ≤ length body
   pub wide : length edge ≡ edgeWidth
   pub zero : edge ≡ zeros edgeWidth
+
+-- the numbers of one edge, of at most eight atoms
+pub record Standing (edge : List ℕ) : Type 0 where
+  pub wide : length edge ≡ edgeWidth
+  pub few : getD edge 4 0 ≤ mostAtoms
 
 -- the table with one edge more, where n edges stand
 abbrev pub tableWith : ℕ → Edge → List ℕ → List ℕ
 tableWith n e t = take (edgeWidth * n) t ++ (edgeNumbers e ++ drop edgeWidth (drop (edgeWidth * n) t))
 
--- room for an edge, whose places are zero
-pub record EdgeRoom (n : ℕ) (numbers t : List ℕ) : Type 0 where
-  pub least : bodyFields ≤ length numbers
-  pub most : length numbers ≤ bodyNumbers
-  pub few : n < mostEdges
-  pub long : edgeNeed ≤ length t
-  pub zero : take edgeWidth (drop (edgeWidth * n) t) ≡ zeros edgeWidth
-
-pub record TakesEdge (c : Cursor) (numbers t t′ : List ℕ) (d : Cursor) : Type 0 where
-  pub stays : Stays c d
-  pub holds : (r : Rule) → Holds r c → Holds (withEdge r (edgeSpelt numbers)) d
-  pub table-is : t′ ≡ tableWith (c .head .count) (edgeSpelt numbers) t
-
 -- a record that can be taken: its numbers fit
-pub record Room (c : Cursor) (kind size : ℕ) (body numbers t : List ℕ) : Type 0 where
+pub record Room (c : Cursor) (kind size : ℕ) (body : List ℕ) : Type 0 where
   pub kind-least : 1 ≤ kind
-  pub kind-most : kind ≤ 5
+  pub kind-most : kind ≤ 4
   pub next : c .at + (recordHead + size) < 2 ^ 64
   pub number : numberBytes ≤ length body
   pub sizes : kind ≡ 1 → sizesBody ≤ length body
   pub initial : kind ≡ 2 → (numberAt 0 body < mostLocations) × (c .head .starts + 2 ^ numberAt 0 body < 2 ^ 32)
   pub final : kind ≡ 3 → (numberAt 0 body < mostLocations) × (c .head .ends + 2 ^ numberAt 0 body < 2 ^ 32)
   pub ceiling : kind ≡ 4 → numberAt 0 body ≤ mostConstant
-  pub edge : kind ≡ 5 → EdgeRoom (c .head .count) numbers t
-  pub edge-is : kind ≡ 5 → edgeSpelt numbers ≡ edgeFrom size body
 
 pub record Takes (c : Cursor) (kind size : ℕ) (body t t′ : List ℕ) (d : Cursor) : Type 0 where
   pub at-is : d .at ≡ c .at + (recordHead + size)
   pub last-is : d .last ≡ kind
   pub holds : (r : Rule) → Holds r c → Holds (withRecord r kind size body) d
   pub table-is : t′ ≡ pick (eqb kind 5) (tableWith (c .head .count) (edgeFrom size body) t) t
+
+-- room for an edge, whose places are zero
+pub record EdgeRoom (c : Cursor) (size : ℕ) (body t : List ℕ) : Type 0 where
+  pub size-least : fieldsBody ≤ size
+  pub size-most : size ≤ mostBody
+  pub whole : size ≤ length body
+  pub next : c .at + (recordHead + size) < 2 ^ 64
+  pub few : c .head .count < mostEdges
+  pub long : edgeNeed ≤ length t
+  pub zero : take edgeWidth (drop (edgeWidth * c .head .count) t) ≡ zeros edgeWidth
+
+-- what an edge does: it stands in the table, or is refused with 6 or 7
+pub record Edge-taken (r : Rule) (c : Cursor) (size : ℕ) (body t t′ : List ℕ) (d : Cursor) : Type 0 where
+  pub fine : edgeFault r (edgeFrom size body) ≡ 0
+  pub takes : Takes c 5 size body t t′ d
+
+pub record Edge-refused (r : Rule) (e : Edge) (n : ℕ) : Type 0 where
+  pub fault : edgeFault r e ≡ n
+  pub refuses : n ≡ 0 → ⊥
+
+abbrev pub EdgeIs : Rule → Cursor → ℕ → List ℕ → List ℕ → List ℕ → Step → Type 0
+EdgeIs r c size body t t′ (Next d) = Edge-taken r c size body t t′ d
+EdgeIs r c size body t t′ (Refused n) = Edge-refused r (edgeFrom size body) n
 
 -- the rule so far: nothing, or valid in all its parts
 pub data Stage (last : ℕ) (r : Rule) : Type 0 where

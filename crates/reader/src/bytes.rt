@@ -1,11 +1,11 @@
 // Numbers of a file: two bytes each, low byte first. The names of the lengths have their twins in specs/Bodies.antt.
 ghost use mathlib.Core.Path.{_≡_};
-ghost use Prim.Native.Nat.{_+_, _*_, _/_, _^_, _≤_, _<_};
-ghost use lib.ListN.{length, take};
+ghost use Prim.Native.Nat.{_+_, _*_, _^_, _≤_, _<_};
+ghost use lib.ListN.{length};
 ghost use Rattle.model.specs.Rules.{mostLocations};
 ghost use Rattle.model.specs.Files.{numberAt};
 ghost use Rattle.model.proofs.Bytes.{numbersOf};
-ghost use Rattle.reader.specs.Bodies.{bodyNumbers, numberBytes};
+ghost use Rattle.reader.specs.Bodies.{numberBytes};
 use numbers::narrow16;
 use numbers::wide8;
 
@@ -23,11 +23,6 @@ pub(crate) const ATOM_BODY: usize = 6;
 
 pub(crate) const MOST_BODY: usize = 56;
 
-// An edge's body by its numbers: four fields, then its atoms.
-pub(crate) const BODY_FIELDS: usize = 4;
-
-pub(crate) const BODY_NUMBERS: usize = 28;
-
 // Number `i` of a list of bytes.
 pub(crate) fn number_at(bytes: &[u8], i: usize) -> usize
     requires { ⌜ numberBytes * i + 1 < length (now bytes) ⌝ }
@@ -44,7 +39,7 @@ pub(crate) fn mask_of(location: usize) -> u32
     1u32 << (location as u32)
 }
 
-// Fills a part of an array with the numbers of a list of bytes.
+// Fills a part of the table with the numbers of a list of bytes.
 pub(crate) fn copy_numbers(bytes: &[u8], out: &mut [u16])
     requires { ⌜ numberBytes * length (now out) ≤ length (now bytes) ⌝ }
     ensures { λ _. ⌜ now (out .exit) ≡ numbersOf (length (now (out .entry))) (now (bytes .entry)) ⌝ }
@@ -54,29 +49,4 @@ pub(crate) fn copy_numbers(bytes: &[u8], out: &mut [u16])
         out[i] = narrow16(number_at(bytes, i));
         i += 1;
     }
-}
-
-// How many numbers of a body are copied: those of an edge.
-pub(crate) fn edge_count(kind: usize, size: usize) -> usize
-    ensures { λ r. ⌜ (kind ≡ 5 → r ≡ size / numberBytes) × (r ≤ size / numberBytes) ⌝ }
-{
-    if kind != 5 {
-        return 0;
-    }
-    size / NUMBER_BYTES
-}
-
-// The numbers of a body, at the front of an array. Where the file goes on far enough the array is filled, since a copy
-// of a fixed length takes fewer steps.
-pub(crate) fn body_numbers(body: &[u8], count: usize) -> [u16; BODY_NUMBERS]
-    requires { ⌜ (count ≤ bodyNumbers) × (numberBytes * count ≤ length (now body)) ⌝ }
-    ensures { λ r. ⌜ (take count r ≡ numbersOf count (now (body .entry))) × (length r ≡ bodyNumbers) ⌝ }
-{
-    let mut numbers = [0u16; BODY_NUMBERS];
-    if MOST_BODY <= body.len() {
-        copy_numbers(body, &mut numbers[0..BODY_NUMBERS]);
-        return numbers;
-    }
-    copy_numbers(body, &mut numbers[0..count]);
-    numbers
 }

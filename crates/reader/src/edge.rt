@@ -1,13 +1,12 @@
-// An edge's body, by its numbers: its checks, and its places in the table.
+// An edge at its place in the table: stored from its body's bytes, and checked there.
 ghost use mathlib.Core.Path.{_≡_};
-ghost use Prim.Native.Nat.{_≤_};
-ghost use lib.ListN.{length};
-ghost use Rattle.model.specs.Basics.{written};
-ghost use Rattle.model.specs.Rules.{Rule, edgeOk, integerReset};
-ghost use Rattle.model.specs.Layout.{headOf, edgeNumbers};
-ghost use Rattle.reader.specs.Bodies.{bodyFields, edgeSpelt};
-ghost use Rattle.reader.specs.State.{Places};
-use crate::bytes::BODY_FIELDS;
+ghost use Rattle.model.specs.Rules.{Rule};
+ghost use Rattle.model.specs.Files.{edgeFrom};
+ghost use Rattle.model.specs.Layout.{headOf, edgeIn, edgeNumbers};
+ghost use Rattle.reader.specs.State.{Places, Standing, edgeFault};
+use crate::bytes::ATOM_BODY;
+use crate::bytes::FIELDS_BODY;
+use crate::bytes::copy_numbers;
 use edges::checks::atoms_ok;
 use edges::checks::fields_ok;
 use edges::checks::pinned;
@@ -20,45 +19,33 @@ use numbers::narrow16;
 use numbers::wide16;
 use numbers::wide32;
 
-// Each number in its range.
-pub(crate) fn edge_ok(head: Head, numbers: &[u16]) -> bool
-    requires { ⌜ bodyFields ≤ length (now numbers) ⌝ }
-    ensures { λ x. ⌜ ((r : Rule) → head ≡ headOf r → x ≡ edgeOk r (edgeSpelt (now (numbers .entry)))) ⌝ }
-{
-    if !fields_ok(head, numbers) {
-        return false;
-    }
-    atoms_ok(&numbers[BODY_FIELDS..], wide32(head.clocks))
-}
-
-// Resets have an atom with relation 2.
-pub(crate) fn edge_pinned(numbers: &[u16]) -> bool
-    requires { ⌜ bodyFields ≤ length (now numbers) ⌝ }
-    ensures { λ r. ⌜ r ≡ integerReset (edgeSpelt (now (numbers .entry))) ⌝ }
-{
-    pinned(wide16(numbers[EDGE_RESETS]), &numbers[BODY_FIELDS..])
-}
-
-// Copies numbers to the front of a part of the table.
-pub(crate) fn copy_to(numbers: &[u16], out: &mut [u16])
-    requires { ⌜ length (now numbers) ≤ length (now out) ⌝ }
-    ensures { λ _. ⌜ now (out .exit) ≡ written (now (numbers .entry)) (now (out .entry)) ⌝ }
-{
-    let mut i: usize = 0;
-    while i < numbers.len() {
-        out[i] = numbers[i];
-        i += 1;
-    }
-}
-
 // Writes an edge over 29 zeros: its four fields, its atom count, its atoms.
-pub(crate) fn store_edge(numbers: &[u16], edge: &mut [u16])
-    requires { ⌜ Places (now numbers) (now edge) ⌝ }
-    ensures { λ _. ⌜ now (edge .exit) ≡ edgeNumbers (edgeSpelt (now (numbers .entry))) ⌝ }
+pub(crate) fn store_edge(size: usize, body: &[u8], edge: &mut [u16])
+    requires { ⌜ Places size (now body) (now edge) ⌝ }
+    ensures { λ _. ⌜ now (edge .exit) ≡ edgeNumbers (edgeFrom size (now (body .entry))) ⌝ }
 {
-    let count = (numbers.len() - BODY_FIELDS) / ATOM_WIDTH;
-    copy_to(&numbers[0..BODY_FIELDS], edge);
+    let count = (size - FIELDS_BODY) / ATOM_BODY;
+    copy_numbers(body, &mut edge[0..EDGE_COUNT]);
     edge[EDGE_COUNT] = narrow16(count);
-    let past = BODY_FIELDS + ATOM_WIDTH * count;
-    copy_to(&numbers[BODY_FIELDS..past], &mut edge[EDGE_FIELDS..]);
+    let past = EDGE_FIELDS + ATOM_WIDTH * count;
+    copy_numbers(&body[FIELDS_BODY..], &mut edge[EDGE_FIELDS..past]);
+}
+
+// 6 for a number outside its range, 7 for resets with no relation 2; 0 for none.
+pub(crate) fn edge_fault(head: Head, edge: &[u16]) -> u8
+    requires { ⌜ Standing (now edge) ⌝ }
+    ensures { λ n. ⌜ ((r : Rule) → head ≡ headOf r → n ≡ edgeFault r (edgeIn (now (edge .entry)))) ⌝ }
+{
+    if !fields_ok(head, edge) {
+        return 6;
+    }
+    let past = EDGE_FIELDS + ATOM_WIDTH * wide16(edge[EDGE_COUNT]);
+    let atoms = &edge[EDGE_FIELDS..past];
+    if !atoms_ok(atoms, wide32(head.clocks)) {
+        return 6;
+    }
+    if !pinned(wide16(edge[EDGE_RESETS]), atoms) {
+        return 7;
+    }
+    0
 }

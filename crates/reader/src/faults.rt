@@ -1,13 +1,13 @@
-// The faults of a record, 1 to 7, each as its own test, and their order.
+// The faults of a record, each as its own test, and the order of 3 to 5. An edge's 6 and 7 are tested at its place in
+// the table.
 ghost use mathlib.Core.Path.{_≡_};
-ghost use Prim.Native.Nat.{_≤_};
+ghost use Prim.Native.Nat.{ℕ, _≤_};
 ghost use lib.ListN.{length};
 ghost use Rattle.model.specs.Rules.{Rule};
 ghost use Rattle.model.specs.Files.{edgeBody, bodyOk, cutShort, outOfOrder, oneTooMany, badSizes, outOfRange};
-ghost use Rattle.model.specs.Files.{notPinned};
 ghost use Rattle.model.specs.Layout.{headOf};
 ghost use Rattle.reader.specs.Bodies.{numberBytes, sizesBody};
-ghost use Rattle.reader.specs.State.{Holds, numbered, bodyRefusal, Body};
+ghost use Rattle.reader.specs.State.{Holds, orderFault, Body};
 use crate::Cursor;
 use crate::bytes::ATOM_BODY;
 use crate::bytes::FIELDS_BODY;
@@ -16,8 +16,6 @@ use crate::bytes::NUMBER_BYTES;
 use crate::bytes::RECORD_HEAD;
 use crate::bytes::SIZES_BODY;
 use crate::bytes::number_at;
-use crate::edge::edge_ok;
-use crate::edge::edge_pinned;
 use edges::sizes_ok;
 use model::Head;
 use model::MOST_CONSTANT;
@@ -102,65 +100,33 @@ pub(crate) fn bad_sizes(kind: usize, body: &[u8]) -> bool
     !sizes_ok(number_at(body, 0), number_at(body, 1), number_at(body, 2))
 }
 
-// 6: location, symbol, clock, mask bit, relation, constant or ceiling outside its range.
-pub(crate) fn out_of_range(
-    head: Head,
-    kind: usize,
-    size: usize,
-    body: &[u8],
-    numbers: &[u16],
-) -> bool
-    requires { ⌜ Body kind size (now body) (now numbers) ⌝ }
-    ensures { λ x. ⌜ ((r : Rule) → head ≡ headOf r → x ≡ outOfRange r kind size (now (body .entry))) ⌝ }
+// 6, for all kinds but an edge: location or ceiling outside its range.
+pub(crate) fn out_of_range(head: Head, kind: usize, body: &[u8]) -> bool
+    requires { ⌜ numberBytes ≤ length (now body) ⌝ }
+    ensures { λ x. ⌜
+        ((r : Rule) → head ≡ headOf r → (kind ≡ 5 → ⊥) → (n : ℕ) → x ≡ outOfRange r kind n (now (body .entry)))
+        ⌝ }
 {
     match kind {
         2 | 3 => wide32(head.locations) <= number_at(body, 0),
         4 => MOST_CONSTANT < number_at(body, 0),
-        5 => !edge_ok(head, numbers),
         _ => false,
     }
 }
 
-// 7: resets with no relation 2.
-pub(crate) fn not_pinned(kind: usize, size: usize, body: &[u8], numbers: &[u16]) -> bool
-    requires { ⌜ Body kind size (now body) (now numbers) ⌝ }
-    ensures { λ r. ⌜ r ≡ notPinned kind size (now (body .entry)) ⌝ }
-{
-    if kind != 5 {
-        return false;
-    }
-    !edge_pinned(numbers)
-}
-
-// The first of 3 to 7 that refuses a record whose body has a length of its kind; 0 for none.
-pub(crate) fn body_fault(
-    cursor: Cursor,
-    kind: usize,
-    size: usize,
-    body: &[u8],
-    numbers: &[u16],
-) -> u8
-    requires { ⌜ Body kind size (now body) (now numbers) ⌝ }
-    ensures { λ n. ⌜
-        ((r : Rule) → Holds r cursor
-        → bodyRefusal (cursor .at) (cursor .last) r kind size (now (body .entry)) ≡ numbered n (cursor .at))
-        ⌝ }
+// The first of 3 to 5 that refuses a record whose body has a length of its kind; 0 for none.
+pub(crate) fn order_fault(cursor: Cursor, kind: usize, body: &[u8]) -> u8
+    requires { ⌜ Body kind (now body) ⌝ }
+    ensures { λ n. ⌜ ((r : Rule) → Holds r cursor → n ≡ orderFault (cursor .last) r kind (now (body .entry))) ⌝ }
 {
     if out_of_order(cursor, kind, body) {
         return 3;
     }
-    let head = cursor.head;
-    if one_too_many(head, kind) {
+    if one_too_many(cursor.head, kind) {
         return 4;
     }
     if bad_sizes(kind, body) {
         return 5;
-    }
-    if out_of_range(head, kind, size, body, numbers) {
-        return 6;
-    }
-    if not_pinned(kind, size, body, numbers) {
-        return 7;
     }
     0
 }

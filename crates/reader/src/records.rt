@@ -1,21 +1,22 @@
 // A record read: refused, or taken into the head record and the edge table.
-ghost use Prim.Native.Nat.{_+_, _^_, _≤_, _<_};
+ghost use mathlib.Core.List.{List};
+ghost use Prim.Native.Nat.{ℕ, _+_, _^_, _≤_, _<_};
 ghost use lib.ListN.{length};
 ghost use Rattle.model.specs.Rules.{Rule, mostConstant, mostLocations};
 ghost use Rattle.model.specs.Files.{withSizes, withInitial, withFinal, withCeiling};
 ghost use Rattle.reader.specs.Bodies.{sizesBody};
-ghost use Rattle.reader.specs.State.{Holds, Stays, EdgeRoom, TakesEdge, Room, Takes, State, Under-way, StepIs};
+ghost use Rattle.reader.specs.State.{Holds, Stays, Room, Takes, EdgeRoom, EdgeIs, State, Under-way, StepIs};
 use crate::Cursor;
 use crate::Step;
 use crate::bytes::RECORD_HEAD;
-use crate::bytes::body_numbers;
-use crate::bytes::edge_count;
 use crate::bytes::mask_of;
 use crate::bytes::number_at;
+use crate::edge::edge_fault;
 use crate::edge::store_edge;
-use crate::faults::body_fault;
 use crate::faults::body_ok;
 use crate::faults::cut_short;
+use crate::faults::order_fault;
+use crate::faults::out_of_range;
 use model::EDGE_WIDTH;
 use model::Head;
 use numbers::narrow32;
@@ -86,32 +87,10 @@ impl Cursor {
         next
     }
 
-    pub(crate) fn with_edge(self, numbers: &[u16], edges: &mut [u16]) -> Cursor
-        requires { ⌜ EdgeRoom (self .head .count) (now numbers) (now edges) ⌝ }
-        ensures { λ d. ⌜ TakesEdge self (now (numbers .entry)) (now (edges .entry)) (now (edges .exit)) d ⌝ }
-    {
-        let mut head = self.head;
-        let first = EDGE_WIDTH * wide32(head.count);
-        let past = first + EDGE_WIDTH;
-        store_edge(numbers, &mut edges[first..past]);
-        let count = head.count + 1;
-        head.count = count;
-        let mut next = self;
-        next.head = head;
-        next
-    }
-
-    // The cursor past a record that is not refused. An edge goes into the table.
-    pub(crate) fn taken(
-        self,
-        kind: usize,
-        size: usize,
-        body: &[u8],
-        numbers: &[u16],
-        edges: &mut [u16],
-    ) -> Cursor
-        requires { ⌜ Room self kind size (now body) (now numbers) (now edges) ⌝ }
-        ensures { λ d. ⌜ Takes self kind size (now (body .entry)) (now (edges .entry)) (now (edges .exit)) d ⌝ }
+    // The cursor past a record that is not refused, of any kind but an edge.
+    pub(crate) fn taken(self, kind: usize, size: usize, body: &[u8]) -> Cursor
+        requires { ⌜ Room self kind size (now body) ⌝ }
+        ensures { λ d. ⌜ ((t : List ℕ) → Takes self kind size (now (body .entry)) t t d) ⌝ }
     {
         let mut past = self;
         past.at = self.at + RECORD_HEAD + size;
@@ -120,9 +99,35 @@ impl Cursor {
             1 => past.with_sizes(body),
             2 => past.with_initial(number_at(body, 0)),
             3 => past.with_final(number_at(body, 0)),
-            4 => past.with_ceiling(number_at(body, 0)),
-            _ => past.with_edge(numbers, edges),
+            _ => past.with_ceiling(number_at(body, 0)),
         }
+    }
+
+    // An edge, stored at its place in the table and checked there.
+    pub(crate) fn take_edge(self, size: usize, body: &[u8], edges: &mut [u16]) -> Step
+        requires { ⌜ EdgeRoom self size (now body) (now edges) ⌝ }
+        ensures { λ x. ⌜
+            ((r : Rule) → Holds r self
+            → EdgeIs r self size (now (body .entry)) (now (edges .entry)) (now (edges .exit)) x)
+            ⌝ }
+    {
+        let mut head = self.head;
+        let first = EDGE_WIDTH * wide32(head.count);
+        let past = first + EDGE_WIDTH;
+        store_edge(size, body, &mut edges[first..past]);
+        let fault = edge_fault(head, &edges[first..past]);
+        if fault != 0 {
+            return Step::Refused(fault);
+        }
+        let count = head.count + 1;
+        head.count = count;
+        Step::Next(Cursor {
+            at: self.at + RECORD_HEAD + size,
+            last: 5,
+            start: self.start,
+            end: self.end,
+            head,
+        })
     }
 
     // The record at the cursor: refused, or taken.
@@ -143,13 +148,16 @@ impl Cursor {
             return Step::Refused(2);
         }
         let body = &rest[RECORD_HEAD..];
-        let count = edge_count(kind, size);
-        let held = body_numbers(body, count);
-        let numbers = &held[0..count];
-        let fault = body_fault(self, kind, size, body, numbers);
+        let fault = order_fault(self, kind, body);
         if fault != 0 {
             return Step::Refused(fault);
         }
-        Step::Next(self.taken(kind, size, body, numbers, edges))
+        if kind == 5 {
+            return self.take_edge(size, body, edges);
+        }
+        if out_of_range(self.head, kind, body) {
+            return Step::Refused(6);
+        }
+        Step::Next(self.taken(kind, size, body))
     }
 }

@@ -1,14 +1,8 @@
 -- `reader::Cursor::step` meets its contract: the faults in their order, then the record is taken.
-use mathlib.Core.Path.{_≡_}
-use Prim.Native.Nat.{_-_, _/_}
 use native.Mathlib.Omega.{arith}
-use lib.ListN.{take}
 use borrow.Author.Needs.{needs}
-use Rattle.model.proofs.Bytes.{numbersOf}
-use Rattle.reader.specs.Bodies.{numberBytes}
-use Rattle.reader.proofs.BodyNumbers.{front-is}
-use Rattle.reader.proofs.Steps.{restOf, bodyIn, rest-whole, Whole, stops-cut, stops-body, whole-read}
-use Rattle.reader.proofs.Steps.{numbers-fit, body-known, stops-fault, taken-room, goes-on}
+use Rattle.reader.proofs.Steps.{restOf, rest-whole, Whole, stops-cut, stops-body, whole-read, body-known}
+use Rattle.reader.proofs.Steps.{stops-order, edge-room, edge-step, stops-range, taken-room, taken-on}
 use Rattle.reader.proofs.Cursor.step.Statement.{statement}
 use Rattle.reader.proofs.Cursor.step.Tie as tie
 
@@ -24,21 +18,6 @@ whole-at c =
     let start = uncut .before .before .before .before .before in
     whole-read (start .args .file .now) (start .args .self) (uncut .before .cut-short .ensures) (uncut .if1 .left) _ _
     (kind .before .number-at .ensures .0) (kind .number-at2 .ensures .0) (c .before .body-ok .ensures) (c .if2 .left)
-
--- the numbers of an edge
-numbers-at :
-    (c : tie.After-numbers)
-    → let whole = c .before .before .before .before .before in
-    let kind = whole .before .before in
-    let start = kind .before .before .before .before .before .before .before in
-    kind .number-at2 .result ≡ 5
-    → take (c .before .before .before .edge-count .result - 0) (c .before .before .body-numbers .result)
-    ≡ numbersOf (kind .before .number-at .result / numberBytes)
-    (bodyIn (start .args .file .now) (start .args .self .at))
-numbers-at c e =
-    let made = c .before .before in
-    let count = made .before .edge-count in
-    front-is (count .result) _ (made .body-numbers .result) _ (count .ensures .0 e) (made .body-numbers .ensures .0)
 
 sub-rest : tie.Need-sub-rest
 sub-rest c = search needs
@@ -97,44 +76,25 @@ part-body-start c = omega (arith, whole-at c .long)
 part-body-end : tie.Need-part-body-end
 part-body-end c = search needs
 
-edge-count-requires : tie.Need-edge-count-requires
-edge-count-requires c κs = search needs
-
-body-numbers-requires : tie.Need-body-numbers-requires
-body-numbers-requires c κs = numbers-fit (whole-at (c .before .before)) _ (c .edge-count .ensures .1)
-
-sub-numbers : tie.Need-sub-numbers
-sub-numbers c = search needs
-
-part-numbers-start : tie.Need-part-numbers-start
-part-numbers-start c = search needs
-
-part-numbers-end : tie.Need-part-numbers-end
-part-numbers-end c =
-    let made = c .before in
-    let count = made .before in
-    let fits = numbers-fit (whole-at (count .before .before)) _ (count .edge-count .ensures .1) in
-    omega (arith, made .body-numbers .ensures .1, fits .0)
-
-body-fault-requires : tie.Need-body-fault-requires
-body-fault-requires c κs = body-known (whole-at (c .before .before .before .before .before)) (numbers-at c)
+order-fault-requires : tie.Need-order-fault-requires
+order-fault-requires c κs = body-known (whole-at (c .before))
 
 returns-3 : tie.Need-returns-3
 returns-3 c =
-    let fault = c .before in
-    let whole = whole-at (fault .before .before .before .before .before .before) in
-    λ r state. stops-fault whole r _ (fault .body-fault .ensures r (state .holds)) (c .if3 .taken)
+    let order = c .before in
+    let whole = whole-at (order .before .before) in
+    λ r state. stops-order whole r _ (order .order-fault .ensures r (state .holds)) (c .if3 .taken)
 
-taken-requires : tie.Need-taken-requires
-taken-requires c κs =
-    let fault = c .before .before in
-    let numbers = fault .before in
-    let whole = numbers .before .before .before .before .before in
+take-edge-requires : tie.Need-take-edge-requires
+take-edge-requires c κs =
+    let fine = c .before .before in
+    let order = fine .before in
+    let whole = order .before .before in
     let start = whole .before .before .before .before .before .before .before .before .before in
     let r = start .pre .1 .rule in
     let state = start .pre .1 .state in
-    taken-room (whole-at whole) r _ (fault .body-fault .ensures r (state .holds)) (c .before .if3 .left)
-    (start .pre .0) _ state (numbers-at numbers) (search needs)
+    edge-room (whole-at whole) r _ (order .order-fault .ensures r (state .holds)) (fine .if3 .left) (start .pre .0) _
+    state (c .before .if4 .taken) (search needs)
 
 same-length : tie.Need-same-length
 same-length c = search needs
@@ -142,11 +102,53 @@ same-length c = search needs
 returns-4 : tie.Need-returns-4
 returns-4 c =
     let took = c .before .before in
-    let fault = took .before .before .before in
-    let whole = fault .before .before .before .before .before .before in
+    let edge = took .before .before in
+    let order = edge .before .before in
+    let whole = order .before .before in
     let start = whole .before .before .before .before .before .before .before .before .before in
-    λ r state. goes-on (whole-at whole) r _ (fault .body-fault .ensures r (state .holds))
-    (took .before .before .if3 .left) (start .pre .0) _ state (took .taken .ensures)
+    λ r state. edge-step (whole-at whole) r _ (order .order-fault .ensures r (state .holds)) (edge .before .if3 .left)
+    (start .pre .0) _ state (edge .if4 .taken) (took .take-edge .last .1 .1 .1 .0) (took .take-edge .result)
+    (took .take-edge .ensures r (state .holds))
+
+out-of-range-requires : tie.Need-out-of-range-requires
+out-of-range-requires c κs = body-known (whole-at (c .before .before .before .before)) .number
+
+returns-5 : tie.Need-returns-5
+returns-5 c =
+    let range = c .before in
+    let other = range .before in
+    let order = other .before .before in
+    let whole = order .before .before in
+    let start = whole .before .before .before .before .before .before .before .before .before in
+    λ r state. stops-range (whole-at whole) r _ (order .order-fault .ensures r (state .holds))
+    (other .before .if3 .left) (start .pre .0) _ state (other .if4 .left)
+    (range .out-of-range .ensures r (state .holds .head-is) (other .if4 .left)) (c .if5 .taken)
+
+taken-requires : tie.Need-taken-requires
+taken-requires c κs =
+    let range = c .before in
+    let other = range .before in
+    let order = other .before .before in
+    let whole = order .before .before in
+    let start = whole .before .before .before .before .before .before .before .before .before in
+    let r = start .pre .1 .rule in
+    let state = start .pre .1 .state in
+    taken-room (whole-at whole) r _ (order .order-fault .ensures r (state .holds))
+    (other .before .if3 .left) (start .pre .0) _ state (other .if4 .left)
+    (range .out-of-range .ensures r (state .holds .head-is) (other .if4 .left)) (c .if5 .left) (search needs)
+
+returns-6 : tie.Need-returns-6
+returns-6 c =
+    let fine = c .before in
+    let range = fine .before in
+    let other = range .before in
+    let order = other .before .before in
+    let whole = order .before .before in
+    let start = whole .before .before .before .before .before .before .before .before .before in
+    λ r state. taken-on (whole-at whole) r _ (order .order-fault .ensures r (state .holds))
+    (other .before .if3 .left) (start .pre .0) _ state (other .if4 .left)
+    (range .out-of-range .ensures r (state .holds .head-is) (other .if4 .left)) (fine .if5 .left)
+    (c .taken .ensures _)
 
 pub step-spec : {M : Type 1} → statement M
 step-spec =
@@ -164,13 +166,12 @@ step-spec =
     sub-body
     part-body-start
     part-body-end
-    edge-count-requires
-    body-numbers-requires
-    sub-numbers
-    part-numbers-start
-    part-numbers-end
-    body-fault-requires
+    order-fault-requires
     returns-3
-    taken-requires
+    take-edge-requires
     same-length
-    returns-4)
+    returns-4
+    out-of-range-requires
+    returns-5
+    taken-requires
+    returns-6)

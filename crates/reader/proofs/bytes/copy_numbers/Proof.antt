@@ -1,21 +1,20 @@
 -- `reader::bytes::copy_numbers` meets its contract: the numbers up to i, then what stood there.
-use mathlib.Core.Path.{_∙_}
+use mathlib.Core.Path.{refl, _∙_}
 use Prim.Native.Nat.{_-_}
 use lib.ListN.{length}
 use borrow.Author.Needs.{needs}
-use Rattle.model.proofs.Bytes.{numbersOf}
-use Rattle.reader.proofs.BodyNumbers.{Copied, copied-start, copied-bytes, copied-all}
+use Rattle.reader.proofs.Stored.{Copied, copied-next, copied-end}
 use Rattle.reader.proofs.bytes.copy_numbers.Statement.{statement}
 use Rattle.reader.proofs.bytes.copy_numbers.Tie as tie
 
 abbrev Inv-loop : tie.InvT-loop
-Inv-loop bytes out₀ i₀ out i = Copied (numbersOf (length out₀) bytes) out₀ i out
+Inv-loop bytes out₀ i₀ out i = Copied bytes out₀ i out
 
 abbrev μ-loop : tie.MeasureT-loop
 μ-loop bytes out₀ i₀ out i = length out₀ - i
 
 loop-holds : tie.Need-loop-holds Inv-loop μ-loop
-loop-holds c = copied-start _ _
+loop-holds c = record { turns = search needs; wide = refl; is = refl }
 
 number-at-requires : tie.Need-number-at-requires Inv-loop μ-loop
 number-at-requires c κs = search needs
@@ -37,15 +36,15 @@ loop-less c = search needs
 
 loop-again : tie.Need-loop-again Inv-loop μ-loop
 loop-again c =
-    let at-loop = c .before .before .before in
-    copied-bytes _ (at-loop .loop .inv) (search needs) _
-    (c .narrow16 .ensures .1 (search needs) ∙ c .before .number-at .ensures .0)
+    let number-at = c .before .number-at in
+    let l = c .before .before .before .loop in
+    copied-next (l .inv) (search needs) _ (c .narrow16 .ensures .1 (search needs) ∙ number-at .ensures .0)
 
 same-length : tie.Need-same-length Inv-loop μ-loop
 same-length c = search needs
 
 returns : tie.Need-returns Inv-loop μ-loop
-returns c = copied-all _ (c .before .loop .inv) (search needs)
+returns c = copied-end (c .before .loop .inv) (search needs)
 
 pub copy-numbers-spec : {M : Type 1} → statement M
 copy-numbers-spec =
