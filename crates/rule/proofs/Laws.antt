@@ -11,7 +11,7 @@ use lib.ListN.{length, getD, take, drop, drop-of-length-le, length-drop}
 use lib.Seq.{drop-at, drop-cons, drop-drop, length-take-le, take-add, take-take}
 use borrow.Author.Tests.{eqb-true, eqb-false, le-leb, leb-true, lt-leb, ne-eqb}
 use Rattle.model.specs.declared.Head.{Head}
-use Rattle.model.specs.Rules.{Atom, mostAtoms, sizesOk, atomsOk, hasEqual, integerReset}
+use Rattle.model.specs.Rules.{Atom, Edge, mostAtoms, sizesOk, atomsOk, hasEqual, integerReset}
 use Rattle.model.specs.Layout.{edgeFields, atomWidth, edgeWidth, atomsIn, edgeIn, edgeAt}
 use Rattle.model.proofs.Logic.{by-test}
 use Rattle.model.proofs.EdgeTable.{atoms-length}
@@ -104,7 +104,7 @@ sizes-known e p q r = e ∙ rw (p, q, r)
 pub mask-known : {x : Bool} {m n k l : ℕ} → x ≡ ltb m (2 ^ k) → m ≡ n → k ≡ l → x ≡ ltb n (2 ^ l)
 mask-known e p q = e ∙ ap₂ (λ (a b : ℕ). ltb a (2 ^ b)) p q
 
--- Only the numbers of its width say whether the edge at the front of a table is good.
+-- The edge at the front of a table, read from the numbers of its width alone: the same edge, as good.
 part-front :
     (i m : ℕ) (t : List ℕ) → i ≤ m → m ≤ length t → take (m - i) (drop i (take m t)) ≡ take (m - i) (drop i t)
 part-front i m t a b =
@@ -122,26 +122,36 @@ atoms-front n m t a b =
     ∙ (ap (λ (l : List ℕ). atomsIn (length l / atomWidth) l) (take-take (atomWidth * n) m t a)
     ∙ atoms-part n t (omega arith))
 
+pub edge-front : (t : List ℕ) → edgeWidth ≤ length t → getD t 4 0 ≤ mostAtoms → edgeIn (take edgeWidth t) ≡ edgeIn t
+edge-front [] long few = absurd (omega arith)
+edge-front (a ∷ []) long few = absurd (omega arith)
+edge-front (a ∷ b ∷ []) long few = absurd (omega arith)
+edge-front (a ∷ b ∷ c ∷ []) long few = absurd (omega arith)
+edge-front (a ∷ b ∷ c ∷ d ∷ []) long few = absurd (omega arith)
+edge-front (a ∷ b ∷ c ∷ d ∷ n ∷ t) long few =
+    ap (λ (as-are : List Atom). record { source = a; target = b; symbol = c; resets = d; atoms = as-are })
+    (atoms-front n (edgeWidth - edgeFields) t (omega arith) (omega arith))
+
 many-fail : (f m a p u b q v : Bool) → m ≡ false → (f && m && a && p && u) ≡ (f && m && b && q && v)
 many-fail false m a p u b q v e = refl
 many-fail true m a p u b q v e = rw e
 
-edge-front : (h : Head) (t : List ℕ) → edgeWidth ≤ length t → edgeGood h (take edgeWidth t) ≡ edgeGood h t
+good-front : (h : Head) (t : List ℕ) → edgeWidth ≤ length t → edgeGood h (take edgeWidth t) ≡ edgeGood h t
 unfolding edgeGood
-edge-front h [] long = absurd (omega arith)
-edge-front h (a ∷ []) long = absurd (omega arith)
-edge-front h (a ∷ b ∷ []) long = absurd (omega arith)
-edge-front h (a ∷ b ∷ c ∷ []) long = absurd (omega arith)
-edge-front h (a ∷ b ∷ c ∷ d ∷ []) long = absurd (omega arith)
-edge-front h (a ∷ b ∷ c ∷ d ∷ n ∷ t) long =
+good-front h [] long = absurd (omega arith)
+good-front h (a ∷ []) long = absurd (omega arith)
+good-front h (a ∷ b ∷ []) long = absurd (omega arith)
+good-front h (a ∷ b ∷ c ∷ []) long = absurd (omega arith)
+good-front h (a ∷ b ∷ c ∷ d ∷ []) long = absurd (omega arith)
+good-front h (a ∷ b ∷ c ∷ d ∷ n ∷ t) long =
     let table : List ℕ = a ∷ b ∷ c ∷ d ∷ n ∷ t in
     by-test (leb n mostAtoms)
     (λ p.
     let few : n ≤ mostAtoms = leb-true n mostAtoms p in
     ap₂
-    (λ (as-are : List Atom) (unused : Bool).
-    fieldsOk h table && leb n mostAtoms && atomsOk (h .clocks) as-are && (eqb d 0 || hasEqual as-are) && unused)
-    (atoms-front n (edgeWidth - edgeFields) t (omega arith) (omega arith))
+    (λ (e : Edge) (unused : Bool).
+    fieldsOk h table && leb n mostAtoms && atomsOk (h .clocks) (e .atoms) && integerReset e && unused)
+    (edge-front table long few)
     (ap allZero (part-front (edgeFields + atomWidth * n) edgeWidth table (omega arith) long)))
     (many-fail (fieldsOk h table) (leb n mostAtoms) _ _ _ _ _ _)
 
@@ -172,7 +182,7 @@ module _ {h : Head} {count e : ℕ} {t : List ℕ} (inv : Edges h count e t) whe
       tested =
           r
           ∙ (ap (edgeGood h) (part-whole t (edgeWidth * e) edgeWidth)
-          ∙ edge-front h (drop (edgeWidth * e) t) (rw (length-drop (edgeWidth * e) t) (omega arith)))
+          ∙ good-front h (drop (edgeWidth * e) t) (rw (length-drop (edgeWidth * e) t) (omega arith)))
 
       pub edges-fail : not x ≡ true → count ≡ h .count → false ≡ edgesGood h (h .count) t
       edges-fail n c = sym (ap (λ (k : ℕ). edgesGood h k t) (sym c) ∙ (edges-at q ∙ rw (failed tested n)))
