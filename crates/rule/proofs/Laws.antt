@@ -1,22 +1,23 @@
 -- What each test of the code says of the definition that it stands for, over plain variables.
 use mathlib.Core.Path.{_≡_, refl, sym, _∙_, ap, ap₂}
 use mathlib.Core.Bool.{Bool, true, false, _&&_, _||_, not}
-use mathlib.Core.List.{List}
+use mathlib.Core.List.{List, [], _∷_}
 use Prim.Native.Nat.{ℕ, suc, _+_, _-_, _*_, _/_, _^_, _≤_, _<_}
 use native.Mathlib.Omega.{arith}
 use native.Mathlib.Numerals.{add-one}
 use lib.Dec.{eqb, ltb, leb}
 use lib.Bits.{bitOr, or-zero-l, or-add-and, and-le-r}
 use lib.ListN.{length, getD, take, drop, drop-of-length-le, length-drop}
-use lib.Seq.{drop-cons, drop-drop}
-use borrow.Author.Tests.{eqb-true, eqb-false, le-leb, lt-leb, ne-eqb}
+use lib.Seq.{drop-at, drop-cons, drop-drop, length-take-le, take-add, take-take}
+use borrow.Author.Tests.{eqb-true, eqb-false, le-leb, leb-true, lt-leb, ne-eqb}
 use Rattle.model.specs.declared.Head.{Head}
-use Rattle.model.specs.Rules.{Atom, mostAtoms, sizesOk, atomsOk, hasEqual, integerReset}
+use Rattle.model.specs.Rules.{Atom, Edge, mostAtoms, sizesOk, atomsOk, hasEqual, integerReset}
 use Rattle.model.specs.Layout.{edgeFields, atomWidth, edgeWidth, atomsIn, edgeIn, edgeAt}
 use Rattle.model.proofs.Logic.{by-test}
 use Rattle.model.proofs.EdgeTable.{atoms-length}
 use Rattle.numbers.proofs.Answers.{failed, passed}
-use Rattle.numbers.proofs.Parts.{part-rest}
+use Rattle.numbers.proofs.Parts.{part-rest, part-whole}
+use Rattle.edges.specs.Checks.{fieldsOk}
 use Rattle.edges.proofs.EdgeChecks.{atoms-part}
 use Rattle.rule.specs.Checks.{allZero, unusedZero, edgeGood, edgesGood}
 
@@ -103,6 +104,57 @@ sizes-known e p q r = e ∙ rw (p, q, r)
 pub mask-known : {x : Bool} {m n k l : ℕ} → x ≡ ltb m (2 ^ k) → m ≡ n → k ≡ l → x ≡ ltb n (2 ^ l)
 mask-known e p q = e ∙ ap₂ (λ (a b : ℕ). ltb a (2 ^ b)) p q
 
+-- The edge at the front of a table, read from the numbers of its width alone: the same edge, as good.
+part-front :
+    (i m : ℕ) (t : List ℕ) → i ≤ m → m ≤ length t → take (m - i) (drop i (take m t)) ≡ take (m - i) (drop i t)
+part-front i m t a b =
+    let e : m ≡ i + (m - i) = omega arith in
+    ap (take (m - i))
+    (ap (λ (k : ℕ). drop i (take k t)) e
+    ∙ (ap (drop i) (take-add i (m - i) t)
+    ∙ drop-at (take i t) (take (m - i) (drop i t)) i (length-take-le i t (omega arith))))
+    ∙ take-take (m - i) (m - i) (drop i t) (omega arith)
+
+atoms-front :
+    (n m : ℕ) (t : List ℕ) → atomWidth * n ≤ m → m ≤ length t → atomsIn n (take m t) ≡ atomsIn n t
+atoms-front n m t a b =
+    sym (atoms-part n (take m t) (rw (length-take-le m t b) a))
+    ∙ (ap (λ (l : List ℕ). atomsIn (length l / atomWidth) l) (take-take (atomWidth * n) m t a)
+    ∙ atoms-part n t (omega arith))
+
+pub edge-front : (t : List ℕ) → edgeWidth ≤ length t → getD t 4 0 ≤ mostAtoms → edgeIn (take edgeWidth t) ≡ edgeIn t
+edge-front [] long few = absurd (omega arith)
+edge-front (a ∷ []) long few = absurd (omega arith)
+edge-front (a ∷ b ∷ []) long few = absurd (omega arith)
+edge-front (a ∷ b ∷ c ∷ []) long few = absurd (omega arith)
+edge-front (a ∷ b ∷ c ∷ d ∷ []) long few = absurd (omega arith)
+edge-front (a ∷ b ∷ c ∷ d ∷ n ∷ t) long few =
+    ap (λ (as-are : List Atom). record { source = a; target = b; symbol = c; resets = d; atoms = as-are })
+    (atoms-front n (edgeWidth - edgeFields) t (omega arith) (omega arith))
+
+many-fail : (f m a p u b q v : Bool) → m ≡ false → (f && m && a && p && u) ≡ (f && m && b && q && v)
+many-fail false m a p u b q v e = refl
+many-fail true m a p u b q v e = rw e
+
+good-front : (h : Head) (t : List ℕ) → edgeWidth ≤ length t → edgeGood h (take edgeWidth t) ≡ edgeGood h t
+unfolding edgeGood
+good-front h [] long = absurd (omega arith)
+good-front h (a ∷ []) long = absurd (omega arith)
+good-front h (a ∷ b ∷ []) long = absurd (omega arith)
+good-front h (a ∷ b ∷ c ∷ []) long = absurd (omega arith)
+good-front h (a ∷ b ∷ c ∷ d ∷ []) long = absurd (omega arith)
+good-front h (a ∷ b ∷ c ∷ d ∷ n ∷ t) long =
+    let table : List ℕ = a ∷ b ∷ c ∷ d ∷ n ∷ t in
+    by-test (leb n mostAtoms)
+    (λ p.
+    let few : n ≤ mostAtoms = leb-true n mostAtoms p in
+    ap₂
+    (λ (e : Edge) (unused : Bool).
+    fieldsOk h table && leb n mostAtoms && atomsOk (h .clocks) (e .atoms) && integerReset e && unused)
+    (edge-front table long few)
+    (ap allZero (part-front (edgeFields + atomWidth * n) edgeWidth table (omega arith) long)))
+    (many-fail (fieldsOk h table) (leb n mostAtoms) _ _ _ _ _ _)
+
 -- The edges from number e on.
 pub record Edges (h : Head) (count e : ℕ) (t : List ℕ) : Type 0 where
   pub turns : e ≤ count
@@ -122,22 +174,21 @@ module _ {h : Head} {count e : ℕ} {t : List ℕ} (inv : Edges h count e t) whe
       let b : edgeWidth * e + edgeWidth ≡ edgeWidth * (e + 1) = omega arith in
       sym (inv .rest-is) ∙ rw (n, edgesGood, drop-drop edgeWidth (edgeWidth * e) t, b)
 
-  pub edges-fail :
-      {x : Bool} → e < count → x ≡ edgeGood h (take (length t - edgeWidth * e) (drop (edgeWidth * e) t)) → not x ≡ true
-      → count ≡ h .count
-      → false ≡ edgesGood h (h .count) t
-  edges-fail q r n c =
-      sym
-      (ap (λ (k : ℕ). edgesGood h k t) (sym c)
-      ∙ (edges-at q ∙ rw (failed (r ∙ ap (edgeGood h) (part-rest (edgeWidth * e) t)) n)))
+  module _
+      {x : Bool} (q : e < count) (long : edgeWidth * e + edgeWidth ≤ length t)
+      (r : x ≡ edgeGood h (take (edgeWidth * e + edgeWidth - edgeWidth * e) (drop (edgeWidth * e) t)))
+    where
+      tested : x ≡ edgeGood h (drop (edgeWidth * e) t)
+      tested =
+          r
+          ∙ (ap (edgeGood h) (part-whole t (edgeWidth * e) edgeWidth)
+          ∙ good-front h (drop (edgeWidth * e) t) (rw (length-drop (edgeWidth * e) t) (omega arith)))
 
-  pub edges-next :
-      {x : Bool} → e < count → x ≡ edgeGood h (take (length t - edgeWidth * e) (drop (edgeWidth * e) t)) → not x ≡ false
-      → Edges h count (e + 1) t
-  edges-next q r n = record {
-    turns = omega arith;
-    rest-is = sym (edges-at q ∙ rw (passed (r ∙ ap (edgeGood h) (part-rest (edgeWidth * e) t)) n));
-  }
+      pub edges-fail : not x ≡ true → count ≡ h .count → false ≡ edgesGood h (h .count) t
+      edges-fail n c = sym (ap (λ (k : ℕ). edgesGood h k t) (sym c) ∙ (edges-at q ∙ rw (failed tested n)))
+
+      pub edges-next : not x ≡ false → Edges h count (e + 1) t
+      edges-next n = record { turns = omega arith; rest-is = sym (edges-at q ∙ rw (passed tested n)) }
 
   pub edges-end :
       {x : Bool} → count ≤ e → x ≡ allZero (take (length t - edgeWidth * count) (drop (edgeWidth * count) t))

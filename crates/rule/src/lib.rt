@@ -84,7 +84,8 @@ pub(crate) fn head_ok(head: Head) -> bool
     wide32(head.count) <= MOST_EDGES
 }
 
-// Every edge, then zeros up to the end of the table.
+// Every edge, then zeros up to the end of the table. An edge is handed on at its fixed length, so that reading it
+// needs no tests of that.
 pub(crate) fn edges_ok(head: Head, edges: &[u16]) -> bool
     requires { ⌜ (head .count ≤ mostEdges) × (edgeNeed ≤ length (now edges)) ⌝ }
     ensures { λ r. ⌜ r ≡ edgesGood head (head .count) (now (edges .entry)) ⌝ }
@@ -93,7 +94,8 @@ pub(crate) fn edges_ok(head: Head, edges: &[u16]) -> bool
     let mut e: usize = 0;
     while e < count {
         let at = EDGE_WIDTH * e;
-        if !edge_ok(head, &edges[at..]) {
+        let end = at + EDGE_WIDTH;
+        if !edge_ok(head, &edges[at..end]) {
             return false;
         }
         e += 1;

@@ -1,6 +1,6 @@
 -- What is still to be put at each turn of a loop: the next record, then those after it; and an edge's record out of
 -- its places in the table.
-use mathlib.Core.Path.{_≡_, refl, sym, _∙_, ap}
+use mathlib.Core.Path.{_≡_, refl, sym, _∙_, ap, subst}
 use mathlib.Core.Bool.{Bool, true, false}
 use mathlib.Core.List.{List, [], _∷_, _++_}
 use Prim.Native.Nat.{ℕ, zero, suc, _+_, _-_, _*_, _≤_, _<_}
@@ -9,14 +9,15 @@ use native.Mathlib.Numerals.{add-one}
 use lib.ListN.{length, getD, take, drop, length-drop, drop-of-length-le}
 use lib.Seq.{drop-cons, length-take-le}
 use Rattle.model.specs.Basics.{pick, bit, bitsFrom}
-use Rattle.model.specs.Rules.{mostAtoms, mostLocations}
+use Rattle.model.specs.Rules.{Edge, mostAtoms, mostLocations}
 use Rattle.model.specs.Files.{two, numbers, locationRecords, ceilingRecord, atomNumbers, edgeRecord, edgeRecords}
 use Rattle.model.specs.Layout.{edgeFields, atomWidth, edgeWidth, edgeIn, edgesIn}
 use Rattle.model.proofs.Bytes.{numbers-length}
 use Rattle.model.proofs.EdgeTable.{edges-rest, atoms-length}
 use Rattle.model.proofs.FileRead.{edge-record-length}
-use Rattle.numbers.proofs.Parts.{part-rest}
+use Rattle.numbers.proofs.Parts.{part-whole}
 use Rattle.edges.proofs.EdgeChecks.{fields-taken, atom-numbers}
+use Rattle.rule.proofs.Laws.{edge-front}
 use Rattle.writer.specs.Writing.{numberBytes, fieldsBody, atomBody, Puts, Table}
 use Rattle.writer.proofs.Putting.{Putting, then-put, put-wide, putting-start, putting-room, putting-next}
 
@@ -191,25 +192,45 @@ edges-begin count t out at room =
 
 -- the part of the table that is lent for edge e
 abbrev part : List ℕ → ℕ → List ℕ
-part t e = take (length t - edgeWidth * e) (drop (edgeWidth * e) t)
+part t e = take (edgeWidth * e + edgeWidth - edgeWidth * e) (drop (edgeWidth * e) t)
 
 module _
     (t : List ℕ) (count e : ℕ) {all was out : List ℕ} {at next : ℕ}
     (inv : Putting all (edgeRecords (edgesIn (count - e) (drop (edgeWidth * e) t))) was at out next) (h : e < count)
+    (table : Table count t)
   where
-    pub edge-fits :
-        Table count t
-        → (edgeWidth ≤ length (part t e)) × (length (edgeIn (part t e) .atoms) ≤ mostAtoms)
-        × (next + length (edgeRecord (edgeIn (part t e))) ≤ length out)
-    edge-fits table =
-        rw (part-rest (edgeWidth * e) t) (
-          omega (arith, length-drop (edgeWidth * e) t, table .long, table .count-most),
+    long : edgeWidth ≤ length (drop (edgeWidth * e) t)
+    long = omega (arith, length-drop (edgeWidth * e) t, table .long, table .count-most)
+
+    edge-is : edgeIn (part t e) ≡ edgeIn (drop (edgeWidth * e) t)
+    edge-is =
+        ap edgeIn (part-whole t (edgeWidth * e) edgeWidth)
+        ∙ edge-front (drop (edgeWidth * e) t) long
+        (omega (
+          arith,
           table .few e h,
-          putting-room inv (edgeRecord (edgeIn (drop (edgeWidth * e) t)))
-              (edgeRecords (edgesIn (count - (e + 1)) (drop (edgeWidth * (e + 1)) t))) (edge-records-rest count e t h),
-        )
+          atoms-length (getD (drop (edgeWidth * e) t) 4 0) (drop edgeFields (drop (edgeWidth * e) t)),
+        ))
+
+    wide : edgeWidth ≤ length (part t e)
+    wide =
+        rw (part-whole t (edgeWidth * e) edgeWidth)
+        (omega (arith, length-take-le edgeWidth (drop (edgeWidth * e) t) long))
+
+    pub edge-fits :
+        (edgeWidth ≤ length (part t e)) × (length (edgeIn (part t e) .atoms) ≤ mostAtoms)
+        × (next + length (edgeRecord (edgeIn (part t e))) ≤ length out)
+    edge-fits = (
+      wide,
+      subst (λ (x : Edge). length (x .atoms) ≤ mostAtoms) (sym edge-is) (table .few e h),
+      subst (λ (x : Edge). next + length (edgeRecord x) ≤ length out) (sym edge-is)
+          (putting-room inv (edgeRecord (edgeIn (drop (edgeWidth * e) t)))
+          (edgeRecords (edgesIn (count - (e + 1)) (drop (edgeWidth * (e + 1)) t))) (edge-records-rest count e t h)),
+    )
 
     pub edge-next :
         {next′ : ℕ} {out′ : List ℕ} → Puts (edgeRecord (edgeIn (part t e))) out next out′ next′
         → Putting all (edgeRecords (edgesIn (count - (e + 1)) (drop (edgeWidth * (e + 1)) t))) was at out′ next′
-    edge-next p = putting-next inv (edge-records-rest count e t h) (rw (part-rest (edgeWidth * e) t) at p)
+    edge-next {next′} {out′} p =
+        putting-next inv (edge-records-rest count e t h)
+        (subst (λ (x : Edge). Puts (edgeRecord x) out next out′ next′) edge-is p)

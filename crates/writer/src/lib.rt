@@ -158,6 +158,7 @@ pub(crate) fn put_edge(out: &mut [u8], at: usize, edge: &[u16]) -> usize
     put_numbers(out, atoms, &edge[EDGE_FIELDS..past])
 }
 
+// An edge is handed on at its fixed length, so that reading it needs no test of that.
 pub(crate) fn put_edges(out: &mut [u8], at: usize, edges: &[u16], count: usize) -> usize
     requires { ⌜
         Table count (now edges) × (at + length (edgeRecords (edgesIn count (now edges))) ≤ length (now out))
@@ -170,7 +171,8 @@ pub(crate) fn put_edges(out: &mut [u8], at: usize, edges: &[u16], count: usize) 
     let mut e: usize = 0;
     while e < count {
         let first = EDGE_WIDTH * e;
-        next = put_edge(out, next, &edges[first..]);
+        let end = first + EDGE_WIDTH;
+        next = put_edge(out, next, &edges[first..end]);
         e += 1;
     }
     next

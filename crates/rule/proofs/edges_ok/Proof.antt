@@ -20,6 +20,9 @@ loop-holds c = edges-start _ _ _
 mul-at : tie.Need-mul-at Inv-loop μ-loop
 mul-at c = search needs
 
+add-end : tie.Need-add-end Inv-loop μ-loop
+add-end c = search needs
+
 mul-edge-ok : tie.Need-mul-edge-ok Inv-loop μ-loop
 mul-edge-ok c = search needs
 
@@ -38,7 +41,7 @@ edge-ok-requires c κs = search needs
 returns : tie.Need-returns Inv-loop μ-loop
 returns c =
     let at-loop = c .before .before .before .before in
-    edges-fail (at-loop .loop .inv) (search needs) (c .before .edge-ok .ensures) (c .if1 .taken)
+    edges-fail (at-loop .loop .inv) (search needs) (search needs) (c .before .edge-ok .ensures) (c .if1 .taken)
     (at-loop .before .wide32 .ensures .0)
 
 add-e : tie.Need-add-e Inv-loop μ-loop
@@ -51,7 +54,7 @@ loop-again : tie.Need-loop-again Inv-loop μ-loop
 loop-again c =
     let edge-ok = c .before .edge-ok in
     let l = c .before .before .before .before .loop in
-    edges-next (l .inv) (search needs) (edge-ok .ensures) (c .if1 .left)
+    edges-next (l .inv) (search needs) (search needs) (edge-ok .ensures) (c .if1 .left)
 
 mul-past : tie.Need-mul-past Inv-loop μ-loop
 mul-past c = search needs
@@ -86,6 +89,7 @@ edges-ok-spec =
     wide32-requires
     loop-holds
     mul-at
+    add-end
     mul-edge-ok
     sub-edge-ok
     part-edge-ok-start

@@ -27,6 +27,9 @@ loop-holds c =
 mul-first : tie.Need-mul-first Inv-loop μ-loop
 mul-first c = search needs
 
+add-end : tie.Need-add-end Inv-loop μ-loop
+add-end c = search needs
+
 mul-put-edge : tie.Need-mul-put-edge Inv-loop μ-loop
 mul-put-edge c = search needs
 
@@ -55,8 +58,11 @@ loop-again : tie.Need-loop-again Inv-loop μ-loop
 loop-again c =
     let put-edge = c .before .before .put-edge in
     let l = c .before .before .before .before .before .before .loop in
-    let a = c .before .before .before .before .before .before .before .before .before .args in
-    (search needs, edge-next (a .edges .now) (a .count) (l .e) (l .inv .1) (search needs) (put-edge .ensures))
+    let start = c .before .before .before .before .before .before .before .before .before in (
+      search needs,
+      edge-next (start .args .edges .now) (start .args .count) (l .e) (l .inv .1) (search needs) (start .pre .0)
+          (put-edge .ensures),
+    )
 
 same-length : tie.Need-same-length Inv-loop μ-loop
 same-length c = c .before .loop .inv .1 .wide
@@ -75,6 +81,7 @@ put-edges-spec =
     μ-loop
     loop-holds
     mul-first
+    add-end
     mul-put-edge
     sub-put-edge
     part-put-edge-start
