@@ -1,26 +1,22 @@
--- 21 is what the direct test finds, and what a call that passes has shown: the rule is valid, and head record and edge
--- table are what that rule becomes.
-use mathlib.Core.Path.{_≡_, refl, _∙_, ap}
-use mathlib.Core.Bool.{Bool, true, false, _&&_, not}
+-- 21 is what the direct test finds: the rule is valid, and head record and edge table are what that rule becomes.
+use mathlib.Core.Path.{_≡_, refl, _∙_}
+use mathlib.Core.Bool.{Bool, true, false, _&&_}
 use mathlib.Core.List.{List}
 use Prim.Native.Nat.{ℕ, _+_, _-_, _^_, _≤_, _<_}
 use native.Mathlib.Omega.{arith}
 use lib.Dec.{ltb, leb}
 use lib.ListN.{length}
-use borrow.Author.Tests.{le-leb, leb-true, ltb-true, ltb-false, eq-eqb, not-false, lt-ltb, le-ltb}
+use borrow.Author.Tests.{le-leb, leb-true, ltb-true, eq-eqb, lt-ltb, le-ltb}
 use Rattle.model.specs.declared.Head.{Head}
-use Rattle.model.specs.declared.Answer.{Answer}
-use Rattle.model.specs.Basics.{filled, same, maskOf, Refusal, refusal, fine, refuse, _⨾_}
+use Rattle.model.specs.Basics.{filled, same, maskOf}
 use Rattle.model.specs.Rules.{Edge, rule, Rule, largestOf, cm, pairCount, mostPairs, mostEdges, sizesOk, rising}
 use Rattle.model.specs.Rules.{mostClocks, mostConstant, mostLocations, edgesOk, validRule}
 use Rattle.model.specs.Layout.{edgesNumbers, edgeNeed, edgeTable, edgesIn, locationsIn, ruleIn}
 use Rattle.model.specs.Layout.{isReadable, ruleRefusal}
 use Rattle.model.specs.Promises.{ChecksRule}
 use Rattle.model.proofs.Logic.{same-truth, and-left, and-right, larger-most}
-use Rattle.model.proofs.Refusals.{refused-false, first-passes, then-passes}
 use Rattle.model.proofs.Valid.{Sizes, sizes-of}
 use Rattle.model.proofs.TopMost.{edges-top}
-use Rattle.model.proofs.Readable.{rule-settled, readable-of}
 use Rattle.model.proofs.MaskSets.{mask-below, bits-rise, mask-again}
 use Rattle.model.proofs.EdgeTable.{edges-length}
 use Rattle.edges.specs.Powers.{smallPairs}
@@ -118,43 +114,6 @@ pairs-good h t p q long edges e =
       le-leb (h .clocks) mostClocks (good .sizes .clocks-most),
       le-leb (cm (ruleIn h t)) mostConstant (good-top h t good long edges),
     )
-
--- What a call that passes has shown: 20 and 21 do not refuse, so that the rule is valid, and head record and edge table
--- are what that rule becomes.
-pub record Checked (h : Head) (t : List ℕ) : Type 0 where
-  pub passes-both : ruleRefusal h t ≡ fine
-  pub long : edgeNeed ≤ length t
-  pub readable : isReadable h t ≡ true
-  pub valid : validRule (ruleIn h t) ≡ true
-  pub starts-are : maskOf (ruleIn h t .initial) ≡ h .starts
-  pub ends-are : maskOf (ruleIn h t .final) ≡ h .ends
-  pub table-is : edgeTable (length t) (ruleIn h t) ≡ t
-
--- the refusal that a call answers
-pub refusal-is :
-    {h : Head} {t : List ℕ} {answer : Answer} → ChecksRule h t answer
-    → ruleRefusal h t ≡ refusal (answer .number) (answer .place)
-refusal-is q = rw (q .answer-is)
-
-pub passed-checked :
-    {h : Head} {t : List ℕ} {answer : Answer} → ChecksRule h t answer → answer .number ≡ 0 → Checked h t
-unfolding ruleRefusal
-passed-checked {h} {t} q e =
-    let f : Refusal = refuse (ltb (length t) edgeNeed) 20 0 in
-    let g : Refusal = refuse (not (isReadable h t)) 21 0 in
-    let z : (f ⨾ g) .number ≡ 0 = ap (λ (x : Refusal). x .number) (refusal-is q) ∙ e in
-    let fits : isReadable h t ≡ true =
-    not-false (isReadable h t) (refused-false (not (isReadable h t)) 20 0 (then-passes f g z)) in
-    let own = readable-of h t fits in
-    record {
-      passes-both = rule-settled h t z;
-      long = ltb-false (length t) edgeNeed (refused-false (ltb (length t) edgeNeed) 19 0 (first-passes f g z));
-      readable = fits;
-      valid = own .valid;
-      starts-are = own .starts-are;
-      ends-are = own .ends-are;
-      table-is = own .table-is;
-    }
 
 -- the three answers
 pub answers-short :
