@@ -20,8 +20,8 @@ use numbers::clear32;
 use numbers::narrow32;
 use numbers::wide32;
 
-// Where the codes of a row start in the pool. A build spends most of its time in the search: its rows are known to lie in
-// their table, so no place is tested here, as `tables` does.
+// Where the codes of a row start in the pool. A build spends most of its time in the search: its rows are known to lie
+// in their table, so no place is tested here, as `tables` does.
 pub(crate) fn start_in(rows: &[u32], row: usize) -> usize
     requires { ⌜ rowWidth * row + rowWidth ≤ length (now rows) ⌝ }
     ensures { λ r. ⌜ (r ≡ rowStart (now (rows .entry)) row) × (r < 2 ^ 32) ⌝ }

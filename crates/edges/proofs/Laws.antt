@@ -128,5 +128,6 @@ pub exponent-high : (base exponent : ℕ) → base < mostPairs → mostClocks < 
 exponent-high base exponent h g = rw (lt-ltb base mostPairs h, lt-leb exponent mostClocks g)
 
 pub power-is :
-    (base exponent r : ℕ) → base < mostPairs → exponent ≤ mostClocks → r ≡ base ^ exponent → r ≡ smallPower base exponent
+    (base exponent r : ℕ) → base < mostPairs → exponent ≤ mostClocks → r ≡ base ^ exponent
+    → r ≡ smallPower base exponent
 power-is base exponent r h g e = rw (lt-ltb base mostPairs h, le-leb exponent mostClocks g) e

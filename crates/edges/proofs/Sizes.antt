@@ -35,7 +35,9 @@ power-most : (bases k : ℕ) → bases ≤ 32 → k ≤ mostClocks → bases ^ k
 power-most bases k p q =
     le-trans (pow-le-pow-left p k) (pow-le-pow-right {n = 32} (omega arith) {i = k} {j = 4} q)
 
-pub pairs-fit : (l top k p : ℕ) → l ≤ mostLocations → top ≤ mostConstant → k ≤ mostClocks → p ≡ smallPower (top + 2) k → l * p ≤ 32 * 32 ^ 4
+pub pairs-fit :
+    (l top k p : ℕ) → l ≤ mostLocations → top ≤ mostConstant → k ≤ mostClocks → p ≡ smallPower (top + 2) k
+    → l * p ≤ 32 * 32 ^ 4
 pairs-fit l top k p a b c e =
     rw (e, power-known (top + 2) k (omega arith) c) (mul-le-mul a (power-most (top + 2) k (omega arith) c))
 

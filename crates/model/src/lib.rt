@@ -2,7 +2,8 @@
 ghost use mathlib.Core.Path.{_≡_};
 ghost use Prim.Native.Nat.{_-_};
 
-// The limits of document 01 and the layout of the lent tables. Each has its name in specs/, as `edgeWidth` for EDGE_WIDTH.
+// The limits of document 01 and the layouts of file and tables. Each has its name in specs/, as `edgeWidth` for
+// EDGE_WIDTH; what is a place inside an edge or a row has none.
 pub const MOST_LOCATIONS: usize = 32;
 
 pub const MOST_SYMBOLS: usize = 16;
@@ -26,6 +27,20 @@ pub const MOST_EVENTS: usize = 4096;
 pub const MOST_BRANCH_EVENTS: usize = 12;
 
 pub const MOST_ROWS: usize = 4096;
+
+// Bytes of a file: of a number, of body length and kind, of the bodies of sizes, an edge's four fields, an atom and the
+// longest edge.
+pub const NUMBER_BYTES: usize = 2;
+
+pub const RECORD_HEAD: usize = 4;
+
+pub const SIZES_BODY: usize = 6;
+
+pub const FIELDS_BODY: usize = 8;
+
+pub const ATOM_BODY: usize = 6;
+
+pub const MOST_BODY: usize = 56;
 
 // An edge of the table: source, target, symbol, reset mask, atom count, then eight atoms of clock, relation, constant.
 pub const EDGE_SOURCE: usize = 0;

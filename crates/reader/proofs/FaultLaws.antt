@@ -15,7 +15,7 @@ use Rattle.numbers.proofs.Answers.{failed, passed}
 use Rattle.edges.specs.Checks.{fieldsOk}
 use Rattle.edges.proofs.EdgeChecks.{atoms-part}
 use Rattle.reader.specs.declared.Cursor.{Cursor}
-use Rattle.reader.specs.Bodies.{numberBytes, sizesBody}
+use Rattle.model.specs.Files.{numberBytes, sizesBody}
 use Rattle.reader.specs.State.{Holds, orderFault, edgeFault, Standing}
 
 or-none : (a : Bool) → a ≡ (a || false)

@@ -19,7 +19,7 @@ use Rattle.numbers.proofs.Parts.{part-rest}
 use Rattle.reader.specs.declared.Cursor.{Cursor}
 use Rattle.reader.specs.declared.Step.{Step}
 use Rattle.reader.specs.declared.Step.the-variants.{Next, Refused}
-use Rattle.reader.specs.Bodies.{numberBytes, sizesBody, fieldsBody, atomBody, mostBody}
+use Rattle.model.specs.Files.{numberBytes, sizesBody, fieldsBody, atomBody, mostBody}
 use Rattle.reader.specs.State.{numbered, bodyRefusal, orderFault, edgeFault, Body, Room, Takes, EdgeRoom}
 use Rattle.reader.specs.State.{EdgeIs, State, Goes-on, Stops, StepIs}
 use Rattle.reader.proofs.Allowed.{room-for, edge-zero, state-after}

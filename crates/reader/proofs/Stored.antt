@@ -15,7 +15,7 @@ use Rattle.model.proofs.Bytes.{numbersOf, number-later, atom-numbers-length}
 use Rattle.model.proofs.EdgesWritten.{edge-numbers-length}
 use Rattle.model.proofs.FileSoFar.{atoms-from-length}
 use Rattle.numbers.proofs.Parts.{part-rest}
-use Rattle.reader.specs.Bodies.{fieldsBody, atomBody, mostBody}
+use Rattle.model.specs.Files.{fieldsBody, atomBody, mostBody}
 use Rattle.reader.specs.State.{Places}
 
 -- one number more

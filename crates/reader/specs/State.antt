@@ -14,7 +14,7 @@ use Rattle.model.specs.Layout.{edgeNeed, edgeWidth, headOf, noHead, edgeNumbers
 use Rattle.model.specs.Promises.{readingOf}
 use Rattle.model.proofs.FileSteps.{recordLength, ruleAfter}
 use Rattle.model.proofs.FileSoFar.{So-far}
-use Rattle.reader.specs.Bodies.{numberBytes, sizesBody, fieldsBody, mostBody}
+use Rattle.model.specs.Files.{numberBytes, sizesBody, fieldsBody, mostBody}
 use Rattle.reader.specs.declared.Cursor.{Cursor}
 use Rattle.reader.specs.declared.Step.{Step}
 use Rattle.reader.specs.declared.Step.the-variants.{Next, Refused}

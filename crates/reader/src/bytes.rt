@@ -1,27 +1,14 @@
-// Numbers of a file: two bytes each, low byte first. The names of the lengths have their twins in specs/Bodies.antt.
+// Numbers of a file: two bytes each, low byte first.
 ghost use mathlib.Core.Path.{_≡_};
 ghost use Prim.Native.Nat.{_+_, _*_, _^_, _≤_, _<_};
 ghost use lib.ListN.{length};
 ghost use Rattle.model.specs.Rules.{mostLocations};
 ghost use Rattle.model.specs.Files.{numberAt};
 ghost use Rattle.model.proofs.Bytes.{numbersOf};
-ghost use Rattle.reader.specs.Bodies.{numberBytes};
+ghost use Rattle.model.specs.Files.{numberBytes};
+use model::NUMBER_BYTES;
 use numbers::narrow16;
 use numbers::wide8;
-
-pub(crate) const NUMBER_BYTES: usize = 2;
-
-// Body length and kind, in front of every body.
-pub(crate) const RECORD_HEAD: usize = 4;
-
-// The bodies by their bytes: the sizes, an edge's four fields, an atom, the longest edge.
-pub(crate) const SIZES_BODY: usize = 6;
-
-pub(crate) const FIELDS_BODY: usize = 8;
-
-pub(crate) const ATOM_BODY: usize = 6;
-
-pub(crate) const MOST_BODY: usize = 56;
 
 // Number `i` of a list of bytes.
 pub(crate) fn number_at(bytes: &[u8], i: usize) -> usize

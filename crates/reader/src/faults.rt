@@ -6,20 +6,20 @@ ghost use lib.ListN.{length};
 ghost use Rattle.model.specs.Rules.{Rule};
 ghost use Rattle.model.specs.Files.{edgeBody, bodyOk, cutShort, outOfOrder, oneTooMany, badSizes, outOfRange};
 ghost use Rattle.model.specs.Layout.{headOf};
-ghost use Rattle.reader.specs.Bodies.{numberBytes, sizesBody};
+ghost use Rattle.model.specs.Files.{numberBytes, sizesBody};
 ghost use Rattle.reader.specs.State.{Holds, orderFault, Body};
 use crate::Cursor;
-use crate::bytes::ATOM_BODY;
-use crate::bytes::FIELDS_BODY;
-use crate::bytes::MOST_BODY;
-use crate::bytes::NUMBER_BYTES;
-use crate::bytes::RECORD_HEAD;
-use crate::bytes::SIZES_BODY;
 use crate::bytes::number_at;
 use edges::sizes_ok;
+use model::ATOM_BODY;
+use model::FIELDS_BODY;
 use model::Head;
+use model::MOST_BODY;
 use model::MOST_CONSTANT;
 use model::MOST_EDGES;
+use model::NUMBER_BYTES;
+use model::RECORD_HEAD;
+use model::SIZES_BODY;
 use numbers::wide32;
 
 // 1: fewer than 4 bytes left, or the body passes the end.

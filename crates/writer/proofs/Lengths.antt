@@ -13,7 +13,8 @@ use Rattle.model.specs.Layout.{edgeWidth, edgeAt, edgesIn, locationsIn, ruleIn}
 use Rattle.model.proofs.Logic.{by-test}
 use Rattle.model.proofs.FileLengths.{file-length}
 use Rattle.model.proofs.FileRead.{edge-record-length}
-use Rattle.writer.specs.Writing.{atomBody, sizesLength, singleLength, edgeLength, Table}
+use Rattle.model.specs.Files.{atomBody}
+use Rattle.writer.specs.Writing.{sizesLength, singleLength, edgeLength, Table}
 use Rattle.writer.proofs.Records.{bits-rest, bits-none, edge-records-rest, edge-records-none}
 
 -- the locations counted so far, and those still to come

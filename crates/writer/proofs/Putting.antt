@@ -7,7 +7,8 @@ use native.Mathlib.Numerals.{add-one}
 use lib.ListN.{length, set, length-append}
 use lib.Seq.{sets, length-sets}
 use Rattle.model.specs.Files.{two}
-use Rattle.writer.specs.Writing.{numberBytes, Puts}
+use Rattle.model.specs.Files.{numberBytes}
+use Rattle.writer.specs.Writing.{Puts}
 
 sets-append : (xs ys l : List ℕ) (i : ℕ) → sets l i (xs ++ ys) ≡ sets (sets l i xs) (i + length xs) ys
 sets-append [] ys l i = let e : i + 0 ≡ i = omega arith in rw e

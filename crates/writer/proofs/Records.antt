@@ -18,7 +18,8 @@ use Rattle.model.proofs.FileRead.{edge-record-length}
 use Rattle.numbers.proofs.Parts.{part-whole}
 use Rattle.edges.proofs.EdgeChecks.{fields-taken, atom-numbers}
 use Rattle.rule.proofs.Laws.{edge-front}
-use Rattle.writer.specs.Writing.{numberBytes, fieldsBody, atomBody, Puts, Table}
+use Rattle.model.specs.Files.{numberBytes, fieldsBody, atomBody}
+use Rattle.writer.specs.Writing.{Puts, Table}
 use Rattle.writer.proofs.Putting.{Putting, then-put, put-wide, putting-start, putting-room, putting-next}
 
 -- a table's numbers

@@ -7,7 +7,8 @@ use lib.ListN.{length}
 use Rattle.model.specs.declared.Head.{Head}
 use Rattle.model.specs.Files.{numbers, locationRecords, ceilingRecord, edgeRecords, ruleBytes}
 use Rattle.model.specs.Layout.{edgesIn, locationsIn, ruleIn}
-use Rattle.writer.specs.Writing.{sizesBody, sizesLength, Puts, Fits}
+use Rattle.model.specs.Files.{sizesBody}
+use Rattle.writer.specs.Writing.{sizesLength, Puts, Fits}
 use Rattle.writer.proofs.Putting.{Putting, putting-start, putting-room, putting-next, putting-end}
 
 -- the next part under another name

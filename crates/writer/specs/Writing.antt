@@ -6,21 +6,8 @@ use lib.ListN.{length}
 use lib.Seq.{sets}
 use Rattle.model.specs.declared.Head.{Head}
 use Rattle.model.specs.Rules.{mostAtoms, mostClocks, mostConstant, mostEdges, mostLocations, mostSymbols}
-use Rattle.model.specs.Files.{recordHead, ruleBytes}
+use Rattle.model.specs.Files.{recordHead, numberBytes, sizesBody, fieldsBody, ruleBytes}
 use Rattle.model.specs.Layout.{edgeNeed, edgeAt, ruleIn}
-
--- bytes: of a number, of the sizes' body, of an edge's four fields, of an atom
-abbrev pub numberBytes : ℕ
-numberBytes = 2
-
-abbrev pub sizesBody : ℕ
-sizesBody = 6
-
-abbrev pub fieldsBody : ℕ
-fieldsBody = 8
-
-abbrev pub atomBody : ℕ
-atomBody = 6
 
 -- bytes of whole records: of the sizes, of one number, of an edge without atoms
 abbrev pub sizesLength : ℕ

@@ -9,30 +9,26 @@ ghost use Rattle.model.specs.Files.{recordHead, two, numbers, locationRecords, 
 ghost use Rattle.model.specs.Files.{ruleBytes};
 ghost use Rattle.model.specs.Layout.{edgeWidth, edgeIn, edgesIn, locationsIn, ruleIn};
 ghost use Rattle.model.specs.Promises.{WritesRule};
-ghost use Rattle.writer.specs.Writing.{numberBytes, sizesBody, atomBody, sizesLength, singleLength, edgeLength};
+ghost use Rattle.model.specs.Files.{numberBytes, sizesBody, atomBody};
+ghost use Rattle.writer.specs.Writing.{sizesLength, singleLength, edgeLength};
 ghost use Rattle.writer.specs.Writing.{Puts, Table, Writable, Fits};
 use edges::fields::count_of;
+use model::ATOM_BODY;
 use model::ATOM_WIDTH;
 use model::Answer;
 use model::EDGE_COUNT;
 use model::EDGE_FIELDS;
 use model::EDGE_WIDTH;
+use model::FIELDS_BODY;
 use model::Head;
 use model::MOST_LOCATIONS;
+use model::NUMBER_BYTES;
+use model::SIZES_BODY;
 use numbers::has_bit;
 use numbers::narrow8;
 use numbers::wide16;
 use numbers::wide32;
 use rule::check_rule;
-
-// Bytes: of a number, of the sizes' body, of an edge's four fields, of an atom.
-const NUMBER_BYTES: usize = 2;
-
-const SIZES_BODY: usize = 6;
-
-const FIELDS_BODY: usize = 8;
-
-const ATOM_BODY: usize = 6;
 
 // Bytes of whole records: of the sizes, of one number, of an edge without atoms.
 const SIZES_LENGTH: usize = 10;

@@ -74,7 +74,8 @@ returns c =
     let a = s .args in
     cell-made (ruleIn (a .head) (a .edges .now)) (a .row) (a .input) (rowsIn (a .p .rows) (a .rows .now) (a .pool .now))
     (after-mark-next .mark-next .result) (after-place-marks .place-marks .result) _
-    (part-is (a .rows .now) (a .pool .now) (a .p) (a .row) _ _ (s .pre .0 .row-below) (w .before .before .start-in .ensures .0)
+    (part-is (a .rows .now) (a .pool .now) (a .p) (a .row) _ _ (s .pre .0 .row-below)
+    (w .before .before .start-in .ensures .0)
     (w .length-in .ensures .0))
     (after-mark-next .mark-next .kept .1 .1 .1 .1 .1 .1 .0)
     (after-mark-next .mark-next .ensures)

@@ -47,7 +47,8 @@ fits :
     s .start-in .result + w .length-in .result ≤ length (Entry w .args .pool .now))
 fits s =
     let w = s .before .before in
-    row-fits (Entry w .args .codes .now) _ _ (Entry w .pre) (more w) (s .start-in .ensures .0) (w .length-in .ensures .0)
+    row-fits (Entry w .args .codes .now) _ _ (Entry w .pre) (more w) (s .start-in .ensures .0)
+    (w .length-in .ensures .0)
 
 loop-holds : tie.Need-loop-holds Inv-codes μ-codes Inv-loop μ-loop
 loop-holds c = searching _ _ _ _

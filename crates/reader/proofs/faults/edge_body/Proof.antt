@@ -1,6 +1,6 @@
 -- `reader::faults::edge_body` meets its contract.
 use borrow.Author.Tests.{le-leb, lt-leb}
-use Rattle.reader.specs.Bodies.{fieldsBody, mostBody}
+use Rattle.model.specs.Files.{fieldsBody, mostBody}
 use Rattle.reader.proofs.faults.edge_body.Statement.{statement}
 use Rattle.reader.proofs.faults.edge_body.Tie as tie
 
