@@ -1,8 +1,8 @@
--- `pairs::guards::meets` meets its contract, relation by relation.
-use Rattle.pairs.proofs.GuardTests.{related-less, related-at-most, related-equal, related-at-least}
-use Rattle.pairs.proofs.GuardTests.{related-other}
-use Rattle.pairs.proofs.guards.meets.Statement.{statement}
-use Rattle.pairs.proofs.guards.meets.Tie as tie
+-- `guards::relate` meets its contract, relation by relation.
+use Rattle.guards.proofs.Laws.{related-less, related-at-most, related-equal, related-at-least}
+use Rattle.guards.proofs.Laws.{related-other}
+use Rattle.guards.proofs.relate.Statement.{statement}
+use Rattle.guards.proofs.relate.Tie as tie
 
 returns : tie.Need-returns
 returns c = related-less (c .before .args .relation) (c .before .args .value) (c .before .args .limit) (c .match .keys1)
@@ -25,5 +25,5 @@ returns-5 c =
     related-other (c .before .args .relation) (c .before .args .value) (c .before .args .limit) (n .0 .0 .0 .1)
     (n .0 .0 .1) (n .0 .1) (n .1)
 
-pub meets-spec : {M : Type 1} → statement M
-meets-spec = tie.close (tie.spec returns returns-2 returns-3 returns-4 returns-5)
+pub relate-spec : {M : Type 1} → statement M
+relate-spec = tie.close (tie.spec returns returns-2 returns-3 returns-4 returns-5)
