@@ -8,16 +8,23 @@ use Rattle.ages.proofs.can_take.Tie as tie
 leaves-requires : tie.Need-leaves-requires
 leaves-requires c κs = search needs
 
+readings-requires : tie.Need-readings-requires
+readings-requires c κs = search needs
+
 guard-holds-requires : tie.Need-guard-holds-requires
 guard-holds-requires c κs = search needs
 
 returns : tie.Need-returns
 returns c =
-    let a = c .before .before .before .before .before .args in
-    guard-decides (a .grain) (a .clocks) (a .symbol) (a .from) (edgeAt (a .e) (a .edges .now)) _
-    (c .before .before .leaves .ensures)
+    let read = c .before in
+    let taken = read .before in
+    let left = taken .before in
+    let a = left .before .before .before .args in
+    guard-decides (a .grain) (a .clocks) (a .symbol) (a .from) (edgeAt (a .e) (a .edges .now)) _ (left .leaves .ensures)
     _
-    (c .before .if1 .taken)
+    _
+    (taken .if1 .taken)
+    (read .readings .ensures)
     (c .guard-holds .ensures)
 
 returns-2 : tie.Need-returns-2
@@ -28,4 +35,4 @@ returns-2 c =
     (c .if1 .left)
 
 pub can-take-spec : {M : Type 1} → statement M
-can-take-spec = tie.close (tie.spec leaves-requires guard-holds-requires returns returns-2)
+can-take-spec = tie.close (tie.spec leaves-requires readings-requires guard-holds-requires returns returns-2)
