@@ -1,27 +1,22 @@
--- The least run by its start: the initial locations passed led to no accepting run. What the whole runner answers.
+-- The least run by its start: the initial locations passed led to no accepting run.
 use mathlib.Core.Path.{_≡_, refl, sym, _∙_, ap}
 use mathlib.Core.Bool.{Bool, true, false}
-use mathlib.Core.List.{List, [], _∷_}
+use mathlib.Core.List.{List}
 use Prim.Native.Nat.{ℕ, suc, _+_, _-_, _≤_, _<_}
 use native.Mathlib.Omega.{arith}
 use native.Mathlib.Numerals.{add-one}
 use Rattle.model.specs.declared.Head.{Head}
-use Rattle.model.specs.declared.Answer.{Answer}
-use Rattle.model.specs.declared.Branch.{Branch}
-use Rattle.model.specs.Basics.{pick, zeros, bit, bitsFrom, fine}
+use Rattle.model.specs.Basics.{pick, zeros, bit, bitsFrom}
 use Rattle.model.specs.Rules.{mostLocations, mostClocks}
-use Rattle.model.specs.Words.{mostBranchEvents, eventsOf}
-use Rattle.model.specs.Runs.{startAges, Path, path, noPath, leastFrom, leastStart, leastRun}
+use Rattle.model.specs.Words.{eventsOf}
+use Rattle.model.specs.Runs.{Path, path, noPath, leastFrom, leastStart, leastRun}
 use Rattle.model.specs.Layout.{ruleIn}
-use Rattle.model.specs.Promises.{branchOf, RunsBranches}
-use Rattle.model.proofs.Logic.{no-way, by-test}
-use Rattle.model.proofs.Inputs.{Refused, Checked}
 use Rattle.model.proofs.Ages.{zeros-most, bits-more, bits-skip}
 use Rattle.ages.specs.declared.Configuration.{Configuration}
 use Rattle.ages.specs.Ages.{numbersOf}
 use Rattle.ages.proofs.Moves.{start-ages}
 use Rattle.branch.specs.declared.Run.{Run}
-use Rattle.branch.specs.Branches.{placed, withStart, noBranch, leastAt, begun, leastOf, Ready, Begins}
+use Rattle.branch.specs.Branches.{placed, withStart, leastAt, begun, leastOf, Ready, Begins}
 
 -- before the first event, all ages 0
 pub start-ready :
@@ -104,47 +99,3 @@ module _ (head : Head) (edges : List ℕ) (d : ℕ) (symbols stamps : List ℕ) 
       {starts l : ℕ} → Starting starts l → mostLocations ≤ l → leastOf head edges d symbols stamps ≡ noPath
   unfolding leastStart bitsFrom
   starting-none {l = l} inv h = let z : mostLocations - l ≡ 0 = omega arith in sym (inv .rest-is) ∙ rw z
-
--- A run that is not found is no run.
-not-found :
-    (head : Head) (edges : List ℕ) (d : ℕ) (symbols stamps ls : List ℕ)
-    → leastStart (ruleIn head edges) d (eventsOf symbols stamps) ls .found ≡ false
-    → leastStart (ruleIn head edges) d (eventsOf symbols stamps) ls ≡ noPath
-unfolding leastStart
-not-found head edges d symbols stamps [] h = refl
-not-found head edges d symbols stamps (l ∷ ls) h =
-    by-test (leastFrom (ruleIn head edges) d (eventsOf symbols stamps) 0 l (startAges (ruleIn head edges)) .found)
-    (λ e. no-way (sym (rw e at h)))
-    (λ e. rw e (not-found head edges d symbols stamps ls (rw e at h)))
-
-begun-is : (p : Path) → (p .found ≡ false → p ≡ noPath) → begun p ≡ branchOf fine p
-begun-is p none = by-test (p .found) (λ e. rw e) (λ e. rw (none e))
-
--- What the runner answers: the refusal with all else zero, or the least run.
-module _ (head : Head) (edges : List ℕ) (d : ℕ) (symbols stamps : List ℕ) where
-  pub refusal-is :
-      (a : Answer) (r : Branch) → Refused head edges d mostBranchEvents symbols stamps a
-      → r ≡ noBranch (a .number) (a .place)
-      → RunsBranches head edges d symbols stamps r
-  refusal-is a r f e = record { answer-is = e ∙ rw (f .answer-is, f .not-passed) }
-
-  module _ (c : Checked head edges d mostBranchEvents symbols stamps) where
-    pub begins : Begins head symbols stamps
-    begins = record {
-      clocks-most = c .clocks-most;
-      edges-most = c .count-most;
-      counts-equal = c .keeps .lengths-equal;
-      events-most = c .keeps .events-most;
-      stamps-ordered = c .keeps .stamps-ordered;
-    }
-
-    pub run-is-least :
-        (r : Branch) → r ≡ begun (leastOf head edges d symbols stamps) → RunsBranches head edges d symbols stamps r
-    unfolding leastRun
-    run-is-least r e = record {
-      answer-is =
-          e
-          ∙ rw (c .passes-both)
-          (begun-is (leastOf head edges d symbols stamps)
-          (not-found head edges d symbols stamps (ruleIn head edges .initial)));
-    }

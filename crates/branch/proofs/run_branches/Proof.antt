@@ -1,7 +1,7 @@
 -- `branch::run_branches` meets its contract: the rule is checked, then the word, then the least run is looked for.
 use Rattle.model.specs.Words.{mostBranchEvents}
 use Rattle.model.proofs.Inputs.{Checked, rule-refused, word-refused, both-passed}
-use Rattle.branch.proofs.Starts.{refusal-is, begins, run-is-least}
+use Rattle.branch.proofs.Outcome.{refusal-is, begins, run-is-least}
 use borrow.Author.Needs.{needs}
 use Rattle.branch.proofs.run_branches.Statement.{statement}
 use Rattle.branch.proofs.run_branches.Tie as tie

@@ -1,0 +1,1 @@
+-- What held a rule back, edge by edge.
