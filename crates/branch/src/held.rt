@@ -2,10 +2,10 @@
 // first event.
 ghost use mathlib.Core.Path.{_≡_};
 ghost use mathlib.Core.Bool.{_&&_};
-ghost use Prim.Native.Nat.{_≤_};
+ghost use Prim.Native.Nat.{_^_, _≤_, _<_};
 ghost use lib.Dec.{eqb};
 ghost use Rattle.model.specs.Basics.{isIn};
-ghost use Rattle.model.specs.Rules.{mostClocks};
+ghost use Rattle.model.specs.Rules.{mostClocks, mostEdges};
 ghost use Rattle.model.specs.Words.{eventsOf};
 ghost use Rattle.model.specs.Runs.{older, startAges, lowestLeaving, heldBack};
 ghost use Rattle.model.specs.Layout.{locationsIn, edgeAt, ruleIn};
@@ -45,7 +45,7 @@ pub(crate) fn lowest_leaving(
     symbol: u16,
     stamp: Stamp,
 ) -> Guard
-    requires { ⌜ head .clocks ≤ mostClocks ⌝ }
+    requires { ⌜ (head .clocks ≤ mostClocks) × (head .count ≤ mostEdges) × (stamp .0 < 2 ^ 32) ⌝ }
     ensures { λ r. ⌜ r
         ≡ lowestLeaving (ruleIn head (now (edges .entry)) .initial) symbol grain
         (older (stamp .0) (startAges (ruleIn head (now (edges .entry))))) (ruleIn head (now (edges .entry)) .edges) ⌝ }

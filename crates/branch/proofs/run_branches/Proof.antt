@@ -1,4 +1,7 @@
--- `branch::run_branches` meets its contract: the rule is checked, then the word, then the least run is looked for.
+-- `branch::run_branches` meets its contract: the rule is checked, then the word, then the least run is looked for, and
+-- what held the rule back.
+use mathlib.Core.Path.{ap}
+use Rattle.model.specs.declared.Branch.{Branch}
 use Rattle.model.specs.Words.{mostBranchEvents}
 use Rattle.model.proofs.Inputs.{Checked, rule-refused, word-refused, both-passed}
 use Rattle.branch.proofs.Outcome.{refusal-is, begins, run-is-least}
@@ -71,11 +74,29 @@ least-start-requires c κs =
     let a = c .before .before .before .before .before .before .before .before .before .args in
     begins (a .head) (a .edges .now) (a .grain) (a .symbols .now) (a .stamps .now) (checked c)
 
+held-back-requires : tie.Need-held-back-requires
+held-back-requires c κs =
+    let a = c .before .before .before .before .before .before .before .before .before .before .args in (
+      begins (a .head) (a .edges .now) (a .grain) (a .symbols .now) (a .stamps .now) (checked (c .before)),
+      ap (λ (b : Branch). b .found) (c .least-start .ensures),
+    )
+
+with-held-requires : tie.Need-with-held-requires
+with-held-requires c κs = search needs
+
 returns-3 : tie.Need-returns-3
 returns-3 c =
-    let a = c .before .before .before .before .before .before .before .before .before .before .args in
-    run-is-least (a .head) (a .edges .now) (a .grain) (a .symbols .now) (a .stamps .now) (checked (c .before)) _
-    (c .least-start .ensures)
+    let held = c .before in
+    let least = held .before in
+    let passed = least .before in
+    let a = passed .before .before .before .before .before .before .before .before .before .args in
+    run-is-least (a .head) (a .edges .now) (a .grain) (a .symbols .now) (a .stamps .now) (checked passed)
+    (least .least-start .result)
+    _
+    (held .held-back .result)
+    (least .least-start .ensures)
+    (held .held-back .ensures)
+    (c .with-held .ensures)
 
 pub run-branches-spec : {M : Type 1} → statement M
 run-branches-spec =
@@ -89,4 +110,6 @@ run-branches-spec =
     no-branch-requires-2
     returns-2
     least-start-requires
+    held-back-requires
+    with-held-requires
     returns-3)

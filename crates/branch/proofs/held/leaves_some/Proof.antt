@@ -1,40 +1,46 @@
+-- `branch::held::leaves_some` meets its contract: the source is asked first, then the symbol decides.
 use borrow.Author.Needs.{needs}
+use Rattle.model.specs.Layout.{locationsIn, edgeAt}
+use Rattle.branch.proofs.Lowest.{no-location, symbol-decides}
 use Rattle.branch.proofs.held.leaves_some.Statement.{statement}
 use Rattle.branch.proofs.held.leaves_some.Tie as tie
-use Rattle.branch.proofs.held.leaves_some.Reads as reads
-use Rattle.branch.proofs.held.leaves_some.Lts as lts
-use Rattle.ages.proofs.has_location.Reads as has-location-reads
-use Rattle.edges.proofs.fields.source_of.Reads as source-of-reads
-use Rattle.edges.proofs.fields.symbol_of.Reads as symbol-of-reads
-use Rattle.numbers.proofs.wide16.Reads as wide16-reads
 
--- src/held.rt:32:9
 source-of-requires : tie.Need-source-of-requires
 source-of-requires c κs = search needs
 
--- src/held.rt:33:27
 cast-has-location : tie.Need-cast-has-location
 cast-has-location c = search needs
 
--- src/held.rt:33:9
 has-location-requires : tie.Need-has-location-requires
 has-location-requires c κs = search needs
 
--- src/held.rt:34:9
 returns : tie.Need-returns
-returns c = ?
+returns c =
+    let asked = c .before in
+    let source = asked .before in
+    let a = source .before .before .args in
+    no-location (locationsIn (a .set)) (a .symbol) _ (edgeAt (a .e) (a .edges .now)) _ (source .source-of .ensures .0)
+    (asked .has-location .ensures)
+    (c .if1 .taken)
 
--- src/held.rt:36:5
 symbol-of-requires : tie.Need-symbol-of-requires
 symbol-of-requires c κs = search needs
 
--- src/held.rt:36:28
 wide16-requires : tie.Need-wide16-requires
 wide16-requires c κs = search needs
 
--- src/held.rt:27:1
 returns-2 : tie.Need-returns-2
-returns-2 c = ?
+returns-2 c =
+    let test = c .before .before in
+    let asked = test .before in
+    let source = asked .before in
+    let a = source .before .before .args in
+    symbol-decides (locationsIn (a .set)) (a .symbol) _ _ _ (edgeAt (a .e) (a .edges .now)) _
+    (source .source-of .ensures .0)
+    (asked .has-location .ensures)
+    (test .if1 .left)
+    (c .before .symbol-of .ensures .0)
+    (c .wide16 .ensures .0)
 
 pub leaves-some-spec : {M : Type 1} → statement M
 leaves-some-spec =

@@ -1,72 +1,95 @@
+-- `branch::held::lowest_leaving` meets its contract: the edges passed leave no initial location on the symbol, so the
+-- answer is what those still to come give, over what the clocks read at the first event.
+use mathlib.Core.Path.{_≡_, refl}
+use Prim.Native.Nat.{_-_, _≤_}
+use borrow.Author.Needs.{needs}
+use Rattle.model.specs.declared.Guard.{Guard}
+use Rattle.model.specs.Rules.{mostEdges}
+use Rattle.model.specs.Runs.{older, startAges, lowestLeaving}
+use Rattle.model.specs.Layout.{ruleIn}
+use Rattle.branch.proofs.Lowest.{lowestFrom, Asking, asking, asking-next, asking-found, asking-none, lowest-is}
 use Rattle.branch.proofs.held.lowest_leaving.Statement.{statement}
 use Rattle.branch.proofs.held.lowest_leaving.Tie as tie
-use Rattle.branch.proofs.held.lowest_leaving.Reads as reads
-use Rattle.branch.proofs.held.lowest_leaving.Lts as lts
-use Rattle.ages.proofs.after_delay.Reads as after-delay-reads
-use Rattle.ages.proofs.readings.Reads as readings-reads
-use Rattle.ages.proofs.start_at.Reads as start-at-reads
-use Rattle.branch.proofs.held.leaves_some.Reads as leaves-some-reads
-use Rattle.guards.proofs.guard_of.Reads as guard-of-reads
-use Rattle.model.proofs.Stamp.since.Reads as since-reads
-use Rattle.numbers.proofs.wide32.Reads as wide32-reads
 
 abbrev Inv-loop : tie.InvT-loop
-Inv-loop head edges grain symbol by count e₀ e = ?
+Inv-loop head edges grain symbol by count e₀ e = (count ≤ mostEdges) × Asking (head .starts) symbol count edges by e
 
 abbrev μ-loop : tie.MeasureT-loop
-μ-loop head edges grain symbol by count e₀ e = ?
+μ-loop head edges grain symbol by count e₀ e = count - e
 
--- src/held.rt:53:27
+-- what the edges answer over the readings is what they answer over the first event's ages
+told :
+    (c : tie.After-readings Inv-loop μ-loop) (g : Guard)
+    → let a = c .before .before .before .before .before .before .before .args in
+    g ≡ lowestFrom (a .head .starts) (a .symbol) (a .head .count) (a .edges .now) (c .readings .result) 0
+    → g
+    ≡ lowestLeaving (ruleIn (a .head) (a .edges .now) .initial) (a .symbol) (a .grain)
+    (older (a .stamp .0) (startAges (ruleIn (a .head) (a .edges .now))))
+    (ruleIn (a .head) (a .edges .now) .edges)
+told c g e =
+    let clocks = c .before in
+    let waited = clocks .before .before in
+    let since = waited .before in
+    let from = since .before in
+    let start = from .before .before in
+    let a = start .args in
+    lowest-is (a .head) (a .edges .now) (a .grain) (a .symbol) (a .stamp .0) (a .head .count) _ _ _ _ _ g (start .pre .0)
+    (start .pre .2)
+    (from .start-at .ensures .1)
+    (since .since .ensures)
+    (waited .after-delay .ensures)
+    (clocks .wide32 .ensures .0)
+    (c .readings .ensures)
+    refl
+    e
+
 start-at-requires : tie.Need-start-at-requires Inv-loop μ-loop
-start-at-requires c κs = ?
+start-at-requires c κs = search needs
 
--- src/held.rt:53:40
 since-requires : tie.Need-since-requires Inv-loop μ-loop
-since-requires c κs = ?
+since-requires c κs = search needs
 
--- src/held.rt:53:9
 after-delay-requires : tie.Need-after-delay-requires Inv-loop μ-loop
-after-delay-requires c κs = ?
+after-delay-requires c κs = search needs
 
--- src/held.rt:55:29
 wide32-requires : tie.Need-wide32-requires Inv-loop μ-loop
-wide32-requires c κs = ?
+wide32-requires c κs = search needs
 
--- src/held.rt:55:9
 readings-requires : tie.Need-readings-requires Inv-loop μ-loop
-readings-requires c κs = ?
+readings-requires c κs = search needs
 
--- src/held.rt:58:5
 loop-holds : tie.Need-loop-holds Inv-loop μ-loop
-loop-holds c = ?
+loop-holds c = (c .before .before .before .before .before .before .before .pre .1, asking _ _ _ _ _)
 
--- src/held.rt:59:12
 leaves-some-requires : tie.Need-leaves-some-requires Inv-loop μ-loop
-leaves-some-requires c κs = ?
+leaves-some-requires c κs = search needs
 
--- src/held.rt:60:13
 guard-of-requires : tie.Need-guard-of-requires Inv-loop μ-loop
-guard-of-requires c κs = ?
+guard-of-requires c κs = search needs
 
--- src/held.rt:60:13
 returns : tie.Need-returns Inv-loop μ-loop
-returns c = ?
+returns c =
+    let left = c .before .before in
+    let at = left .before .before in
+    told (at .before) _
+    (asking-found _ _ _ _ _ (at .loop .inv .1) (left .before .loop-test .taken) _ (left .leaves-some .ensures) _
+    (c .before .if1 .taken) (c .guard-of .ensures))
 
--- src/held.rt:62:9
 add-e : tie.Need-add-e Inv-loop μ-loop
-add-e c = ?
+add-e c = search needs
 
--- src/held.rt:58:5
 loop-less : tie.Need-loop-less Inv-loop μ-loop
-loop-less c = ?
+loop-less c = search needs
 
--- src/held.rt:58:5
 loop-again : tie.Need-loop-again Inv-loop μ-loop
-loop-again c = ?
+loop-again c =
+    let at = c .before .before .before in
+    (at .loop .inv .0, asking-next _ _ _ _ _ (at .loop .inv .1) (search needs) _ (c .before .leaves-some .ensures) (c .if1 .left))
 
--- src/held.rt:41:1
 returns-2 : tie.Need-returns-2 Inv-loop μ-loop
-returns-2 c = ?
+returns-2 c =
+    let at = c .before in
+    told (at .before) _ (asking-none _ _ _ _ _ (at .loop .inv .1) (c .loop-test .left))
 
 pub lowest-leaving-spec : {M : Type 1} → statement M
 lowest-leaving-spec =

@@ -1,1 +1,0 @@
--- What held a rule back, edge by edge.

@@ -1,0 +1,164 @@
+-- What held a rule back: edges that leave no initial location on the first symbol are passed, so the answer is what the
+-- edges still to come give; and what the clocks read at the first event.
+use mathlib.Core.Path.{_≡_, refl, sym, _∙_, ap, ap₂}
+use mathlib.Core.Bool.{Bool, true, false, _&&_, not}
+use mathlib.Core.List.{List, [], _∷_}
+use Prim.Native.Nat.{ℕ, suc, _+_, _-_, _*_, _^_, _≤_, _<_}
+use native.Mathlib.Omega.{arith}
+use lib.Dec.{eqb}
+use lib.ListN.{length, getD, drop}
+use borrow.Author.Tests.{not-true, not-false}
+use Rattle.model.specs.declared.Head.{Head}
+use Rattle.model.specs.declared.Guard.{Guard}
+use Rattle.model.specs.declared.Guard.the-variants.{Holds}
+use Rattle.model.specs.Basics.{pick, isIn, zeros}
+use Rattle.model.specs.Rules.{Atom, Edge, mostClocks}
+use Rattle.model.specs.Words.{eventsOf}
+use Rattle.model.specs.Guards.{guard}
+use Rattle.model.specs.Runs.{older, startAges, accepts, lowestLeaving, heldBack}
+use Rattle.model.specs.Layout.{edgeWidth, edgeAt, edgesIn, locationsIn, ruleIn}
+use Rattle.model.proofs.EdgeTable.{edges-rest}
+use Rattle.model.proofs.LeastRun.{runs-are}
+use Rattle.model.proofs.Ages.{zeros-most}
+use Rattle.guards.specs.declared.Readings.{Readings}
+use Rattle.ages.specs.declared.Configuration.{Configuration}
+use Rattle.ages.specs.Ages.{numbersOf, agesOf, ageReadings, Waited}
+use Rattle.ages.proofs.Laws.{read-guard}
+use Rattle.ages.proofs.Moves.{waited-until, start-ages}
+use Rattle.branch.specs.Branches.{leastOf}
+
+-- an edge that leaves a location of a set on a symbol
+abbrev leavesSome : List ℕ → ℕ → Edge → Bool
+leavesSome initial s e = isIn (e .source) initial && eqb (e .symbol) s
+
+pub no-location :
+    (initial : List ℕ) (s n : ℕ) (e : Edge) (r : Bool) → n ≡ e .source → r ≡ isIn n initial → not r ≡ true
+    → false ≡ leavesSome initial s e
+no-location initial s n e r h i f = rw (← h, sym i ∙ not-true r f)
+
+pub symbol-decides :
+    (initial : List ℕ) (s n m m′ : ℕ) (e : Edge) (r : Bool) → n ≡ e .source → r ≡ isIn n initial → not r ≡ false
+    → m ≡ e .symbol
+    → m′ ≡ s
+    → eqb m m′ ≡ leavesSome initial s e
+symbol-decides initial s n m m′ e r h i f a b = rw (← h, sym i ∙ not-false r f, a, b)
+
+-- The edges from number e on are left, over what the clocks read.
+module _ (starts symbol count : ℕ) (edges : List ℕ) (by : Readings) where
+  abbrev pub lowestFrom : ℕ → Guard
+  lowestFrom e =
+      lowestLeaving (locationsIn starts) symbol (by .unit) (by .of) (edgesIn (count - e) (drop (edgeWidth * e) edges))
+
+  pub record Asking (e : ℕ) : Type 0 where
+    pub turns : e ≤ count
+    pub rest-is : lowestFrom e ≡ lowestFrom 0
+
+  pub asking : Asking 0
+  asking = record { turns = omega arith; rest-is = refl }
+
+  module _ {e : ℕ} (inv : Asking e) (h : e < count) (r : Bool)
+      (tested : r ≡ leavesSome (locationsIn starts) symbol (edgeAt e edges)) where
+    ask-step :
+        pick r (guard (by .unit) (by .of) (edgeAt e edges .atoms)) (lowestFrom (e + 1)) ≡ lowestFrom 0
+    ask-step =
+        rw tested
+        (sym (ap (lowestLeaving (locationsIn starts) symbol (by .unit) (by .of)) (edges-rest count e edges h))
+        ∙ inv .rest-is)
+
+    pub asking-next : r ≡ false → Asking (e + 1)
+    asking-next f = record { turns = omega arith; rest-is = rw f at ask-step }
+
+    pub asking-found :
+        (g : Guard) → r ≡ true → g ≡ guard (by .unit) (by .of) (edgeAt e edges .atoms) → g ≡ lowestFrom 0
+    asking-found g f k = k ∙ (rw f at ask-step)
+
+  pub asking-none : {e : ℕ} → Asking e → count ≤ e → Holds ≡ lowestFrom 0
+  asking-none {e} inv h = let z : count - e ≡ 0 = omega arith in rw z at (inv .rest-is)
+
+-- readings over which every guard answers alike name the same
+lowest-same :
+    (initial : List ℕ) (s unit d : ℕ) (readings ages : List ℕ) (es : List Edge)
+    → ((xs : List Atom) → guard unit readings xs ≡ guard d ages xs)
+    → lowestLeaving initial s unit readings es ≡ lowestLeaving initial s d ages es
+lowest-same initial s unit d readings ages [] h = refl
+lowest-same initial s unit d readings ages (e ∷ es) h =
+    ap₂ (λ (g k : Guard). pick (isIn (e .source) initial && eqb (e .symbol) s) g k) (h (e .atoms))
+    (lowest-same initial s unit d readings ages es h)
+
+-- the first event's ages: all were 0, and the delay is its stamp
+module _ (head : Head) (edges : List ℕ) (d symbol stamp : ℕ) where
+  first-ages :
+      (delay : ℕ) (from now : Configuration) → head .clocks ≤ mostClocks → stamp < 2 ^ 32
+      → numbersOf (from .ages .of) ≡ zeros mostClocks
+      → delay ≡ stamp - 0
+      → Waited delay from now
+      → agesOf (head .clocks) (now .ages) ≡ older stamp (zeros (head .clocks))
+  first-ages delay from now k b z e w =
+      let none : agesOf (head .clocks) (from .ages) ≡ zeros (head .clocks) =
+      start-ages (head .clocks) (from .ages) z k in
+      let whole : stamp - 0 ≡ stamp = omega arith in
+      waited-until (head .clocks) 0 stamp w e (rw none (zeros-most 0 (head .clocks))) (omega arith) b ∙ rw (whole, none)
+
+  pub lowest-is :
+      (count clocks delay : ℕ) (from now : Configuration) (by : Readings) (g : Guard) → head .clocks ≤ mostClocks
+      → stamp < 2 ^ 32
+      → numbersOf (from .ages .of) ≡ zeros mostClocks
+      → delay ≡ stamp - 0
+      → Waited delay from now
+      → clocks ≡ head .clocks
+      → by ≡ ageReadings d clocks (now .ages)
+      → count ≡ head .count
+      → g ≡ lowestFrom (head .starts) symbol count edges by 0
+      → g
+      ≡ lowestLeaving (ruleIn head edges .initial) symbol d (older stamp (startAges (ruleIn head edges)))
+      (ruleIn head edges .edges)
+  unfolding ruleIn
+  lowest-is count clocks delay from now by g k b z e w c r n h =
+      let all : count - 0 ≡ head .count = omega (arith, n) in
+      let reads : by ≡ ageReadings d (head .clocks) (now .ages) =
+      r ∙ ap (λ (m : ℕ). ageReadings d m (now .ages)) c in
+      h
+      ∙ rw all
+      (lowest-same (locationsIn (head .starts)) symbol (by .unit) d (by .of) (older stamp (zeros (head .clocks)))
+      (edgesIn (head .count) edges)
+      (λ xs.
+      read-guard d (head .clocks) (now .ages) by xs reads
+      ∙ ap (λ (ages : List ℕ). guard d ages xs) (first-ages delay from now k b z e w)))
+
+-- With a run nothing held the rule back, and nothing without events.
+module _ (head : Head) (edges : List ℕ) (d : ℕ) where
+  accepted :
+      (symbols stamps : List ℕ) (found : Bool) → found ≡ leastOf head edges d symbols stamps .found
+      → found ≡ accepts (ruleIn head edges) d (eventsOf symbols stamps)
+  accepted symbols stamps found e = e ∙ runs-are .found-is (ruleIn head edges) d (eventsOf symbols stamps)
+
+  pub held-none :
+      (symbols stamps : List ℕ) (found : Bool) → found ≡ leastOf head edges d symbols stamps .found → found ≡ true
+      → Holds ≡ heldBack (ruleIn head edges) d (eventsOf symbols stamps)
+  unfolding heldBack
+  held-none [] stamps found e t = refl
+  held-none (x ∷ symbols) [] found e t = refl
+  held-none (x ∷ symbols) (s ∷ stamps) found e t = rw (sym (accepted (x ∷ symbols) (s ∷ stamps) found e) ∙ t)
+
+  pub held-empty :
+      (symbols stamps : List ℕ) → length symbols ≡ 0
+      → Holds ≡ heldBack (ruleIn head edges) d (eventsOf symbols stamps)
+  unfolding heldBack
+  held-empty [] stamps h = refl
+  held-empty (x ∷ symbols) stamps h = absurd (omega arith)
+
+  pub held-by :
+      (symbols stamps : List ℕ) (found : Bool) (g : Guard) → found ≡ leastOf head edges d symbols stamps .found
+      → found ≡ false
+      → (length symbols ≡ 0 → ⊥)
+      → length symbols ≡ length stamps
+      → g
+      ≡ lowestLeaving (ruleIn head edges .initial) (getD symbols 0 0) d
+      (older (getD stamps 0 0) (startAges (ruleIn head edges)))
+      (ruleIn head edges .edges)
+      → g ≡ heldBack (ruleIn head edges) d (eventsOf symbols stamps)
+  unfolding heldBack
+  held-by [] stamps found g e f n c h = absurd (n refl)
+  held-by (x ∷ symbols) [] found g e f n c h = absurd (omega arith)
+  held-by (x ∷ symbols) (s ∷ stamps) found g e f n c h =
+      rw (sym (accepted (x ∷ symbols) (s ∷ stamps) found e) ∙ f) h
