@@ -125,20 +125,19 @@ module _ (head : Head) (edges : List ℕ) (d symbol stamp : ℕ) where
       read-guard d (head .clocks) (now .ages) by xs reads
       ∙ ap (λ (ages : List ℕ). guard d ages xs) (first-ages delay from now k b z e w)))
 
--- With a run nothing held the rule back, and nothing without events.
+-- With a run nothing held the rule back, and nothing without events; else it is the lowest edge's guard.
 module _ (head : Head) (edges : List ℕ) (d : ℕ) where
-  accepted :
-      (symbols stamps : List ℕ) (found : Bool) → found ≡ leastOf head edges d symbols stamps .found
-      → found ≡ accepts (ruleIn head edges) d (eventsOf symbols stamps)
-  accepted symbols stamps found e = e ∙ runs-are .found-is (ruleIn head edges) d (eventsOf symbols stamps)
+  found-is : (symbols stamps : List ℕ) → leastOf head edges d symbols stamps .found
+      ≡ accepts (ruleIn head edges) d (eventsOf symbols stamps)
+  found-is symbols stamps = runs-are .found-is (ruleIn head edges) d (eventsOf symbols stamps)
 
   pub held-none :
-      (symbols stamps : List ℕ) (found : Bool) → found ≡ leastOf head edges d symbols stamps .found → found ≡ true
+      (symbols stamps : List ℕ) → leastOf head edges d symbols stamps .found ≡ true
       → Holds ≡ heldBack (ruleIn head edges) d (eventsOf symbols stamps)
   unfolding heldBack
-  held-none [] stamps found e t = refl
-  held-none (x ∷ symbols) [] found e t = refl
-  held-none (x ∷ symbols) (s ∷ stamps) found e t = rw (sym (accepted (x ∷ symbols) (s ∷ stamps) found e) ∙ t)
+  held-none [] stamps t = refl
+  held-none (x ∷ symbols) [] t = refl
+  held-none (x ∷ symbols) (s ∷ stamps) t = rw (sym (found-is (x ∷ symbols) (s ∷ stamps)) ∙ t)
 
   pub held-empty :
       (symbols stamps : List ℕ) → length symbols ≡ 0
@@ -148,8 +147,7 @@ module _ (head : Head) (edges : List ℕ) (d : ℕ) where
   held-empty (x ∷ symbols) stamps h = absurd (omega arith)
 
   pub held-by :
-      (symbols stamps : List ℕ) (found : Bool) (g : Guard) → found ≡ leastOf head edges d symbols stamps .found
-      → found ≡ false
+      (symbols stamps : List ℕ) (g : Guard) → leastOf head edges d symbols stamps .found ≡ false
       → (length symbols ≡ 0 → ⊥)
       → length symbols ≡ length stamps
       → g
@@ -158,7 +156,6 @@ module _ (head : Head) (edges : List ℕ) (d : ℕ) where
       (ruleIn head edges .edges)
       → g ≡ heldBack (ruleIn head edges) d (eventsOf symbols stamps)
   unfolding heldBack
-  held-by [] stamps found g e f n c h = absurd (n refl)
-  held-by (x ∷ symbols) [] found g e f n c h = absurd (omega arith)
-  held-by (x ∷ symbols) (s ∷ stamps) found g e f n c h =
-      rw (sym (accepted (x ∷ symbols) (s ∷ stamps) found e) ∙ f) h
+  held-by [] stamps g f n c h = absurd (n refl)
+  held-by (x ∷ symbols) [] g f n c h = absurd (omega arith)
+  held-by (x ∷ symbols) (s ∷ stamps) g f n c h = rw (sym (found-is (x ∷ symbols) (s ∷ stamps)) ∙ f) h

@@ -1,7 +1,7 @@
 // What held a rule back: the guard of the lowest edge that leaves an initial location on the first symbol, asked at the
 // first event.
 ghost use mathlib.Core.Path.{_≡_};
-ghost use mathlib.Core.Bool.{_&&_};
+ghost use mathlib.Core.Bool.{false, _&&_};
 ghost use Prim.Native.Nat.{_^_, _≤_, _<_};
 ghost use lib.Dec.{eqb};
 ghost use Rattle.model.specs.Basics.{isIn};
@@ -64,24 +64,20 @@ pub(crate) fn lowest_leaving(
     Guard::Holds
 }
 
-// What held the rule back: nothing where a run was found, and nothing without events.
+// What held the rule back where no run accepts: nothing without events.
 pub(crate) fn held_back(
     head: Head,
     edges: &[u16],
     grain: u32,
     symbols: &[u16],
     stamps: &[u32],
-    found: bool,
 ) -> Guard
     requires { ⌜ Begins head (now symbols) (now stamps) ⌝ }
-    requires { ⌜ found ≡ leastOf head (now edges) grain (now symbols) (now stamps) .found ⌝ }
+    requires { ⌜ leastOf head (now edges) grain (now symbols) (now stamps) .found ≡ false ⌝ }
     ensures { λ r. ⌜ r
         ≡ heldBack (ruleIn head (now (edges .entry))) grain
         (eventsOf (now (symbols .entry)) (now (stamps .entry))) ⌝ }
 {
-    if found {
-        return Guard::Holds;
-    }
     if symbols.len() == 0 {
         return Guard::Holds;
     }

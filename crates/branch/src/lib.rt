@@ -203,6 +203,8 @@ pub fn run_branches(
         return no_branch(word.number, word.place);
     }
     let branch = least_start(head, edges, grain, symbols, stamps);
-    let answer = held_back(head, edges, grain, symbols, stamps, branch.found);
-    with_held(branch, answer)
+    if branch.found {
+        return branch;
+    }
+    with_held(branch, held_back(head, edges, grain, symbols, stamps))
 }

@@ -1,9 +1,11 @@
 -- `branch::run_branches` meets its contract: the rule is checked, then the word, then the least run is looked for, and
 -- what held the rule back.
-use mathlib.Core.Path.{ap}
+use mathlib.Core.Path.{refl, sym, _∙_, ap}
 use Rattle.model.specs.declared.Branch.{Branch}
+use Rattle.model.specs.declared.Guard.the-variants.{Holds}
 use Rattle.model.specs.Words.{mostBranchEvents}
 use Rattle.model.proofs.Inputs.{Checked, rule-refused, word-refused, both-passed}
+use Rattle.branch.proofs.Lowest.{held-none}
 use Rattle.branch.proofs.Outcome.{refusal-is, begins, run-is-least}
 use borrow.Author.Needs.{needs}
 use Rattle.branch.proofs.run_branches.Statement.{statement}
@@ -74,20 +76,36 @@ least-start-requires c κs =
     let a = c .before .before .before .before .before .before .before .before .before .args in
     begins (a .head) (a .edges .now) (a .grain) (a .symbols .now) (a .stamps .now) (checked c)
 
+returns-3 : tie.Need-returns-3
+returns-3 c =
+    let least = c .before .before in
+    let passed = least .before in
+    let a = passed .before .before .before .before .before .before .before .before .before .args in
+    run-is-least (a .head) (a .edges .now) (a .grain) (a .symbols .now) (a .stamps .now) (checked passed)
+    (least .least-start .result)
+    _
+    Holds
+    (least .least-start .ensures)
+    (held-none (a .head) (a .edges .now) (a .grain) (a .symbols .now) (a .stamps .now)
+    (sym (ap (λ (b : Branch). b .found) (least .least-start .ensures)) ∙ c .if3 .taken))
+    refl
+
 held-back-requires : tie.Need-held-back-requires
 held-back-requires c κs =
-    let a = c .before .before .before .before .before .before .before .before .before .before .args in (
-      begins (a .head) (a .edges .now) (a .grain) (a .symbols .now) (a .stamps .now) (checked (c .before)),
-      ap (λ (b : Branch). b .found) (c .least-start .ensures),
+    let least = c .before .before in
+    let passed = least .before in
+    let a = passed .before .before .before .before .before .before .before .before .before .args in (
+      begins (a .head) (a .edges .now) (a .grain) (a .symbols .now) (a .stamps .now) (checked passed),
+      sym (ap (λ (b : Branch). b .found) (least .least-start .ensures)) ∙ c .if3 .left,
     )
 
 with-held-requires : tie.Need-with-held-requires
 with-held-requires c κs = search needs
 
-returns-3 : tie.Need-returns-3
-returns-3 c =
+returns-4 : tie.Need-returns-4
+returns-4 c =
     let held = c .before in
-    let least = held .before in
+    let least = held .before .before .before in
     let passed = least .before in
     let a = passed .before .before .before .before .before .before .before .before .before .args in
     run-is-least (a .head) (a .edges .now) (a .grain) (a .symbols .now) (a .stamps .now) (checked passed)
@@ -110,6 +128,7 @@ run-branches-spec =
     no-branch-requires-2
     returns-2
     least-start-requires
+    returns-3
     held-back-requires
     with-held-requires
-    returns-3)
+    returns-4)
