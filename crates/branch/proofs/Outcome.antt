@@ -1,6 +1,6 @@
 -- What the whole runner answers: the refusal with all else zero, or the least run with what held the rule back.
 use mathlib.Core.Path.{_≡_, refl, sym, _∙_, ap}
-use mathlib.Core.Bool.{false}
+use mathlib.Core.Bool.{Bool, false}
 use mathlib.Core.List.{List, [], _∷_}
 use Prim.Native.Nat.{ℕ}
 use Rattle.model.specs.declared.Head.{Head}
@@ -44,6 +44,12 @@ module _ (head : Head) (edges : List ℕ) (d : ℕ) (symbols stamps : List ℕ) 
       → r ≡ noBranch (a .number) (a .place)
       → RunsBranches head edges d symbols stamps r
   refusal-is a r f e = record { answer-is = e ∙ rw (f .answer-is, f .not-passed) }
+
+  -- whether a run was found
+  pub found-of :
+      (b : Branch) (t : Bool) → b ≡ begun (leastOf head edges d symbols stamps) → b .found ≡ t
+      → leastOf head edges d symbols stamps .found ≡ t
+  found-of b t e f = sym (ap (λ (x : Branch). x .found) e) ∙ f
 
   module _ (c : Checked head edges d mostBranchEvents symbols stamps) where
     pub begins : Begins head symbols stamps

@@ -1,12 +1,12 @@
 -- `branch::run_branches` meets its contract: the rule is checked, then the word, then the least run is looked for, and
 -- what held the rule back.
-use mathlib.Core.Path.{refl, sym, _∙_, ap}
-use Rattle.model.specs.declared.Branch.{Branch}
+use mathlib.Core.Path.{refl}
+use mathlib.Core.Bool.{true, false}
 use Rattle.model.specs.declared.Guard.the-variants.{Holds}
 use Rattle.model.specs.Words.{mostBranchEvents}
 use Rattle.model.proofs.Inputs.{Checked, rule-refused, word-refused, both-passed}
 use Rattle.branch.proofs.Lowest.{held-none}
-use Rattle.branch.proofs.Outcome.{refusal-is, begins, run-is-least}
+use Rattle.branch.proofs.Outcome.{refusal-is, begins, found-of, run-is-least}
 use borrow.Author.Needs.{needs}
 use Rattle.branch.proofs.run_branches.Statement.{statement}
 use Rattle.branch.proofs.run_branches.Tie as tie
@@ -78,7 +78,7 @@ least-start-requires c κs =
 
 returns-3 : tie.Need-returns-3
 returns-3 c =
-    let least = c .before .before in
+    let least = c .before in
     let passed = least .before in
     let a = passed .before .before .before .before .before .before .before .before .before .args in
     run-is-least (a .head) (a .edges .now) (a .grain) (a .symbols .now) (a .stamps .now) (checked passed)
@@ -87,16 +87,21 @@ returns-3 c =
     Holds
     (least .least-start .ensures)
     (held-none (a .head) (a .edges .now) (a .grain) (a .symbols .now) (a .stamps .now)
-    (sym (ap (λ (b : Branch). b .found) (least .least-start .ensures)) ∙ c .if3 .taken))
+    (found-of (a .head) (a .edges .now) (a .grain) (a .symbols .now) (a .stamps .now) (least .least-start .result) true
+    (least .least-start .ensures)
+    (c .if3 .taken)))
     refl
 
 held-back-requires : tie.Need-held-back-requires
 held-back-requires c κs =
-    let least = c .before .before in
+    let least = c .before in
     let passed = least .before in
     let a = passed .before .before .before .before .before .before .before .before .before .args in (
       begins (a .head) (a .edges .now) (a .grain) (a .symbols .now) (a .stamps .now) (checked passed),
-      sym (ap (λ (b : Branch). b .found) (least .least-start .ensures)) ∙ c .if3 .left,
+      found-of (a .head) (a .edges .now) (a .grain) (a .symbols .now) (a .stamps .now) (least .least-start .result)
+          false
+          (least .least-start .ensures)
+          (c .if3 .left),
     )
 
 with-held-requires : tie.Need-with-held-requires
@@ -105,7 +110,7 @@ with-held-requires c κs = search needs
 returns-4 : tie.Need-returns-4
 returns-4 c =
     let held = c .before in
-    let least = held .before .before .before in
+    let least = held .before .before in
     let passed = least .before in
     let a = passed .before .before .before .before .before .before .before .before .before .args in
     run-is-least (a .head) (a .edges .now) (a .grain) (a .symbols .now) (a .stamps .now) (checked passed)
