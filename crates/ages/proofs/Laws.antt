@@ -1,27 +1,25 @@
 -- Four ages by their places, and as clocks read them; ages that do not reach the cap grow as the definitions say; an
 -- edge is tested by its source and symbol, then by its guard.
 use mathlib.Core.Path.{_≡_, refl, sym, _∙_, ap}
-use mathlib.Core.Bool.{Bool, true, false, _&&_}
+use mathlib.Core.Bool.{Bool, true, false, _&&_, not}
 use mathlib.Core.List.{List, [], _∷_, map}
-use Prim.Native.Nat.{ℕ, zero, suc, _+_, _-_, _≤_, _<_}
+use Prim.Native.Nat.{ℕ, zero, suc, _+_, _≤_, _<_}
 use native.Mathlib.Omega.{arith}
-use lib.Dec.{eqb, ltb}
+use lib.Dec.{eqb}
 use lib.ListN.{length, getD, drop, take, List·getD-eq-default, drop-of-length-le, length-take}
-use lib.Seq.{drop-nil, take-nil, getD-take}
-use borrow.Author.Tests.{lt-ltb, le-leb, lt-leb, eq-eqb, ne-eqb}
+use lib.Seq.{drop-nil, getD-take}
+use borrow.Author.Tests.{not-true, le-leb, lt-leb, eq-eqb, ne-eqb}
 use Rattle.model.specs.declared.Age.{Age}
-use Rattle.model.specs.Basics.{same, pick, lesser, bit, isIn, filled}
-use Rattle.model.specs.Rules.{Atom, Edge, mostLocations, mostClocks}
+use Rattle.model.specs.Basics.{same, pick, lesser, bit, isIn}
+use Rattle.model.specs.Rules.{Edge, mostLocations, mostClocks}
 use Rattle.model.specs.Guards.{guard, isMet}
 use Rattle.model.specs.Runs.{Config, zeroed}
 use Rattle.model.specs.Layout.{locationsIn}
-use Rattle.model.proofs.Guards.{padded-guard}
 use Rattle.model.proofs.Ages.{bits-in, bits-high}
 use Rattle.ages.specs.declared.Ages.{Ages}
 use Rattle.ages.specs.declared.Configuration.{Configuration}
-use Rattle.ages.specs.Ages.{sameConfig, numbersOf, agesOf, mostAge, olderCapped, ageReadings, takes}
+use Rattle.ages.specs.Ages.{sameConfig, numbersOf, agesOf, mostAge, olderCapped, takes}
 use Rattle.edges.specs.Leaving.{leavesOn}
-use Rattle.guards.specs.declared.Readings.{Readings}
 
 -- owning an array of ages tells the length of the list of what they hold, and so of the list
 pub length-mapped : (X Y : Type 0) (f : X → Y) (xs : List X) (n : ℕ) → length (map f xs) ≡ n → length xs ≡ n
@@ -68,43 +66,22 @@ zeroed-four mask a b c d (p ∷ q ∷ []) n e f g h = absurd (omega arith)
 zeroed-four mask a b c d (p ∷ q ∷ s ∷ []) n e f g h = absurd (omega arith)
 zeroed-four mask a b c d (p ∷ q ∷ s ∷ t ∷ u ∷ xs) n e f g h = absurd (omega arith)
 
--- four ages, each as a clock reads it: those past the first k read 0
+-- four ages, as clocks read them
 pub read-four :
-    (k a b c d : ℕ) (xs : List Age) → length xs ≡ mostClocks → a ≡ pick (ltb 0 k) (getD xs 0 noAge .0) 0
-    → b ≡ pick (ltb 1 k) (getD xs 1 noAge .0) 0
-    → c ≡ pick (ltb 2 k) (getD xs 2 noAge .0) 0
-    → d ≡ pick (ltb 3 k) (getD xs 3 noAge .0) 0
-    → a ∷ b ∷ c ∷ d ∷ [] ≡ filled mostClocks (take k (numbersOf xs))
-read-four zero a b c d (p ∷ q ∷ s ∷ t ∷ []) n e f g h = rw (e, f, g, h)
-read-four (suc zero) a b c d (p ∷ q ∷ s ∷ t ∷ []) n e f g h = rw (e, f, g, h)
-read-four (suc (suc zero)) a b c d (p ∷ q ∷ s ∷ t ∷ []) n e f g h = rw (e, f, g, h)
-read-four (suc (suc (suc zero))) a b c d (p ∷ q ∷ s ∷ t ∷ []) n e f g h = rw (e, f, g, h)
-read-four (suc (suc (suc (suc k)))) a b c d (p ∷ q ∷ s ∷ t ∷ []) n e f g h =
-    let m : ℕ = suc (suc (suc (suc k))) in
-    rw (
-      e,
-      f,
-      g,
-      h,
-      lt-ltb 0 m (omega arith),
-      lt-ltb 1 m (omega arith),
-      lt-ltb 2 m (omega arith),
-      lt-ltb 3 m (omega arith),
-      take-nil {A = ℕ} k,
-    )
-read-four k a b c d [] n e f g h = absurd (omega arith)
-read-four k a b c d (p ∷ []) n e f g h = absurd (omega arith)
-read-four k a b c d (p ∷ q ∷ []) n e f g h = absurd (omega arith)
-read-four k a b c d (p ∷ q ∷ s ∷ []) n e f g h = absurd (omega arith)
-read-four k a b c d (p ∷ q ∷ s ∷ t ∷ u ∷ xs) n e f g h = absurd (omega arith)
+    (xs : List Age) → length xs ≡ mostClocks
+    → getD xs 0 noAge .0 ∷ getD xs 1 noAge .0 ∷ getD xs 2 noAge .0 ∷ getD xs 3 noAge .0 ∷ [] ≡ numbersOf xs
+read-four (p ∷ q ∷ s ∷ t ∷ []) n = refl
+read-four [] n = absurd (omega arith)
+read-four (p ∷ []) n = absurd (omega arith)
+read-four (p ∷ q ∷ []) n = absurd (omega arith)
+read-four (p ∷ q ∷ s ∷ []) n = absurd (omega arith)
+read-four (p ∷ q ∷ s ∷ t ∷ u ∷ xs) n = absurd (omega arith)
 
--- a guard over what the clocks read is the guard over the ages
-pub read-guard :
-    (d k : ℕ) (ages : Ages) (by : Readings) (xs : List Atom) → by ≡ ageReadings d k ages
-    → guard (by .unit) (by .of) xs ≡ guard d (agesOf k ages) xs
-read-guard d k ages by xs e =
-    ap (λ (x : Readings). guard (x .unit) (x .of) xs) e
-    ∙ padded-guard d (agesOf k ages) (mostClocks - length (agesOf k ages)) xs
+-- what the first k clocks read
+pub read-ages :
+    (k : ℕ) (ages : Ages) (read by : List ℕ) → read ≡ numbersOf (ages .of) → by ≡ take k (drop 0 read)
+    → by ≡ agesOf k ages
+read-ages k ages read by e h = h ∙ ap (take k) e
 
 pub numbers-length : (xs : List Age) → length (numbersOf xs) ≡ length xs
 numbers-length [] = refl
@@ -155,11 +132,13 @@ module _ (d k symbol : ℕ) (from : Configuration) (e : Edge) (r : Bool)
   pub not-leaving : r ≡ false → r ≡ takes d k symbol from e
   not-leaving f = f ∙ rw (sym t ∙ f)
 
+  pub false-not-leaving : not r ≡ true → false ≡ takes d k symbol from e
+  false-not-leaving f = let no : r ≡ false = not-true r f in sym no ∙ not-leaving no
+
   pub guard-decides :
-      (g : Bool) (by : Readings) → r ≡ true → by ≡ ageReadings d k (from .ages)
-      → g ≡ isMet (guard (by .unit) (by .of) (e .atoms))
+      (g : Bool) (by : List ℕ) → r ≡ true → by ≡ agesOf k (from .ages) → g ≡ isMet (guard d by (e .atoms))
       → g ≡ takes d k symbol from e
-  guard-decides g by f b h = rw (sym t ∙ f) (h ∙ ap isMet (read-guard d k (from .ages) by (e .atoms) b))
+  guard-decides g by f b h = rw (sym t ∙ f) (h ∙ ap (λ (ages : List ℕ). isMet (guard d ages (e .atoms))) b)
 
 -- Two lists of one length are the same from place k on exactly if they are the same there and after.
 same-step :

@@ -6,11 +6,10 @@ use Prim.Native.Nat.{ℕ, _+_}
 use lib.Dec.{eqb}
 use lib.ListN.{take}
 use Rattle.model.specs.declared.Age.{Age}
-use Rattle.model.specs.Basics.{lesser, same, filled}
-use Rattle.model.specs.Rules.{Edge, mostClocks}
+use Rattle.model.specs.Basics.{lesser, same}
+use Rattle.model.specs.Rules.{Edge}
 use Rattle.model.specs.Words.{Event}
 use Rattle.model.specs.Runs.{canTake, zeroed, Config, config}
-use Rattle.guards.specs.declared.Readings.{Readings}
 use Rattle.ages.specs.declared.Ages.{Ages}
 use Rattle.ages.specs.declared.Configuration.{Configuration}
 
@@ -40,10 +39,6 @@ olderCapped delay (a ∷ ages) = lesser (a + delay) mostAge ∷ olderCapped dela
 -- an event with this symbol; whether an edge can be taken does not depend on its stamp
 abbrev pub withSymbol : ℕ → Event
 withSymbol s = record { symbol = s; stamp = 0 }
-
--- what the first k clocks read, for a guard, all others 0; one of a constant is D
-abbrev pub ageReadings : ℕ → ℕ → Ages → Readings
-ageReadings d k ages = record { of = filled mostClocks (agesOf k ages); unit = d }
 
 -- an edge that can be taken on a symbol
 abbrev pub takes : ℕ → ℕ → ℕ → Configuration → Edge → Bool

@@ -3,7 +3,6 @@
 // Total: ages past the rule's clocks are not looked at, and a clock past them reads 0, as in the definitions.
 ghost use mathlib.Core.Path.{_≡_};
 ghost use Prim.Native.Nat.{_+_};
-ghost use lib.Dec.{ltb};
 ghost use lib.ListN.{getD};
 ghost use Rattle.model.specs.Basics.{pick, lesser, zeros, bit, isIn, same};
 ghost use Rattle.model.specs.Rules.{mostClocks};
@@ -11,17 +10,17 @@ ghost use Rattle.model.specs.Runs.{zeroed};
 ghost use Rattle.model.specs.Layout.{locationsIn, edgeAt};
 ghost use Rattle.edges.specs.Leaving.{leavesOn};
 ghost use Rattle.ages.specs.Ages.{numbersOf, agesOf, mostAge, olderCapped, Waited, Moved};
-ghost use Rattle.ages.specs.Ages.{ageReadings, takes, configOf, sameConfig};
+ghost use Rattle.ages.specs.Ages.{takes, configOf, sameConfig};
 use edges::fields::resets_of;
 use edges::fields::source_of;
 use edges::fields::symbol_of;
 use edges::fields::target_of;
-use guards::Readings;
 use guards::guard_holds;
 use model::Age;
 use model::MOST_CLOCKS;
 use model::MOST_LOCATIONS;
 use numbers::has_bit;
+use numbers::part_of;
 use numbers::wide16;
 use numbers::wide32;
 
@@ -117,30 +116,12 @@ pub fn zeroed(ages: Ages, mask: usize) -> Ages
     }
 }
 
-// What a clock reads: its age, and 0 where the rule has no such clock.
-pub(crate) fn read_age(age: Age, clock: usize, clocks: usize) -> u32
-    ensures { λ r. ⌜ r ≡ pick (ltb clock clocks) (age .0) 0 ⌝ }
-{
-    if clock < clocks {
-        return age.0;
-    }
-    0
-}
-
-// What the rule's clocks read, for a guard: their ages in D-ths. No other code takes an age for a plain number.
-pub fn readings(ages: Ages, clocks: usize, grain: u32) -> Readings
-    ensures { λ r. ⌜ r ≡ ageReadings grain clocks ages ⌝ }
+// What the clocks read, for a guard: their ages in D-ths. No other code takes an age for a plain number.
+pub fn readings(ages: Ages) -> [u32; MOST_CLOCKS]
+    ensures { λ r. ⌜ r ≡ numbersOf (ages .of) ⌝ }
 {
     let of = ages.of;
-    Readings {
-        of: [
-            read_age(of[0], 0, clocks),
-            read_age(of[1], 1, clocks),
-            read_age(of[2], 2, clocks),
-            read_age(of[3], 3, clocks),
-        ],
-        unit: grain,
-    }
+    [of[0].0, of[1].0, of[2].0, of[3].0]
 }
 
 // Edge `e` leaves the location, with the symbol.
@@ -165,7 +146,11 @@ pub fn can_take(
     ensures { λ r. ⌜ r ≡ takes grain clocks symbol from (edgeAt e (now (edges .entry))) ⌝ }
 {
     let ages = from.ages;
-    leaves(edges, e, from.location, symbol) && guard_holds(edges, e, readings(ages, clocks, grain))
+    if !leaves(edges, e, from.location, symbol) {
+        return false;
+    }
+    let read = readings(ages);
+    guard_holds(edges, e, part_of(&read, 0, clocks), grain)
 }
 
 // Time passes: every age grows by the delay, the location stays.

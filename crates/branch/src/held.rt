@@ -20,6 +20,7 @@ use guards::guard_of;
 use model::Guard;
 use model::Head;
 use model::Stamp;
+use numbers::part_of;
 use numbers::wide16;
 use numbers::wide32;
 
@@ -52,12 +53,13 @@ pub(crate) fn lowest_leaving(
 {
     let now = after_delay(start_at(0), stamp.since(Stamp(0)));
     let ages = now.ages;
-    let by = readings(ages, wide32(head.clocks), grain);
+    let read = readings(ages);
+    let by = part_of(&read, 0, wide32(head.clocks));
     let count = head.count;
     let mut e: u32 = 0;
     while e < count {
         if leaves_some(edges, e, head.starts, symbol) {
-            return guard_of(edges, e, by);
+            return guard_of(edges, e, by, grain);
         }
         e += 1;
     }

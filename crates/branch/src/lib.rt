@@ -28,6 +28,7 @@ use model::MOST_BRANCH_EVENTS;
 use model::MOST_LOCATIONS;
 use model::Stamp;
 use numbers::has_bit;
+use numbers::part_of;
 use numbers::wide32;
 use rule::check_rule;
 use word::check_word;
@@ -91,10 +92,13 @@ pub(crate) fn least_from(
     let now = after_delay(from, stamp.since(last));
     let count = head.count;
     let ages = now.ages;
-    let by = readings(ages, wide32(head.clocks), given.grain);
+    let read = readings(ages);
+    let by = part_of(&read, 0, wide32(head.clocks));
     let mut e: u32 = 0;
     while e < count {
-        if leaves(edges, e, now.location, symbols[depth]) && guard_holds(edges, e, by) {
+        if leaves(edges, e, now.location, symbols[depth])
+            && guard_holds(edges, e, by, given.grain)
+        {
             let next = after_edge(edges, e, now);
             let run = least_from(given, edges, symbols, stamps, left - 1, stamp, next);
             if run.found {

@@ -1,5 +1,7 @@
 // Guards over what the clocks read: ages in D-ths of a second, or regions. One code for both, as there is one
-// definition. Total: a number past the end of the edge table is 0, and so is what a clock past the readings reads.
+// definition. `readings` has a number for each clock; `unit` is what one of a constant is in it: D where the clocks read
+// ages, 2 where they read regions.
+// Total: a number past the end of the edge table is 0, and so is what a clock past the readings reads.
 ghost use mathlib.Core.Path.{_≡_};
 ghost use Prim.Native.Nat.{_^_, _<_};
 ghost use lib.ListN.{getD};
@@ -12,25 +14,9 @@ use model::ATOM_CONSTANT;
 use model::ATOM_RELATION;
 use model::ATOM_WIDTH;
 use model::Guard;
-use model::MOST_CLOCKS;
+use numbers::entry_at;
 use numbers::number_at;
 use numbers::wide32;
-
-// What the clocks read, and what one of a constant is in it: D where they read ages, 2 where they read regions.
-pub struct Readings {
-    pub of: [u32; MOST_CLOCKS],
-    pub unit: u32,
-}
-
-// What a clock reads.
-pub(crate) fn reading_of(of: [u32; MOST_CLOCKS], clock: usize) -> usize
-    ensures { λ r. ⌜ r ≡ getD of clock 0 ⌝ }
-{
-    if MOST_CLOCKS <= clock {
-        return 0;
-    }
-    wide32(of[clock])
-}
 
 // The relations by their codes: less, at most, equal, at least, greater.
 pub(crate) fn relate(relation: usize, value: usize, limit: usize) -> bool
@@ -46,25 +32,24 @@ pub(crate) fn relate(relation: usize, value: usize, limit: usize) -> bool
 }
 
 // Does the atom at a place of the edge table hold?
-pub(crate) fn atom_holds(edges: &[u16], at: usize, by: Readings) -> bool
+pub(crate) fn atom_holds(edges: &[u16], at: usize, readings: &[u32], unit: u32) -> bool
     requires { ⌜ at < 2 ^ 41 ⌝ }
-    ensures { λ r. ⌜ r ≡ meets (by .unit) (by .of) (atomAt at (now (edges .entry))) ⌝ }
+    ensures { λ r. ⌜ r ≡ meets unit (now (readings .entry)) (atomAt at (now (edges .entry))) ⌝ }
 {
-    let of = by.of;
-    let value = reading_of(of, number_at(edges, at));
-    let limit = number_at(edges, at + ATOM_CONSTANT) * wide32(by.unit);
+    let value = wide32(entry_at(readings, number_at(edges, at)));
+    let limit = number_at(edges, at + ATOM_CONSTANT) * wide32(unit);
     relate(number_at(edges, at + ATOM_RELATION), value, limit)
 }
 
 // The guard of edge `e`: it holds, or the first atom, by position from 0, that does not.
-pub fn guard_of(edges: &[u16], e: u32, by: Readings) -> Guard
-    ensures { λ r. ⌜ r ≡ guard (by .unit) (by .of) (edgeAt e (now (edges .entry)) .atoms) ⌝ }
+pub fn guard_of(edges: &[u16], e: u32, readings: &[u32], unit: u32) -> Guard
+    ensures { λ r. ⌜ r ≡ guard unit (now (readings .entry)) (edgeAt e (now (edges .entry)) .atoms) ⌝ }
 {
     let at = atoms_place(e);
     let count = count_of(edges, e);
     let mut j: usize = 0;
     while j < count {
-        if !atom_holds(edges, at + ATOM_WIDTH * j, by) {
+        if !atom_holds(edges, at + ATOM_WIDTH * j, readings, unit) {
             return Guard::Fails(j);
         }
         j += 1;
@@ -83,8 +68,8 @@ pub(crate) fn met(answer: Guard) -> bool
 }
 
 // Does the guard of edge `e` hold?
-pub fn guard_holds(edges: &[u16], e: u32, by: Readings) -> bool
-    ensures { λ r. ⌜ r ≡ isMet (guard (by .unit) (by .of) (edgeAt e (now (edges .entry)) .atoms)) ⌝ }
+pub fn guard_holds(edges: &[u16], e: u32, readings: &[u32], unit: u32) -> bool
+    ensures { λ r. ⌜ r ≡ isMet (guard unit (now (readings .entry)) (edgeAt e (now (edges .entry)) .atoms)) ⌝ }
 {
-    met(guard_of(edges, e, by))
+    met(guard_of(edges, e, readings, unit))
 }

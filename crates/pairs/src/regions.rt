@@ -7,7 +7,6 @@ use crate::Input;
 use crate::Pair;
 use edges::fields::source_of;
 use edges::fields::symbol_of;
-use guards::Readings;
 use guards::guard_holds;
 use model::MOST_CLOCKS;
 use numbers::lesser;
@@ -29,18 +28,15 @@ pub(crate) fn region(top: u8, base: u16, interval: u32) -> u32
 }
 
 // What the clocks of a pair read: their regions.
-pub fn readings(top: u8, interval: u32, bases: [u16; MOST_CLOCKS]) -> Readings
+pub fn readings(top: u8, interval: u32, bases: [u16; MOST_CLOCKS]) -> [u32; MOST_CLOCKS]
     ensures { λ r. ⌜ r ≡ regionReadings top interval bases ⌝ }
 {
-    Readings {
-        of: [
-            region(top, bases[0], interval),
-            region(top, bases[1], interval),
-            region(top, bases[2], interval),
-            region(top, bases[3], interval),
-        ],
-        unit: REGION_UNIT,
-    }
+    [
+        region(top, bases[0], interval),
+        region(top, bases[1], interval),
+        region(top, bases[2], interval),
+        region(top, bases[3], interval),
+    ]
 }
 
 // Does a pair allow edge `e`, on a symbol and an interval?
@@ -54,5 +50,6 @@ pub fn allows(edges: &[u16], e: u32, top: u8, input: Input, pair: Pair) -> bool
         return false;
     }
     let bases = pair.bases;
-    guard_holds(edges, e, readings(top, input.interval, bases))
+    let read = readings(top, input.interval, bases);
+    guard_holds(edges, e, &read, REGION_UNIT)
 }

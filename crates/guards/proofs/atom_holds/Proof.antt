@@ -7,8 +7,11 @@ use Rattle.guards.proofs.atom_holds.Tie as tie
 number-at-requires : tie.Need-number-at-requires
 number-at-requires c κs = search needs
 
-reading-of-requires : tie.Need-reading-of-requires
-reading-of-requires c κs = search needs
+entry-at-requires : tie.Need-entry-at-requires
+entry-at-requires c κs = search needs
+
+wide32-requires : tie.Need-wide32-requires
+wide32-requires c κs = search needs
 
 add-number-at : tie.Need-add-number-at
 add-number-at c = search needs
@@ -16,8 +19,8 @@ add-number-at c = search needs
 number-at-requires-2 : tie.Need-number-at-requires-2
 number-at-requires-2 c κs = search needs
 
-wide32-requires : tie.Need-wide32-requires
-wide32-requires c κs = search needs
+wide32-requires-2 : tie.Need-wide32-requires-2
+wide32-requires-2 c κs = search needs
 
 mul-limit : tie.Need-mul-limit
 mul-limit c = limit-fits _ _ (search needs) (search needs)
@@ -39,10 +42,11 @@ atom-holds-spec =
     tie.close
     (tie.spec
     number-at-requires
-    reading-of-requires
+    entry-at-requires
+    wide32-requires
     add-number-at
     number-at-requires-2
-    wide32-requires
+    wide32-requires-2
     mul-limit
     add-number-at-2
     number-at-requires-3

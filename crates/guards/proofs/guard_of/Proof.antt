@@ -7,11 +7,11 @@ use Rattle.guards.proofs.guard_of.Statement.{statement}
 use Rattle.guards.proofs.guard_of.Tie as tie
 
 abbrev Inv-loop : tie.InvT-loop
-Inv-loop edges e by at count j₀ j =
-    (at < 2 ^ 40) × (count < 2 ^ 16) × Answering (meets (by .unit) (by .of)) edges e at count j
+Inv-loop edges e readings unit at count j₀ j =
+    (at < 2 ^ 40) × (count < 2 ^ 16) × Answering (meets unit readings) edges e at count j
 
 abbrev μ-loop : tie.MeasureT-loop
-μ-loop edges e by at count j₀ j = count - j
+μ-loop edges e readings unit at count j₀ j = count - j
 
 atoms-place-requires : tie.Need-atoms-place-requires Inv-loop μ-loop
 atoms-place-requires c κs = search needs
