@@ -5,7 +5,7 @@ use mathlib.Core.List.{List, [], _∷_, _++_}
 use Prim.Native.Nat.{ℕ, zero, suc, _+_, _-_, _*_, _^_, _≤_, _<_}
 use native.Mathlib.Omega.{arith}
 use native.Mathlib.Numerals.{add-one}
-use lib.ListN.{length, getD, set, drop, length-replicate, replicate-append-replicate}
+use lib.ListN.{length, getD, set, take, drop, length-replicate, replicate-append-replicate}
 use lib.Seq.{set-at}
 use Rattle.model.specs.declared.Head.{Head}
 use Rattle.model.specs.Basics.{pick, isIn, zeros, filled}
@@ -18,9 +18,9 @@ use Rattle.model.proofs.Events.{eventAt, events-rest, events-end}
 use Rattle.model.proofs.Inputs.{ordered-rest}
 use Rattle.model.proofs.Ages.{AtMost, older-most, zeroed-most}
 use Rattle.ages.specs.declared.Configuration.{Configuration}
-use Rattle.ages.specs.Ages.{agesOf, ageReadings, takes, Waited, Moved}
+use Rattle.ages.specs.Ages.{numbersOf, agesOf, takes, Waited, Moved}
+use Rattle.ages.proofs.Laws.{read-ages}
 use Rattle.ages.proofs.Moves.{waited-until, moved-ages}
-use Rattle.guards.specs.declared.Readings.{Readings}
 use Rattle.branch.specs.declared.Run.{Run}
 use Rattle.branch.specs.Branches.{placed, withEdge, leastAt, Ready}
 
@@ -96,14 +96,20 @@ module _ (head : Head) (edges : List ℕ) (d : ℕ) (symbols stamps : List ℕ) 
       (onward (edgeAt e edges .target) (zeroed (edgeAt e edges .resets) (agesOf (head .clocks) (now .ages))))
       noPath
 
-  pub record Trying (by : Readings) (e : ℕ) : Type 0 where
+  pub record Trying (by : List ℕ) (e : ℕ) : Type 0 where
     pub turns : e ≤ head .count
-    pub clocks-read : by ≡ ageReadings d (head .clocks) (now .ages)
+    pub clocks-read : by ≡ agesOf (head .clocks) (now .ages)
     pub rest-is : tryFrom e ≡ tryFrom 0
 
   pub trying-start :
-      (by : Readings) (clocks : ℕ) → clocks ≡ head .clocks → by ≡ ageReadings d clocks (now .ages) → Trying by 0
-  trying-start by clocks k h = record { turns = omega arith; clocks-read = rw k at h; rest-is = refl }
+      (by read : List ℕ) (clocks : ℕ) → clocks ≡ head .clocks → read ≡ numbersOf (now .ages .of)
+      → by ≡ take clocks (drop 0 read)
+      → Trying by 0
+  trying-start by read clocks k h p = record {
+    turns = omega arith;
+    clocks-read = read-ages (head .clocks) (now .ages) read by h (rw k at p);
+    rest-is = refl;
+  }
 
   try-step :
       (e : ℕ) → e < head .count
@@ -115,7 +121,7 @@ module _ (head : Head) (edges : List ℕ) (d : ℕ) (symbols stamps : List ℕ) 
       (edges-rest (head .count) e edges h)
       ∙ rw (add-one e)
 
-  module _ {by : Readings} {e : ℕ} (inv : Trying by e) (h : e < head .count) where
+  module _ {by : List ℕ} {e : ℕ} (inv : Trying by e) (h : e < head .count) where
     skip : byEdge e .found ≡ false → Trying by (e + 1)
     skip f = record {
       turns = omega arith;
@@ -161,7 +167,7 @@ module _ (head : Head) (edges : List ℕ) (d : ℕ) (symbols stamps : List ℕ) 
           sym (inv .rest-is) ∙ (try-step e h ∙ rw (led, found)) in
           rw (p, whole, found, edge-before depth after e (q .taken) b a)
 
-  pub trying-none : {by : Readings} {e : ℕ} → Trying by e → head .count ≤ e → tryFrom 0 ≡ noPath
+  pub trying-none : {by : List ℕ} {e : ℕ} → Trying by e → head .count ≤ e → tryFrom 0 ≡ noPath
   trying-none {e = e} inv h = let z : head .count - e ≡ 0 = omega arith in sym (inv .rest-is) ∙ rw z
 
 -- the least run from before the delay is that over all edges after it

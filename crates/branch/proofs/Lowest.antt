@@ -6,7 +6,7 @@ use mathlib.Core.List.{List, [], _∷_}
 use Prim.Native.Nat.{ℕ, suc, _+_, _-_, _*_, _^_, _≤_, _<_}
 use native.Mathlib.Omega.{arith}
 use lib.Dec.{eqb}
-use lib.ListN.{length, getD, drop}
+use lib.ListN.{length, getD, take, drop}
 use borrow.Author.Tests.{not-true, not-false}
 use Rattle.model.specs.declared.Head.{Head}
 use Rattle.model.specs.declared.Guard.{Guard}
@@ -20,10 +20,9 @@ use Rattle.model.specs.Layout.{edgeWidth, edgeAt, edgesIn, locationsIn, ruleIn}
 use Rattle.model.proofs.EdgeTable.{edges-rest}
 use Rattle.model.proofs.LeastRun.{runs-are}
 use Rattle.model.proofs.Ages.{zeros-most}
-use Rattle.guards.specs.declared.Readings.{Readings}
 use Rattle.ages.specs.declared.Configuration.{Configuration}
-use Rattle.ages.specs.Ages.{numbersOf, agesOf, ageReadings, Waited}
-use Rattle.ages.proofs.Laws.{read-guard}
+use Rattle.ages.specs.Ages.{numbersOf, agesOf, Waited}
+use Rattle.ages.proofs.Laws.{read-ages}
 use Rattle.ages.proofs.Moves.{waited-until, start-ages}
 use Rattle.branch.specs.Branches.{leastOf}
 
@@ -44,10 +43,10 @@ pub symbol-decides :
 symbol-decides initial s n m m′ e r h i f a b = rw (← h, sym i ∙ not-false r f, a, b)
 
 -- The edges from number e on are left, over what the clocks read.
-module _ (starts symbol count : ℕ) (edges : List ℕ) (by : Readings) where
+module _ (starts symbol count d : ℕ) (edges by : List ℕ) where
   abbrev pub lowestFrom : ℕ → Guard
   lowestFrom e =
-      lowestLeaving (locationsIn starts) symbol (by .unit) (by .of) (edgesIn (count - e) (drop (edgeWidth * e) edges))
+      lowestLeaving (locationsIn starts) symbol d by (edgesIn (count - e) (drop (edgeWidth * e) edges))
 
   pub record Asking (e : ℕ) : Type 0 where
     pub turns : e ≤ count
@@ -59,31 +58,21 @@ module _ (starts symbol count : ℕ) (edges : List ℕ) (by : Readings) where
   module _ {e : ℕ} (inv : Asking e) (h : e < count) (r : Bool)
       (tested : r ≡ leavesSome (locationsIn starts) symbol (edgeAt e edges)) where
     ask-step :
-        pick r (guard (by .unit) (by .of) (edgeAt e edges .atoms)) (lowestFrom (e + 1)) ≡ lowestFrom 0
+        pick r (guard d by (edgeAt e edges .atoms)) (lowestFrom (e + 1)) ≡ lowestFrom 0
     ask-step =
         rw tested
-        (sym (ap (lowestLeaving (locationsIn starts) symbol (by .unit) (by .of)) (edges-rest count e edges h))
+        (sym (ap (lowestLeaving (locationsIn starts) symbol d by) (edges-rest count e edges h))
         ∙ inv .rest-is)
 
     pub asking-next : r ≡ false → Asking (e + 1)
     asking-next f = record { turns = omega arith; rest-is = rw f at ask-step }
 
     pub asking-found :
-        (g : Guard) → r ≡ true → g ≡ guard (by .unit) (by .of) (edgeAt e edges .atoms) → g ≡ lowestFrom 0
+        (g : Guard) → r ≡ true → g ≡ guard d by (edgeAt e edges .atoms) → g ≡ lowestFrom 0
     asking-found g f k = k ∙ (rw f at ask-step)
 
   pub asking-none : {e : ℕ} → Asking e → count ≤ e → Holds ≡ lowestFrom 0
   asking-none {e} inv h = let z : count - e ≡ 0 = omega arith in rw z at (inv .rest-is)
-
--- readings over which every guard answers alike name the same
-lowest-same :
-    (initial : List ℕ) (s unit d : ℕ) (readings ages : List ℕ) (es : List Edge)
-    → ((xs : List Atom) → guard unit readings xs ≡ guard d ages xs)
-    → lowestLeaving initial s unit readings es ≡ lowestLeaving initial s d ages es
-lowest-same initial s unit d readings ages [] h = refl
-lowest-same initial s unit d readings ages (e ∷ es) h =
-    ap₂ (λ (g k : Guard). pick (isIn (e .source) initial && eqb (e .symbol) s) g k) (h (e .atoms))
-    (lowest-same initial s unit d readings ages es h)
 
 -- the first event's ages: all were 0, and the delay is its stamp
 module _ (head : Head) (edges : List ℕ) (d symbol stamp : ℕ) where
@@ -100,30 +89,25 @@ module _ (head : Head) (edges : List ℕ) (d symbol stamp : ℕ) where
       waited-until (head .clocks) 0 stamp w e (rw none (zeros-most 0 (head .clocks))) (omega arith) b ∙ rw (whole, none)
 
   pub lowest-is :
-      (count clocks delay : ℕ) (from now : Configuration) (by : Readings) (g : Guard) → head .clocks ≤ mostClocks
+      (count clocks delay : ℕ) (from now : Configuration) (read by : List ℕ) (g : Guard) → head .clocks ≤ mostClocks
       → stamp < 2 ^ 32
       → numbersOf (from .ages .of) ≡ zeros mostClocks
       → delay ≡ stamp - 0
       → Waited delay from now
+      → read ≡ numbersOf (now .ages .of)
       → clocks ≡ head .clocks
-      → by ≡ ageReadings d clocks (now .ages)
+      → by ≡ take clocks (drop 0 read)
       → count ≡ head .count
-      → g ≡ lowestFrom (head .starts) symbol count edges by 0
+      → g ≡ lowestFrom (head .starts) symbol count d edges by 0
       → g
       ≡ lowestLeaving (ruleIn head edges .initial) symbol d (older stamp (startAges (ruleIn head edges)))
       (ruleIn head edges .edges)
   unfolding ruleIn
-  lowest-is count clocks delay from now by g k b z e w c r n h =
+  lowest-is count clocks delay from now read by g k b z e w r c p n h =
       let all : count - 0 ≡ head .count = omega (arith, n) in
-      let reads : by ≡ ageReadings d (head .clocks) (now .ages) =
-      r ∙ ap (λ (m : ℕ). ageReadings d m (now .ages)) c in
-      h
-      ∙ rw all
-      (lowest-same (locationsIn (head .starts)) symbol (by .unit) d (by .of) (older stamp (zeros (head .clocks)))
-      (edgesIn (head .count) edges)
-      (λ xs.
-      read-guard d (head .clocks) (now .ages) by xs reads
-      ∙ ap (λ (ages : List ℕ). guard d ages xs) (first-ages delay from now k b z e w)))
+      let ages : by ≡ older stamp (zeros (head .clocks)) =
+      read-ages (head .clocks) (now .ages) read by r (rw c at p) ∙ first-ages delay from now k b z e w in
+      h ∙ rw (all, ages)
 
 -- With a run nothing held the rule back, and nothing without events; else it is the lowest edge's guard.
 module _ (head : Head) (edges : List ℕ) (d : ℕ) where

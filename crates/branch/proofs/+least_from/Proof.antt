@@ -28,6 +28,7 @@ use Rattle.ages.proofs.readings.Reads as readings-reads
 use Rattle.branch.proofs.no_edges.Reads as no-edges-reads
 use Rattle.branch.proofs.with_edge.Reads as with-edge-reads
 use Rattle.guards.proofs.guard_holds.Reads as guard-holds-reads
+use Rattle.numbers.proofs.part_of.Reads as part-of-reads
 use Rattle.numbers.proofs.wide32.Reads as wide32-reads
 use Rattle.model.proofs.Stamp.since.Reads as since-reads
 use Rattle.branch.proofs.+least_from.{statement}
@@ -54,10 +55,12 @@ claims t = (
   since-reads.Learnt,
   after-delay-reads.Asked,
   after-delay-reads.Learnt,
-  wide32-reads.Asked,
-  wide32-reads.Learnt,
   readings-reads.Asked,
   readings-reads.Learnt,
+  wide32-reads.Asked,
+  wide32-reads.Learnt,
+  part-of-reads.Asked,
+  part-of-reads.Learnt,
   leaves-reads.Asked,
   leaves-reads.Learnt,
   guard-holds-reads.Asked,
@@ -131,11 +134,11 @@ module _ (t : ℕ) where
   sub-depth : lts.Need-sub-depth (claims t) (here t) own.Post Inv-loop μ-loop
   sub-depth c = search needs
 
-  mul-t20 : lts.Need-mul-t20 (claims t) (here t) own.Post Inv-loop μ-loop
-  mul-t20 c = search needs
+  mul-t21 : lts.Need-mul-t21 (claims t) (here t) own.Post Inv-loop μ-loop
+  mul-t21 c = search needs
 
-  shared-slice-read-t22 : lts.Need-shared-slice-read-t22 (claims t) (here t) own.Post Inv-loop μ-loop
-  shared-slice-read-t22 c = search needs
+  shared-slice-read-t23 : lts.Need-shared-slice-read-t23 (claims t) (here t) own.Post Inv-loop μ-loop
+  shared-slice-read-t23 c = search needs
 
   since-requires : lts.Need-since-requires (claims t) (here t) own.Post Inv-loop μ-loop
   since-requires c κs = search needs
@@ -143,19 +146,26 @@ module _ (t : ℕ) where
   after-delay-requires : lts.Need-after-delay-requires (claims t) (here t) own.Post Inv-loop μ-loop
   after-delay-requires c κs = search needs
 
-  wide32-requires : lts.Need-wide32-requires (claims t) (here t) own.Post Inv-loop μ-loop
-  wide32-requires c κs = search needs
-
   readings-requires : lts.Need-readings-requires (claims t) (here t) own.Post Inv-loop μ-loop
   readings-requires c κs = search needs
 
+  slice-aggregate-part-of : lts.Need-slice-aggregate-part-of (claims t) (here t) own.Post Inv-loop μ-loop
+  slice-aggregate-part-of c = search needs
+
+  wide32-requires : lts.Need-wide32-requires (claims t) (here t) own.Post Inv-loop μ-loop
+  wide32-requires c κs = search needs
+
+  part-of-requires : lts.Need-part-of-requires (claims t) (here t) own.Post Inv-loop μ-loop
+  part-of-requires c κs = search needs
+
   loop-holds : lts.Need-loop-holds (claims t) (here t) own.Post Inv-loop μ-loop
   loop-holds c =
-      let test = c .before .before .before .before .before .before in
+      let read = c .before .before .before in
+      let test = read .before .before .before .before .before in
       let pre = test .before .before .before .before .before .pre .1 in (
         omega (arith, pre .0, pre .1 .events-most, test .if1 .left),
         pre .1 .edges-most,
-        trying-start _ _ _ _ _ _ _ _ _ (c .before .wide32 .ensures .0) (c .readings .ensures),
+        trying-start _ _ _ _ _ _ _ _ _ _ (c .before .wide32 .ensures .0) (read .readings .ensures) (c .part-of .ensures),
       )
 
   mul-leaves : lts.Need-mul-leaves (claims t) (here t) own.Post Inv-loop μ-loop
@@ -179,7 +189,7 @@ module _ (t : ℕ) where
   least-from-requires : lts.Need-least-from-requires (claims t) (here t) own.Post Inv-loop μ-loop
   least-from-requires c κs =
       let at = c .before .before .before .before .before .before .before in
-      let waited = at .before .before .before .before in
+      let waited = at .before .before .before .before .before .before in
       let stamp = waited .before .before in
       let test = stamp .before in
       let s = test .before .before .before .before .before in
@@ -218,7 +228,7 @@ module _ (t : ℕ) where
       let round = left .before .before in
       let at = round .before in
       let l = at .loop in
-      let waited = at .before .before .before .before in
+      let waited = at .before .before .before .before .before .before in
       let test = waited .before .before .before in
       let a = test .before .before .before .before .before .args in
       let depth = length (a .symbols .now) - a .left in
@@ -255,7 +265,7 @@ module _ (t : ℕ) where
   loop-again c =
       let at = c .before .before .before .before in
       let l = at .loop in
-      let waited = at .before .before .before .before in
+      let waited = at .before .before .before .before .before .before in
       let test = waited .before .before .before in
       let a = test .before .before .before .before .before .args in
       let d = a .given .grain in
@@ -295,7 +305,7 @@ module _ (t : ℕ) where
   returns-3 : lts.Need-returns-3 (claims t) (here t) own.Post Inv-loop μ-loop
   returns-3 c =
       let at = c .before .before in
-      let waited = at .before .before .before .before in
+      let waited = at .before .before .before .before .before .before in
       let a = waited .before .before .before .before .before .before .before .before .args in
       let depth = length (a .symbols .now) - a .left in
       let none = trying-none _ _ _ _ _ _ _ (at .loop .inv .2) (c .before .loop-test .left) in
@@ -313,12 +323,14 @@ pub +least-from-spec : {M : Type 1} → statement M
     (no-edges-requires t)
     (returns t)
     (sub-depth t)
-    (mul-t20 t)
-    (shared-slice-read-t22 t)
+    (mul-t21 t)
+    (shared-slice-read-t23 t)
     (since-requires t)
     (after-delay-requires t)
-    (wide32-requires t)
     (readings-requires t)
+    (slice-aggregate-part-of t)
+    (wide32-requires t)
+    (part-of-requires t)
     (loop-holds t)
     (mul-leaves t)
     (shared-slice-read-leaves t)
