@@ -71,4 +71,5 @@ module _ (head : Head) (edges : List ℕ) (d : ℕ) (symbols stamps : List ℕ) 
         let least : Path = leastOf head edges d symbols stamps in
         let plain : begun least ≡ branchOf fine least Holds =
         begun-is least (not-found head edges d symbols stamps (ruleIn head edges .initial)) in
-        record { answer-is = w ∙ rw (c .passes-both, e, h) (with-held-is least (heldBack (ruleIn head edges) d (eventsOf symbols stamps)) plain) }
+        let held : Guard = heldBack (ruleIn head edges) d (eventsOf symbols stamps) in
+        record { answer-is = w ∙ rw (c .passes-both, e, h) (with-held-is least held plain) }

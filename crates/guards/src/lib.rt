@@ -1,10 +1,9 @@
 // Guards over what the clocks read: ages in D-ths of a second, or regions. One code for both, as there is one
-// definition. `readings` has a number for each clock; `unit` is what one of a constant is in it: D where the clocks read
-// ages, 2 where they read regions.
+// definition. `readings` has a number for each clock; `unit` is what one of a constant is in it: D where the clocks
+// read ages, 2 where they read regions.
 // Total: a number past the end of the edge table is 0, and so is what a clock past the readings reads.
 ghost use mathlib.Core.Path.{_≡_};
 ghost use Prim.Native.Nat.{_^_, _<_};
-ghost use lib.ListN.{getD};
 ghost use Rattle.model.specs.Guards.{related, meets, guard, isMet};
 ghost use Rattle.model.specs.Layout.{edgeAt};
 ghost use Rattle.guards.specs.Atoms.{atomAt};

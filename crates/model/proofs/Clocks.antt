@@ -17,8 +17,8 @@ use Rattle.model.specs.Construction.{intervalOf, regionOf, regionsOf, re
 use Rattle.model.specs.Claims.{tracks, tracksAll, atomsWithin, Guards-agree}
 use Rattle.model.proofs.Logic.{no-way, by-test, and-left, and-right, In, here, there, Some, some-either}
 use Rattle.model.proofs.Guards.{same-tests, met-each}
-use Rattle.model.proofs.Regions.{Tracks, near, far, side, related-agrees, even-region, Whole, advance-one, zero-one}
-use Rattle.model.proofs.Regions.{older-one}
+use Rattle.model.proofs.Regions.{Tracks, near, far, side, related-agrees, even-region, Whole, advance-one}
+use Rattle.model.proofs.Regions.{zero-one, older-one}
 
 pub data TracksAll (c d t : ℕ) : List ℕ → List ℕ → Type 0 where
   none : TracksAll c d t [] []

@@ -1,12 +1,12 @@
 -- Guards, atom by atom: tests that agree on a guard's atoms give one answer, and a guard holds exactly if all atoms do.
 use mathlib.Core.Path.{_≡_, refl, _∙_, ap, ap₂}
 use mathlib.Core.Bool.{Bool, true, false, _&&_}
-use mathlib.Core.List.{List, [], _∷_, _++_}
-use Prim.Native.Nat.{ℕ, zero, suc, _*_}
+use mathlib.Core.List.{List, [], _∷_}
+use Prim.Native.Nat.{ℕ, suc, _*_}
 use lib.ListN.{getD}
 use Rattle.model.specs.declared.Guard.{Guard}
 use Rattle.model.specs.declared.Guard.the-variants.{Fails}
-use Rattle.model.specs.Basics.{pick, zeros}
+use Rattle.model.specs.Basics.{pick}
 use Rattle.model.specs.Rules.{Atom}
 use Rattle.model.specs.Guards.{related, meets, firstFailing, guard, isMet}
 use Rattle.model.specs.Claims.{allMeet}
@@ -29,22 +29,6 @@ pub same-readings :
 same-readings unit readings others xs h =
     same-tests 0 (meets unit readings) (meets unit others) xs
     (λ a i. ap (λ (value : ℕ). related (a .relation) value (a .constant * unit)) (h a i))
-
--- zeros past the readings are what a clock past them reads
-getD-zeros : (n k : ℕ) → getD (zeros n) k 0 ≡ 0
-getD-zeros zero k = refl
-getD-zeros (suc n) zero = refl
-getD-zeros (suc n) (suc k) = getD-zeros n k
-
-getD-padded : (xs : List ℕ) (n k : ℕ) → getD (xs ++ zeros n) k 0 ≡ getD xs k 0
-getD-padded [] n k = getD-zeros n k
-getD-padded (x ∷ xs) n zero = refl
-getD-padded (x ∷ xs) n (suc k) = getD-padded xs n k
-
-pub padded-guard :
-    (unit : ℕ) (readings : List ℕ) (n : ℕ) (xs : List Atom) → guard unit (readings ++ zeros n) xs ≡ guard unit readings xs
-padded-guard unit readings n xs =
-    same-readings unit (readings ++ zeros n) readings xs (λ a i. getD-padded readings n (a .clock))
 
 -- the answer of one atom and the rest
 met-either : (met : Bool) (g : Guard) (n : ℕ) → isMet (pick met g (Fails n)) ≡ (met && isMet g)

@@ -165,7 +165,8 @@ module _ (t : ℕ) where
       let pre = test .before .before .before .before .before .pre .1 in (
         omega (arith, pre .0, pre .1 .events-most, test .if1 .left),
         pre .1 .edges-most,
-        trying-start _ _ _ _ _ _ _ _ _ _ (c .before .wide32 .ensures .0) (read .readings .ensures) (c .part-of .ensures),
+        trying-start _ _ _ _ _ _ _ _ _ _ (c .before .wide32 .ensures .0) (read .readings .ensures)
+            (c .part-of .ensures),
       )
 
   mul-leaves : lts.Need-mul-leaves (claims t) (here t) own.Post Inv-loop μ-loop

@@ -23,7 +23,8 @@ abbrev μ-loop : tie.MeasureT-loop
 told :
     (c : tie.After-part-of Inv-loop μ-loop) (g : Guard)
     → let a = c .before .before .before .before .before .before .before .before .before .args in
-    g ≡ lowestFrom (a .head .starts) (a .symbol) (a .head .count) (a .grain) (a .edges .now) (now (c .part-of .result)) 0
+    g
+    ≡ lowestFrom (a .head .starts) (a .symbol) (a .head .count) (a .grain) (a .edges .now) (now (c .part-of .result)) 0
     → g
     ≡ lowestLeaving (ruleIn (a .head) (a .edges .now) .initial) (a .symbol) (a .grain)
     (older (a .stamp .0) (startAges (ruleIn (a .head) (a .edges .now))))
