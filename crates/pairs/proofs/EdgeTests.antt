@@ -11,13 +11,12 @@ use borrow.Author.Tests.{lt-ltb, le-ltb, le-leb, leb-true, eq-eqb, ne-eqb}
 use Rattle.model.specs.Basics.{lesser}
 use Rattle.model.specs.Rules.{Edge, mostClocks}
 use Rattle.model.specs.Guards.{guard, isMet}
-use Rattle.model.specs.Construction.{regionOf}
+use Rattle.model.specs.Construction.{regionOf, regionsOf}
 use Rattle.model.proofs.Logic.{by-test, Two, two, less, least, lesser-right}
-use Rattle.guards.specs.declared.Readings.{Readings}
 use Rattle.pairs.specs.declared.Pair.{Pair}
 use Rattle.pairs.specs.declared.Input.{Input}
 use Rattle.pairs.specs.declared.Scale.{Scale}
-use Rattle.pairs.specs.Pairs.{packed, movedBases, regionReadings, pairAllows, pairTarget, pairResetsOn}
+use Rattle.pairs.specs.Pairs.{packed, movedBases, pairAllows, pairTarget, pairResetsOn}
 
 -- A region is the lesser of two numbers: with a base above cm the sum is above 2 · cm too.
 lesser-most : (a m : ℕ) → m ≤ a → lesser a m ≡ m
@@ -47,7 +46,7 @@ pub readings-four :
     → x ≡ regionOf c (getD bs 1 0) i
     → y ≡ regionOf c (getD bs 2 0) i
     → z ≡ regionOf c (getD bs 3 0) i
-    → _≡_ {A = Readings} (record { of = w ∷ x ∷ y ∷ z ∷ []; unit = 2 }) (regionReadings c i bs)
+    → w ∷ x ∷ y ∷ z ∷ [] ≡ regionsOf c i bs
 readings-four c i w x y z (p ∷ q ∷ s ∷ t ∷ []) n e f g h = rw (e, f, g, h)
 readings-four c i w x y z [] n e f g h = absurd (omega arith)
 readings-four c i w x y z (p ∷ []) n e f g h = absurd (omega arith)
@@ -68,12 +67,12 @@ module _ (c : ℕ) (at : Input) (p : Pair) (e : Edge) where
       rw (← s, eq-eqb source (p .location) l, ← y, ← r, ne-eqb symbol read h)
 
   pub same-edge :
-      (source symbol read : ℕ) (by : Readings) (r : Bool) → source ≡ e .source → source ≡ p .location
+      (source symbol read : ℕ) (by : List ℕ) (r : Bool) → source ≡ e .source → source ≡ p .location
       → symbol ≡ e .symbol
       → read ≡ at .symbol
       → symbol ≡ read
-      → by ≡ regionReadings c (at .interval) (p .bases)
-      → r ≡ isMet (guard (by .unit) (by .of) (e .atoms))
+      → by ≡ regionsOf c (at .interval) (p .bases)
+      → r ≡ isMet (guard 2 by (e .atoms))
       → r ≡ pairAllows c at p e
   same-edge source symbol read by r s l y d h b g =
       rw (← s, eq-eqb source (p .location) l, ← y, ← d, eq-eqb symbol read h) (g ∙ rw b)

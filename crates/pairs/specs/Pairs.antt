@@ -9,8 +9,7 @@ use lib.ListN.{take}
 use Rattle.model.specs.Basics.{pick, quotient, remainder, bit}
 use Rattle.model.specs.Rules.{Edge, Rule, cm, baseCount, mostClocks}
 use Rattle.model.specs.Runs.{zeroed}
-use Rattle.model.specs.Construction.{regionsOf, regionsHold, digitsCode, digitsOf, advanced}
-use Rattle.guards.specs.declared.Readings.{Readings}
+use Rattle.model.specs.Construction.{regionsHold, digitsCode, digitsOf, advanced}
 use Rattle.pairs.specs.declared.Scale.{Scale}
 use Rattle.pairs.specs.declared.Pair.{Pair}
 use Rattle.pairs.specs.declared.Input.{Input}
@@ -47,10 +46,6 @@ movedBase mask k timer c i b = pick (bit k mask) 0 (pick timer (advancedBase c i
 
 abbrev pub movedBases : ℕ → Bool → ℕ → ℕ → List ℕ → List ℕ
 movedBases mask timer c i bases = zeroed mask (pick timer (advanced c i bases) bases)
-
--- what the clocks read: their regions; constant c is region 2c
-abbrev pub regionReadings : ℕ → ℕ → List ℕ → Readings
-regionReadings c i bases = record { of = regionsOf c i bases; unit = 2 }
 
 -- an edge that a pair allows, and its target
 abbrev pub pairAllows : ℕ → Input → Pair → Edge → Bool

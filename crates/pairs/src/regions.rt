@@ -1,8 +1,8 @@
 // Regions of a pair's clocks, and whether a pair allows an edge.
 ghost use mathlib.Core.Path.{_≡_};
-ghost use Rattle.model.specs.Construction.{regionOf};
+ghost use Rattle.model.specs.Construction.{regionOf, regionsOf};
 ghost use Rattle.model.specs.Layout.{edgeAt};
-ghost use Rattle.pairs.specs.Pairs.{pairAllows, regionReadings};
+ghost use Rattle.pairs.specs.Pairs.{pairAllows};
 use crate::Input;
 use crate::Pair;
 use edges::fields::source_of;
@@ -29,7 +29,7 @@ pub(crate) fn region(top: u8, base: u16, interval: u32) -> u32
 
 // What the clocks of a pair read: their regions.
 pub fn readings(top: u8, interval: u32, bases: [u16; MOST_CLOCKS]) -> [u32; MOST_CLOCKS]
-    ensures { λ r. ⌜ r ≡ regionReadings top interval bases ⌝ }
+    ensures { λ r. ⌜ r ≡ regionsOf top interval bases ⌝ }
 {
     [
         region(top, bases[0], interval),

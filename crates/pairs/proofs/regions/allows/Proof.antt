@@ -37,12 +37,15 @@ returns-2 c =
 readings-requires : tie.Need-readings-requires
 readings-requires c κs = search needs
 
+slice-aggregate-guard-holds : tie.Need-slice-aggregate-guard-holds
+slice-aggregate-guard-holds c = search needs
+
 guard-holds-requires : tie.Need-guard-holds-requires
 guard-holds-requires c κs = search needs
 
 returns-3 : tie.Need-returns-3
 returns-3 c =
-    let after-readings = c .before in
+    let after-readings = c .before .before in
     let at-if2 = after-readings .before .before in
     let after-symbol = at-if2 .before .before in
     let at-if1 = after-symbol .before in
@@ -67,5 +70,6 @@ allows-spec =
     wide32-requires
     returns-2
     readings-requires
+    slice-aggregate-guard-holds
     guard-holds-requires
     returns-3)
