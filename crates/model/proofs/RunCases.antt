@@ -78,7 +78,7 @@ unfolding atom bounds guards
 guards-are = (refl, refl, refl, refl, refl, refl, refl, refl, refl)
 
 -- What held a rule back, D = 2. Initial are 1 and 2: edge 0 leaves neither, edge 1 has symbol 1, edge 2 is the lowest
--- on symbol 0, edge 3 could always be taken.
+-- on symbol 0, edge 3 can always be taken, edge 4 never.
 edge-from : ℕ → ℕ → List Atom → Edge
 edge-from source symbol atoms =
     record { source = source; target = 0; symbol = symbol; resets = 0; atoms = atoms }
@@ -90,6 +90,7 @@ waits final =
     ∷ edge-from 1 1 (atom 0 3 0 ∷ atom 1 0 0 ∷ [])
     ∷ edge-from 2 0 bounds
     ∷ edge-from 1 0 []
+    ∷ edge-from 1 0 (atom 1 0 0 ∷ [])
     ∷ [])
 
 helds : Type 0
