@@ -104,10 +104,11 @@ helds =
     × (heldBack (waits []) 2 (eventsOf (2 ∷ []) (1 ∷ [])) ≡ Holds)
     × (heldBack (waits (0 ∷ [])) 2 (eventsOf (0 ∷ []) (1 ∷ [])) ≡ Holds)
     × (heldBack (waits (0 ∷ [])) 2 (eventsOf (1 ∷ []) (1 ∷ [])) ≡ Fails 1)
+    × (heldBack (waits (0 ∷ [])) 2 (eventsOf (0 ∷ 0 ∷ []) (1 ∷ 2 ∷ [])) ≡ Fails 0)
 
 helds-are : helds
 unfolding acceptsFrom acceptsFromSome accepts heldBack atom bounds edge-from waits helds
-helds-are = (refl, refl, refl, refl, refl, refl, refl, refl, refl, refl)
+helds-are = (refl, refl, refl, refl, refl, refl, refl, refl, refl, refl, refl)
 
 -- an edge back to 0, and one to 1 at age 1 that resets the clock
 stays-or-resets : Rule

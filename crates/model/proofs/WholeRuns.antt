@@ -8,10 +8,11 @@ use lib.ListN.{length, replicate}
 use Rattle.model.specs.declared.Head.{Head}
 use Rattle.model.specs.declared.Answer.{Answer}
 use Rattle.model.specs.declared.Branch.{Branch}
+use Rattle.model.specs.declared.Guard.the-variants.{Fails}
 use Rattle.model.specs.Basics.{pick, oneIf, zeros, maskOf, bitsFrom, Refusal, refusal, fine, passes, _⨾_}
 use Rattle.model.specs.Words.{eventsOf, mostEvents, mostBranchEvents, wordRefusal}
 use Rattle.model.specs.Runs.{acceptsFrom, acceptsFromSome, accepts, leastFrom, leastStart, leastRun, heldBack}
-use Rattle.model.specs.Runs.{byEdges, byConfigs, roomRefusalFrom, roomRefusal}
+use Rattle.model.specs.Runs.{path, noPath, byEdges, byConfigs, roomRefusalFrom, roomRefusal}
 use Rattle.model.specs.Layout.{headOf, edgesNumbers, edgeTable, ruleIn, ruleRefusal}
 use Rattle.model.specs.Walks.{inShape, shapeRefusal, verdict, step, stepAll, tableAccepts}
 use Rattle.model.specs.Promises.{answerOf, ChecksWord, ChecksTable, configRoom, inputRefusal, exactRefusal}
@@ -179,6 +180,16 @@ branches-are = (
   branch-as forks-passes refl,
   branch-as forks-passes refl,
 )
+
+-- a position past 0, and that a refusal has neither run nor position
+told : Type 0
+told =
+    (branchOf fine noPath (Fails 2) ≡ held-at 2)
+    × (branchOf (refusal 21 0) (path true 1 (1 ∷ [])) (Fails 3) ≡ branch 21 0)
+
+told-are : told
+unfolding branch held-at told
+told-are = (refl, refl)
 
 -- The table runner on the worked table: 25, then 30 to 33; yes and no. The checks that it makes.
 table : ℕ → List ℕ → List ℕ → Answer → Type 0
