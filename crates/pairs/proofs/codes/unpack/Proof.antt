@@ -1,11 +1,14 @@
 -- `pairs::codes::unpack` meets its contract: the digits taken off so far, with those to come, are those of the code;
 -- once nothing is left, those to come are zeros.
 use mathlib.Core.Path.{_≡_}
-use Prim.Native.Nat.{_≤_, _<_, _-_, _%_}
+use Prim.Native.Nat.{_≤_, _<_, _+_, _-_, _%_}
 use native.Mathlib.Nat.{mod-lt}
 use native.Mathlib.Omega.{arith}
 use borrow.Author.Needs.{needs}
 use Rattle.model.specs.Rules.{mostClocks}
+use Rattle.model.specs.Construction.{digitsOf}
+use Rattle.pairs.specs.declared.Pair.{Pair}
+use Rattle.pairs.specs.Pairs.{unpacked}
 use Rattle.pairs.proofs.Bases.{Taking, taking-start, taking-next, taking-nothing, taking-end, unpack-is}
 use Rattle.pairs.proofs.codes.unpack.Statement.{statement}
 use Rattle.pairs.proofs.codes.unpack.Tie as tie
@@ -38,21 +41,32 @@ remainder-requires c κs = search needs
 loop-holds : tie.Need-loop-holds Inv-loop μ-loop
 loop-holds c = (search needs, search needs, taking-start _ _)
 
+-- the pair, once the bases are all digits of the code
+all-taken :
+    (c : tie.At-loop Inv-loop μ-loop)
+    → let remainder = c .before in
+    let quotient = remainder .before in
+    let top = quotient .before .before in
+    let a = top .before .before .args in
+    c .loop .bases ≡ digitsOf mostClocks (top .wide8 .result + 2) (remainder .remainder .result)
+    → _≡_ {A = Pair} (record { location = quotient .quotient .result; bases = c .loop .bases })
+    (unpacked (a .scale) (a .code))
+all-taken c e =
+    let remainder = c .before in
+    let quotient = remainder .before in
+    let whole = quotient .before in
+    let top = whole .before in
+    let weight = top .before in
+    unpack-is (weight .before .args .scale) _ _ _ _ _ _ _ (weight .wide32 .ensures .0) (top .wide8 .ensures .0)
+    (whole .wide322 .ensures .0)
+    (quotient .quotient .ensures)
+    (remainder .remainder .ensures)
+    e
+
 returns : tie.Need-returns Inv-loop μ-loop
 returns c =
     let at-loop = c .before .before in
-    let after-remainder = at-loop .before in
-    let after-quotient = after-remainder .before in
-    let after-whole = after-quotient .before in
-    let after-top = after-whole .before in
-    let after-weight = after-top .before in
-    unpack-is (after-weight .before .args .scale) _ _ _ _ _ _ _
-    (after-weight .wide32 .ensures .0)
-    (after-top .wide8 .ensures .0)
-    (after-whole .wide322 .ensures .0)
-    (after-quotient .quotient .ensures)
-    (after-remainder .remainder .ensures)
-    (taking-nothing (at-loop .loop .inv .2) (c .if1 .taken))
+    all-taken at-loop (taking-nothing (at-loop .loop .inv .2) (c .if1 .taken))
 
 rem-narrow16 : tie.Need-rem-narrow16 Inv-loop μ-loop
 rem-narrow16 c = search needs
@@ -84,20 +98,7 @@ loop-again c =
     (search needs, search needs, taking-next (l .inv .2) _ (l .inv .0) (search needs) fits)
 
 returns-2 : tie.Need-returns-2 Inv-loop μ-loop
-returns-2 c =
-    let at-loop = c .before in
-    let after-remainder = at-loop .before in
-    let after-quotient = after-remainder .before in
-    let after-whole = after-quotient .before in
-    let after-top = after-whole .before in
-    let after-weight = after-top .before in
-    unpack-is (after-weight .before .args .scale) _ _ _ _ _ _ _
-    (after-weight .wide32 .ensures .0)
-    (after-top .wide8 .ensures .0)
-    (after-whole .wide322 .ensures .0)
-    (after-quotient .quotient .ensures)
-    (after-remainder .remainder .ensures)
-    (taking-end (at-loop .loop .inv .2) (search needs))
+returns-2 c = all-taken (c .before) (taking-end (c .before .loop .inv .2) (search needs))
 
 pub unpack-spec : {M : Type 1} → statement M
 unpack-spec =
