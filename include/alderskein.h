@@ -123,12 +123,14 @@ typedef struct {
     alderskein_built built; /* all zero on a refusal */
 } alderskein_building;
 
-/* With `taken`: an accepting run. All zero where there is none, and on a refusal. */
+/* With `taken`: an accepting run, or what held the rule back. All zero on a refusal. */
 typedef struct {
     uint8_t number;
     size_t place;
-    bool found;
-    uint16_t start; /* start location */
+    bool found;      /* some run accepts */
+    uint16_t start;  /* its start location; 0 where none accepts */
+    bool held;       /* none accepts, and a guard held the rule back at the first event */
+    size_t position; /* of that guard's first atom that does not hold, from 0; 0 where `held` is false */
 } alderskein_branch;
 
 typedef struct {
@@ -223,6 +225,10 @@ alderskein_answer alderskein_run_exact(alderskein_head head, const uint16_t *edg
 /*
  * Looks for the accepting run of a word of at most 12 events that is least by start, then edge by edge. Edges
  * are numbered from 0 in file order; places of `taken` past the word's events are zero.
+ *
+ * With at least one event and no accepting run, `held` and `position` name the first failing atom of the
+ * lowest edge, by number, leaving an initial location on the first symbol, by the first event's ages; none if
+ * there is no such edge or its guard holds, and in every other case.
  * Refuses: 20, 21, 30, 31, 32, 33. Where it refuses, and where no run accepts, all of `taken` is zero.
  *
  * It follows every branch and keeps no scratch, so that it can take edges to the power of events: a legal file

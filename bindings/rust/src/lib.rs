@@ -42,6 +42,6 @@ mod word;
 pub use follower::Follower;
 pub use raw::Stamp;
 pub use refusal::{Cause, Refusal};
-pub use rule::{Rule, Run, EDGE_TABLE, LONGEST_FILE};
+pub use rule::{LeastRun, Rule, Run, EDGE_TABLE, LONGEST_FILE};
 pub use table::{decide, Cell, Room, Table};
 pub use word::Word;

@@ -119,6 +119,10 @@ pub struct BranchAnswer {
     pub found: bool,
     /// The start location of the least one.
     pub start: u16,
+    /// Whether no run accepts and a guard held the rule back at the first event, false on a refusal.
+    pub held: bool,
+    /// The position, from 0, of that guard's first atom that does not hold; 0 where `held` is false.
+    pub position: usize,
 }
 
 /// A new follower.
@@ -317,7 +321,8 @@ pub fn run_exact(
     }
 }
 
-/// Looks for the least accepting run of a short word: 20, 21, 30 to 33. Can take edges to the power of events.
+/// Looks for the least accepting run of a short word, or names what held the rule back: 20, 21, 30 to 33.
+/// Can take edges to the power of events.
 #[rustfmt::skip]
 #[inline]
 pub fn run_branches(

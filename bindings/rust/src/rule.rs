@@ -27,6 +27,20 @@ pub struct Run {
     pub edges: Vec<u16>,
 }
 
+/// What the search for an accepting run ends with.
+#[derive(Clone, Debug, PartialEq, Eq)]
+pub enum LeastRun {
+    /// The accepting run that is least by start, then edge by edge.
+    Found(Run),
+    /// No run accepts.
+    NoRun {
+        /// What held the rule back at the first event: the position, from 0, of the first failing atom of
+        /// the lowest edge leaving an initial location on the first symbol. None without events, and if
+        /// there is no such edge or its guard holds.
+        held: Option<usize>,
+    },
+}
+
 impl Rule {
     /// Reads a rule file: 1 to 8.
     pub fn read(file: &[u8]) -> Result<Rule, Refusal> {
@@ -102,15 +116,19 @@ impl Rule {
         true
     }
 
-    /// The accepting run that is least by start, then edge by edge, for at most 12 events: 30 to 33.
+    /// The least accepting run, or what held the rule back, for at most 12 events: 30 to 33.
     ///
     /// It can take edges to the power of events. For rules of strangers there is [`Rule::accepts`].
-    pub fn least_run(&self, word: &Word) -> Result<Option<Run>, Refusal> {
+    pub fn least_run(&self, word: &Word) -> Result<LeastRun, Refusal> {
         let mut taken = [0; BRANCH_EVENTS];
         let (grain, symbols, stamps) = (word.grain(), word.symbols(), word.stamps());
         let answer = raw::run_branches(self.head, &self.edges, grain, symbols, stamps, &mut taken);
         Refusal::unless_none(answer.number, answer.place, ())?;
-        Ok(answer.found.then(|| Run { start: answer.start, edges: taken[..word.len()].to_vec() }))
+        Ok(if answer.found {
+            LeastRun::Found(Run { start: answer.start, edges: taken[..word.len()].to_vec() })
+        } else {
+            LeastRun::NoRun { held: answer.held.then_some(answer.position) }
+        })
     }
 }
 

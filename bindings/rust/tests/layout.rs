@@ -9,7 +9,7 @@ fn sizes() {
         [size_of::<Stamp>(), size_of::<Head>(), size_of::<Built>(), size_of::<Follower>()],
         [4, 28, 28, 20]
     );
-    assert_eq!([size_of::<Answer>(), size_of::<BranchAnswer>(), size_of::<Moved>()], [24, 24, 24]);
+    assert_eq!([size_of::<Answer>(), size_of::<BranchAnswer>(), size_of::<Moved>()], [24, 32, 24]);
     assert_eq!([size_of::<Reading>(), size_of::<Building>()], [48, 48]);
     assert_eq!([size_of::<Started>(), size_of::<Followed>()], [40, 40]);
 }
@@ -19,6 +19,7 @@ fn places() {
     assert_eq!([offset_of!(Answer, place), offset_of!(Answer, value)], [8, 16]);
     assert_eq!([offset_of!(Reading, head), offset_of!(Building, built)], [16, 16]);
     assert_eq!([offset_of!(BranchAnswer, found), offset_of!(BranchAnswer, start)], [16, 18]);
+    assert_eq!([offset_of!(BranchAnswer, held), offset_of!(BranchAnswer, position)], [20, 24]);
     assert_eq!([offset_of!(Started, follower), offset_of!(Followed, follower)], [16, 20]);
     assert_eq!([offset_of!(Followed, yes), offset_of!(Moved, yes)], [16, 16]);
     assert_eq!([offset_of!(Follower, reset), offset_of!(Follower, count)], [8, 16]);

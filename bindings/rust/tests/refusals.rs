@@ -2,7 +2,7 @@
 
 mod common;
 
-use alderskein::{decide, raw, Cause, Refusal, Room, Rule, Stamp, Table, Word};
+use alderskein::{decide, raw, Cause, LeastRun, Refusal, Room, Rule, Stamp, Table, Word};
 use common::{record, refused, repeated, word, worked, worked_rule, worked_table};
 
 fn read(records: &[Vec<u8>]) -> Result<Rule, Refusal> {
@@ -126,7 +126,7 @@ fn the_sender_30_to_33() {
     assert_eq!(everywhere(&word(1, &[(0, 3), (2, 2)]), 32, 2), refused(32, 2));
     assert_eq!(everywhere(&word(1, &[(0, 3), (0, 2), (9, 1)]), 33, 2), refused(33, 2));
     assert_eq!(table.run(&repeated(4096)), Ok(false));
-    assert_eq!(rule.least_run(&repeated(12)), Ok(None));
+    assert_eq!(rule.least_run(&repeated(12)), Ok(LeastRun::NoRun { held: Some(0) }));
     assert_eq!(rule.least_run(&repeated(13)), refused(31, 0));
     assert_eq!(table.follower(0).err(), Some(Refusal { number: 30, place: 0 }));
 }
@@ -158,6 +158,20 @@ fn what_a_refused_call_leaves_in_lent_tables() {
     assert_eq!(build(5).number, 22);
     assert_eq!(build(6).number, 24);
     assert_eq!((scratch[5], scratch[6], cells, rows, pool[0], pool[1]), (0, 7, [0; 24], [0; 24], 0, 7));
+}
+
+#[test]
+fn a_refused_run_by_branch_names_nothing() {
+    let rule = worked_rule();
+    let mut taken = [9; 12];
+    let mut run = |grain, stamps: &[u32]| {
+        raw::run_branches(rule.head(), rule.edges(), grain, &[0, 0], stamps, &mut taken)
+    };
+    let refused = |number, place| raw::BranchAnswer { number, place, ..raw::BranchAnswer::default() };
+    assert_eq!(run(0, &[1, 1]), refused(30, 0));
+    assert_eq!(run(2, &[1]), refused(31, 0));
+    assert_eq!(run(2, &[1, 0]), refused(33, 2), "age 1/2 would hold edge 0 back");
+    assert_eq!(taken, [0; 12]);
 }
 
 #[test]

@@ -1,8 +1,8 @@
-//! The worked case: its records, its listing, and P1 to P8 by every runner.
+//! The worked case: its records, its listing, P1 to P8 by every runner, and what held the rule back.
 
 mod common;
 
-use alderskein::{decide, Cell, Room, Rule, Run, Stamp};
+use alderskein::{decide, raw, Cell, LeastRun, Room, Rule, Run, Stamp};
 use common::{record, word, worked, worked_rule, worked_table, Events};
 
 /// D, events and verdict of P1 to P8.
@@ -27,13 +27,50 @@ fn p1_to_p8_by_the_exact_runner() {
 #[test]
 fn p1_to_p8_by_branch() {
     for (grain, events, verdict) in WORDS {
-        let run = worked_rule().least_run(&word(grain, events)).unwrap();
-        assert_eq!(run.is_some(), verdict, "{events:?}");
-        if let Some(run) = run {
+        let outcome = worked_rule().least_run(&word(grain, events)).unwrap();
+        assert_eq!(matches!(outcome, LeastRun::Found(_)), verdict, "{events:?}");
+        if let LeastRun::Found(run) = outcome {
             let edges: Vec<u16> = events.iter().map(|event| event.0).collect();
             assert_eq!(run, Run { start: 0, edges }, "edge 0 has symbol 0, edge 1 has symbol 1");
         }
     }
+}
+
+/// Checks what both calls by branch say with D = 2: whether a run accepts, and what held the rule back.
+fn branches(rule: &Rule, events: &[(u16, u32)], found: bool, held: Option<usize>) {
+    let word = word(2, events);
+    let said = match rule.least_run(&word).unwrap() {
+        LeastRun::Found(_) => (true, None),
+        LeastRun::NoRun { held } => (false, held),
+    };
+    assert_eq!(said, (found, held), "{events:?}");
+    let answer = raw::run_branches(rule.head(), rule.edges(), 2, word.symbols(), word.stamps(), &mut [9; 12]);
+    let expected = (0, found, held.is_some(), held.unwrap_or(0));
+    assert_eq!((answer.number, answer.found, answer.held, answer.position), expected, "{events:?}");
+}
+
+#[test]
+fn what_held_the_rule_back() {
+    let rule = worked_rule();
+    branches(&rule, &[(0, 1)], false, Some(0)); // edge 0 asks for age 1
+    branches(&rule, &[(1, 1)], false, None); // no edge leaves location 0 on symbol 1
+    branches(&rule, &[(0, 2)], false, None); // the guard of edge 0 holds
+    branches(&rule, &[(0, 1), (1, 3)], false, Some(0));
+    branches(&rule, &[(0, 2), (1, 3)], false, None);
+    branches(&rule, &[], true, None);
+    branches(&rule, &[(0, 2), (1, 4)], true, None);
+}
+
+#[test]
+fn the_lowest_edge_of_all_initial_locations_is_named() {
+    // Edge 0 leaves location 1 at x >= 0, y = 1, x < 1; edge 1 leaves location 0 always. Nothing is final.
+    let edges = [record(5, &[1, 0, 0, 0, 0, 3, 0, 1, 2, 1, 0, 0, 1]), record(5, &[0, 0, 0, 0])].concat();
+    let file = [record(1, &[2, 2, 2]), record(2, &[0]), record(2, &[1]), edges].concat();
+    let rule = Rule::read(&file).unwrap();
+    branches(&rule, &[(0, 1)], false, Some(1));
+    branches(&rule, &[(0, 2)], false, Some(2));
+    branches(&rule, &[(1, 2)], false, None);
+    branches(&rule, &[], false, None);
 }
 
 #[test]

@@ -1,26 +1,24 @@
--- Four ages by their places; ages that do not reach the cap grow as the definitions say; guards as a loop finds them.
+-- Four ages by their places, and as clocks read them; ages that do not reach the cap grow as the definitions say; an
+-- edge is tested by its source and symbol, then by its guard.
 use mathlib.Core.Path.{_≡_, refl, sym, _∙_, ap}
 use mathlib.Core.Bool.{Bool, true, false, _&&_, not}
 use mathlib.Core.List.{List, [], _∷_, map}
-use Prim.Native.Nat.{ℕ, zero, suc, _+_, _-_, _*_, _^_, _≤_, _<_}
+use Prim.Native.Nat.{ℕ, zero, suc, _+_, _≤_, _<_}
 use native.Mathlib.Omega.{arith}
-use native.Mathlib.Nat.{add-assoc, mul-le-mul}
-use lib.Dec.{eqb, ltb, leb}
-use lib.ListN.{length, getD, drop, List·getD-eq-default, drop-of-length-le, length-take}
-use lib.Seq.{drop-nil, getD-drop, getD-take}
-use mir.Syntax.{w64}
-use mir.Val.{Fits}
-use borrow.Author.Tests.{le-leb, lt-leb, eq-eqb, ne-eqb, not-true, not-false}
+use lib.Dec.{eqb}
+use lib.ListN.{length, getD, drop, take, List·getD-eq-default, drop-of-length-le, length-take}
+use lib.Seq.{drop-nil, getD-take}
+use borrow.Author.Tests.{not-true, le-leb, lt-leb, eq-eqb, ne-eqb}
 use Rattle.model.specs.declared.Age.{Age}
 use Rattle.model.specs.Basics.{same, pick, lesser, bit, isIn}
 use Rattle.model.specs.Rules.{Edge, mostLocations, mostClocks}
-use Rattle.model.specs.Runs.{Config, related, holds, zeroed}
-use Rattle.model.specs.Layout.{edgeFields, atomWidth, edgeWidth, atomsIn, edgeAt, locationsIn}
-use Rattle.model.proofs.EdgeTable.{atoms-length, atoms-rest}
+use Rattle.model.specs.Guards.{guard, isMet}
+use Rattle.model.specs.Runs.{Config, zeroed}
+use Rattle.model.specs.Layout.{locationsIn}
 use Rattle.model.proofs.Ages.{bits-in, bits-high}
 use Rattle.ages.specs.declared.Ages.{Ages}
 use Rattle.ages.specs.declared.Configuration.{Configuration}
-use Rattle.ages.specs.Ages.{sameConfig, numbersOf, agesOf, mostAge, olderCapped, atomHolds, atomAt, takes}
+use Rattle.ages.specs.Ages.{sameConfig, numbersOf, agesOf, mostAge, olderCapped, takes}
 use Rattle.edges.specs.Leaving.{leavesOn}
 
 -- owning an array of ages tells the length of the list of what they hold, and so of the list
@@ -68,6 +66,23 @@ zeroed-four mask a b c d (p ∷ q ∷ []) n e f g h = absurd (omega arith)
 zeroed-four mask a b c d (p ∷ q ∷ s ∷ []) n e f g h = absurd (omega arith)
 zeroed-four mask a b c d (p ∷ q ∷ s ∷ t ∷ u ∷ xs) n e f g h = absurd (omega arith)
 
+-- four ages, as clocks read them
+pub read-four :
+    (xs : List Age) → length xs ≡ mostClocks
+    → getD xs 0 noAge .0 ∷ getD xs 1 noAge .0 ∷ getD xs 2 noAge .0 ∷ getD xs 3 noAge .0 ∷ [] ≡ numbersOf xs
+read-four (p ∷ q ∷ s ∷ t ∷ []) n = refl
+read-four [] n = absurd (omega arith)
+read-four (p ∷ []) n = absurd (omega arith)
+read-four (p ∷ q ∷ []) n = absurd (omega arith)
+read-four (p ∷ q ∷ s ∷ []) n = absurd (omega arith)
+read-four (p ∷ q ∷ s ∷ t ∷ u ∷ xs) n = absurd (omega arith)
+
+-- what the first k clocks read
+pub read-ages :
+    (k : ℕ) (ages : Ages) (read by : List ℕ) → read ≡ numbersOf (ages .of) → by ≡ take k (drop 0 read)
+    → by ≡ agesOf k ages
+read-ages k ages read by e h = h ∙ ap (take k) e
+
 pub numbers-length : (xs : List Age) → length (numbersOf xs) ≡ length xs
 numbers-length [] = refl
 numbers-length (x ∷ xs) = ap suc (numbers-length xs)
@@ -102,91 +117,6 @@ pub location-bit :
     → r ≡ isIn l (locationsIn set)
 location-bit mask set w l r h e f b = b ∙ rw (e, f) (sym (bits-in mostLocations 0 set l (omega arith) (omega arith)))
 
--- constant · D fits
-pub limit-fits : (constant d : ℕ) → constant < 2 ^ 16 → d < 2 ^ 32 → Fits w64 (constant * d)
-limit-fits constant d h g = record {
-  fits = omega (arith, mul-le-mul {n₁ = constant} {m₁ = d} {n₂ = 2 ^ 16} {m₂ = 2 ^ 32} (omega arith) (omega arith));
-}
-
--- the relation by its code
-module _ (relation age limit w : ℕ) (known : w ≡ age) where
-  pub is-less : relation ≡ 0 → ltb w limit ≡ related relation age limit
-  is-less e = rw (known, eq-eqb relation 0 e)
-
-  module _ (n0 : relation ≡ 0 → ⊥) where
-    pub is-most : relation ≡ 1 → leb w limit ≡ related relation age limit
-    is-most e = rw (known, ne-eqb relation 0 n0, eq-eqb relation 1 e)
-
-    module _ (n1 : relation ≡ 1 → ⊥) where
-      pub is-equal : relation ≡ 2 → eqb w limit ≡ related relation age limit
-      is-equal e = rw (known, ne-eqb relation 0 n0, ne-eqb relation 1 n1, eq-eqb relation 2 e)
-
-      module _ (n2 : relation ≡ 2 → ⊥) where
-        pub is-least : relation ≡ 3 → leb limit w ≡ related relation age limit
-        is-least e =
-            rw (known, ne-eqb relation 0 n0, ne-eqb relation 1 n1, ne-eqb relation 2 n2, eq-eqb relation 3 e)
-
-        pub is-greater : (relation ≡ 3 → ⊥) → ltb limit w ≡ related relation age limit
-        is-greater n3 =
-            rw (known, ne-eqb relation 0 n0, ne-eqb relation 1 n1, ne-eqb relation 2 n2, ne-eqb relation 3 n3)
-
--- the atoms of edge e, one after the other
-abbrev pub atomsOf : ℕ → List ℕ → List ℕ
-atomsOf e t = drop edgeFields (drop (edgeWidth * e) t)
-
--- an atom there, by its place in the table
-atom-place : (t : List ℕ) (e at k : ℕ) → at ≡ edgeWidth * e + edgeFields → atomAt (at + k) t ≡ atomAt k (atomsOf e t)
-atom-place t e at k is =
-    let whole : (n : ℕ) → getD t (at + n) 0 ≡ getD (atomsOf e t) n 0 =
-    λ n. let q : at + n ≡ edgeWidth * e + (edgeFields + n) = omega arith in
-    rw q (sym (getD-drop edgeFields (drop (edgeWidth * e) t) n 0 ∙ getD-drop (edgeWidth * e) t (edgeFields + n) 0)) in
-    rw (add-assoc at k 1, add-assoc at k 2, whole k, whole (k + 1), whole (k + 2))
-
--- The atoms still to come hold exactly if all do: those before held. The edge's atoms stand from `at` on.
-pub record Holding (d : ℕ) (ages : List ℕ) (e at count j : ℕ) (t : List ℕ) : Type 0 where
-  pub place-is : at ≡ edgeWidth * e + edgeFields
-  pub turns : j ≤ count
-  pub rest-is :
-      holds d ages (atomsIn (count - j) (drop (atomWidth * j) (atomsOf e t))) ≡ holds d ages (edgeAt e t .atoms)
-
-pub holding-start :
-    (d : ℕ) (ages : List ℕ) (e at count : ℕ) (t : List ℕ) → at ≡ edgeWidth * e + edgeFields
-    → count ≡ length (edgeAt e t .atoms)
-    → Holding d ages e at count 0 t
-holding-start d ages e at count t h c =
-    let z : count - 0 ≡ count = omega arith in
-    record {
-      place-is = h;
-      turns = omega arith;
-      rest-is = rw (z, c ∙ atoms-length (getD (drop (edgeWidth * e) t) 4 0) (atomsOf e t));
-    }
-
-module _ {d : ℕ} {ages : List ℕ} {e at count j : ℕ} {t : List ℕ} (inv : Holding d ages e at count j t) (h : j < count)
-    (r : Bool) (test : r ≡ atomHolds d ages (atomAt (at + atomWidth * j) t)) where
-  -- the next atom, then the others
-  holding-step :
-      (r && holds d ages (atomsIn (count - (j + 1)) (drop (atomWidth * (j + 1)) (atomsOf e t))))
-      ≡ holds d ages (edgeAt e t .atoms)
-  holding-step =
-      let next : r ≡ atomHolds d ages (atomAt (atomWidth * j) (atomsOf e t)) =
-      test ∙ ap (atomHolds d ages) (atom-place t e at (atomWidth * j) (inv .place-is)) in
-      rw next (sym (ap (holds d ages) (atoms-rest count j (atomsOf e t) h)) ∙ inv .rest-is)
-
-  pub holding-next : not r ≡ false → Holding d ages e at count (j + 1) t
-  holding-next b = record {
-    place-is = inv .place-is;
-    turns = omega arith;
-    rest-is = rw (not-false r b) at holding-step;
-  }
-
-  pub holding-fails : not r ≡ true → false ≡ holds d ages (edgeAt e t .atoms)
-  holding-fails b = rw (not-true r b) at holding-step
-
-pub holding-end :
-    {d : ℕ} {ages : List ℕ} {e at count j : ℕ} {t : List ℕ} → Holding d ages e at count j t → count ≤ j
-    → true ≡ holds d ages (edgeAt e t .atoms)
-holding-end {count = count} {j = j} inv h = let z : count - j ≡ 0 = omega arith in rw z at (inv .rest-is)
-
 -- source, symbol and guard, tested in this order
 pub other-source :
     (l symbol : ℕ) (e : Edge) (n m : ℕ) → n ≡ e .source → m ≡ l → (n ≡ m → ⊥) → false ≡ leavesOn l symbol e
@@ -202,9 +132,13 @@ module _ (d k symbol : ℕ) (from : Configuration) (e : Edge) (r : Bool)
   pub not-leaving : r ≡ false → r ≡ takes d k symbol from e
   not-leaving f = f ∙ rw (sym t ∙ f)
 
+  pub false-not-leaving : not r ≡ true → false ≡ takes d k symbol from e
+  false-not-leaving f = let no : r ≡ false = not-true r f in sym no ∙ not-leaving no
+
   pub guard-decides :
-      (g : Bool) → r ≡ true → g ≡ holds d (agesOf k (from .ages)) (e .atoms) → g ≡ takes d k symbol from e
-  guard-decides g f h = rw (sym t ∙ f) h
+      (g : Bool) (by : List ℕ) → r ≡ true → by ≡ agesOf k (from .ages) → g ≡ isMet (guard d by (e .atoms))
+      → g ≡ takes d k symbol from e
+  guard-decides g by f b h = rw (sym t ∙ f) (h ∙ ap (λ (ages : List ℕ). isMet (guard d ages (e .atoms))) b)
 
 -- Two lists of one length are the same from place k on exactly if they are the same there and after.
 same-step :

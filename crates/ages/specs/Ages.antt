@@ -2,14 +2,14 @@
 use mathlib.Core.Path.{_≡_}
 use mathlib.Core.List.{List, [], _∷_}
 use mathlib.Core.Bool.{Bool, _&&_}
-use Prim.Native.Nat.{ℕ, _+_, _*_}
+use Prim.Native.Nat.{ℕ, _+_}
 use lib.Dec.{eqb}
-use lib.ListN.{getD, take}
+use lib.ListN.{take}
 use Rattle.model.specs.declared.Age.{Age}
 use Rattle.model.specs.Basics.{lesser, same}
-use Rattle.model.specs.Rules.{Atom, Edge}
+use Rattle.model.specs.Rules.{Edge}
 use Rattle.model.specs.Words.{Event}
-use Rattle.model.specs.Runs.{related, canTake, zeroed, Config, config}
+use Rattle.model.specs.Runs.{canTake, zeroed, Config, config}
 use Rattle.ages.specs.declared.Ages.{Ages}
 use Rattle.ages.specs.declared.Configuration.{Configuration}
 
@@ -39,13 +39,6 @@ olderCapped delay (a ∷ ages) = lesser (a + delay) mostAge ∷ olderCapped dela
 -- an event with this symbol; whether an edge can be taken does not depend on its stamp
 abbrev pub withSymbol : ℕ → Event
 withSymbol s = record { symbol = s; stamp = 0 }
-
--- the atom at a place of the edge table
-abbrev pub atomAt : ℕ → List ℕ → Atom
-atomAt at t = record { clock = getD t at 0; relation = getD t (at + 1) 0; constant = getD t (at + 2) 0 }
-
-abbrev pub atomHolds : ℕ → List ℕ → Atom → Bool
-atomHolds d ages a = related (a .relation) (getD ages (a .clock) 0) (a .constant * d)
 
 -- an edge that can be taken on a symbol
 abbrev pub takes : ℕ → ℕ → ℕ → Configuration → Edge → Bool

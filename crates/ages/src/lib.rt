@@ -1,29 +1,26 @@
-// The ages of the clocks by value, guards over them, and an edge of the table as a move between configurations.
+// The ages of the clocks by value, what a guard reads of them, and an edge of the table as a move between
+// configurations.
 // Total: ages past the rule's clocks are not looked at, and a clock past them reads 0, as in the definitions.
 ghost use mathlib.Core.Path.{_≡_};
-ghost use Prim.Native.Nat.{_+_, _^_, _<_};
+ghost use Prim.Native.Nat.{_+_};
 ghost use lib.ListN.{getD};
 ghost use Rattle.model.specs.Basics.{pick, lesser, zeros, bit, isIn, same};
 ghost use Rattle.model.specs.Rules.{mostClocks};
-ghost use Rattle.model.specs.Runs.{related, holds, zeroed};
+ghost use Rattle.model.specs.Runs.{zeroed};
 ghost use Rattle.model.specs.Layout.{locationsIn, edgeAt};
 ghost use Rattle.edges.specs.Leaving.{leavesOn};
 ghost use Rattle.ages.specs.Ages.{numbersOf, agesOf, mostAge, olderCapped, Waited, Moved};
-ghost use Rattle.ages.specs.Ages.{atomHolds, atomAt, takes, configOf, sameConfig};
-use edges::fields::atoms_place;
-use edges::fields::count_of;
+ghost use Rattle.ages.specs.Ages.{takes, configOf, sameConfig};
 use edges::fields::resets_of;
 use edges::fields::source_of;
 use edges::fields::symbol_of;
 use edges::fields::target_of;
-use model::ATOM_CONSTANT;
-use model::ATOM_RELATION;
-use model::ATOM_WIDTH;
+use guards::guard_holds;
 use model::Age;
 use model::MOST_CLOCKS;
 use model::MOST_LOCATIONS;
 use numbers::has_bit;
-use numbers::number_at;
+use numbers::part_of;
 use numbers::wide16;
 use numbers::wide32;
 
@@ -119,52 +116,12 @@ pub fn zeroed(ages: Ages, mask: usize) -> Ages
     }
 }
 
-// An age against a limit, both in D-ths, by the code of a relation.
-pub fn meets(relation: usize, age: Age, limit: usize) -> bool
-    ensures { λ r. ⌜ r ≡ related relation (age .0) limit ⌝ }
+// What the clocks read, for a guard: their ages in D-ths. No other code takes an age for a plain number.
+pub fn readings(ages: Ages) -> [u32; MOST_CLOCKS]
+    ensures { λ r. ⌜ r ≡ numbersOf (ages .of) ⌝ }
 {
-    let age = wide32(age.0);
-    if relation == 0 {
-        return age < limit;
-    }
-    if relation == 1 {
-        return age <= limit;
-    }
-    if relation == 2 {
-        return age == limit;
-    }
-    if relation == 3 {
-        return limit <= age;
-    }
-    limit < age
-}
-
-// The atom at a place of the edge table: its clock's age against constant · D.
-pub(crate) fn atom_holds(edges: &[u16], at: usize, clocks: usize, grain: u32, ages: Ages) -> bool
-    requires { ⌜ at < 2 ^ 41 ⌝ }
-    ensures { λ r. ⌜ r ≡ atomHolds grain (agesOf clocks ages) (atomAt at (now (edges .entry))) ⌝ }
-{
-    let clock = number_at(edges, at);
-    let relation = number_at(edges, at + ATOM_RELATION);
-    let constant = number_at(edges, at + ATOM_CONSTANT);
-    let age = age_of(ages, clocks, clock);
-    meets(relation, age, constant * wide32(grain))
-}
-
-// The guard of edge `e`: all its atoms hold.
-pub fn guard_holds(edges: &[u16], e: u32, clocks: usize, grain: u32, ages: Ages) -> bool
-    ensures { λ r. ⌜ r ≡ holds grain (agesOf clocks ages) (edgeAt e (now (edges .entry)) .atoms) ⌝ }
-{
-    let at = atoms_place(e);
-    let count = count_of(edges, e);
-    let mut j: usize = 0;
-    while j < count {
-        if !atom_holds(edges, at + ATOM_WIDTH * j, clocks, grain, ages) {
-            return false;
-        }
-        j += 1;
-    }
-    true
+    let of = ages.of;
+    [of[0].0, of[1].0, of[2].0, of[3].0]
 }
 
 // Edge `e` leaves the location, with the symbol.
@@ -189,7 +146,11 @@ pub fn can_take(
     ensures { λ r. ⌜ r ≡ takes grain clocks symbol from (edgeAt e (now (edges .entry))) ⌝ }
 {
     let ages = from.ages;
-    leaves(edges, e, from.location, symbol) && guard_holds(edges, e, clocks, grain, ages)
+    if !leaves(edges, e, from.location, symbol) {
+        return false;
+    }
+    let read = readings(ages);
+    guard_holds(edges, e, part_of(&read, 0, clocks), grain)
 }
 
 // Time passes: every age grows by the delay, the location stays.

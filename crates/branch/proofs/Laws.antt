@@ -5,7 +5,7 @@ use mathlib.Core.List.{List, [], _∷_, _++_}
 use Prim.Native.Nat.{ℕ, zero, suc, _+_, _-_, _*_, _^_, _≤_, _<_}
 use native.Mathlib.Omega.{arith}
 use native.Mathlib.Numerals.{add-one}
-use lib.ListN.{length, getD, set, drop, length-replicate, replicate-append-replicate}
+use lib.ListN.{length, getD, set, take, drop, length-replicate, replicate-append-replicate}
 use lib.Seq.{set-at}
 use Rattle.model.specs.declared.Head.{Head}
 use Rattle.model.specs.Basics.{pick, isIn, zeros, filled}
@@ -18,7 +18,8 @@ use Rattle.model.proofs.Events.{eventAt, events-rest, events-end}
 use Rattle.model.proofs.Inputs.{ordered-rest}
 use Rattle.model.proofs.Ages.{AtMost, older-most, zeroed-most}
 use Rattle.ages.specs.declared.Configuration.{Configuration}
-use Rattle.ages.specs.Ages.{agesOf, takes, Waited, Moved}
+use Rattle.ages.specs.Ages.{numbersOf, agesOf, takes, Waited, Moved}
+use Rattle.ages.proofs.Laws.{read-ages}
 use Rattle.ages.proofs.Moves.{waited-until, moved-ages}
 use Rattle.branch.specs.declared.Run.{Run}
 use Rattle.branch.specs.Branches.{placed, withEdge, leastAt, Ready}
@@ -38,13 +39,13 @@ zeros-then zero xs = refl
 zeros-then (suc k) xs = ap (λ (l : List ℕ). 0 ∷ l) (zeros-then k xs)
 
 -- edge e at place `depth`, before a run from the next place on
-pub edge-before :
-    (depth e : ℕ) (xs : List ℕ) → depth < mostBranchEvents
-    → set (zeros (depth + 1) ++ filled (mostBranchEvents - (depth + 1)) xs) depth e
+edge-before :
+    (depth after e : ℕ) (xs : List ℕ) → depth < mostBranchEvents → after ≡ depth + 1
+    → set (zeros after ++ filled (mostBranchEvents - after) xs) depth e
     ≡ zeros depth ++ filled (mostBranchEvents - depth) (e ∷ xs)
-edge-before depth e xs h =
+edge-before depth after e xs h a =
     let k : mostBranchEvents - suc depth - length xs ≡ mostBranchEvents - depth - suc (length xs) = omega arith in
-    rw (add-one depth)
+    rw (a ∙ add-one depth)
     (ap (λ (l : List ℕ). set l depth e) (sym (zeros-then depth (filled (mostBranchEvents - suc depth) xs)))
     ∙ (set-at (zeros depth) 0 (filled (mostBranchEvents - suc depth) xs) e depth (length-replicate depth 0)
     ∙ ap (λ (j : ℕ). zeros depth ++ (e ∷ (xs ++ zeros j))) k))
@@ -95,13 +96,20 @@ module _ (head : Head) (edges : List ℕ) (d : ℕ) (symbols stamps : List ℕ) 
       (onward (edgeAt e edges .target) (zeroed (edgeAt e edges .resets) (agesOf (head .clocks) (now .ages))))
       noPath
 
-  pub record Trying (clocks e : ℕ) : Type 0 where
+  pub record Trying (by : List ℕ) (e : ℕ) : Type 0 where
     pub turns : e ≤ head .count
-    pub clocks-are : clocks ≡ head .clocks
+    pub clocks-read : by ≡ agesOf (head .clocks) (now .ages)
     pub rest-is : tryFrom e ≡ tryFrom 0
 
-  pub trying-start : (clocks : ℕ) → clocks ≡ head .clocks → Trying clocks 0
-  trying-start clocks k = record { turns = omega arith; clocks-are = k; rest-is = refl }
+  pub trying-start :
+      (by read : List ℕ) (clocks : ℕ) → clocks ≡ head .clocks → read ≡ numbersOf (now .ages .of)
+      → by ≡ take clocks (drop 0 read)
+      → Trying by 0
+  trying-start by read clocks k h p = record {
+    turns = omega arith;
+    clocks-read = read-ages (head .clocks) (now .ages) read by h (rw k at p);
+    rest-is = refl;
+  }
 
   try-step :
       (e : ℕ) → e < head .count
@@ -113,55 +121,53 @@ module _ (head : Head) (edges : List ℕ) (d : ℕ) (symbols stamps : List ℕ) 
       (edges-rest (head .count) e edges h)
       ∙ rw (add-one e)
 
-  module _ {clocks e : ℕ} (inv : Trying clocks e) (h : e < head .count) where
-    skip : byEdge e .found ≡ false → Trying clocks (e + 1)
+  module _ {by : List ℕ} {e : ℕ} (inv : Trying by e) (h : e < head .count) where
+    skip : byEdge e .found ≡ false → Trying by (e + 1)
     skip f = record {
       turns = omega arith;
-      clocks-are = inv .clocks-are;
+      clocks-read = inv .clocks-read;
       rest-is = (rw f at (sym (try-step e h))) ∙ inv .rest-is;
     }
 
     -- an edge that cannot be taken
     pub trying-other :
-        (r : Bool) → r ≡ takes d clocks (getD symbols depth 0) now (edgeAt e edges) → r ≡ false
-        → Trying clocks (e + 1)
-    trying-other r t f = skip (rw (← inv .clocks-are, sym t ∙ f))
+        (r : Bool) → r ≡ takes d (head .clocks) (getD symbols depth 0) now (edgeAt e edges) → r ≡ false
+        → Trying by (e + 1)
+    trying-other r t f = skip (rw (sym t ∙ f))
 
-    module _ (next : Configuration) (moved : Moved (edgeAt e edges) now next) where
+    -- the next event is at place `after`
+    module _ (next : Configuration) (moved : Moved (edgeAt e edges) now next) (after : ℕ) (a : after ≡ depth + 1) where
       -- what edge e leads to, by the configuration that it reaches
       reached :
-          (r : Bool) → r ≡ takes d clocks (getD symbols depth 0) now (edgeAt e edges) → r ≡ true
-          → byEdge e ≡ leastAt head edges d symbols stamps (depth + 1) (getD stamps depth 0) next
-      reached r t f =
-          let known : takes d (head .clocks) (getD symbols depth 0) now (edgeAt e edges) ≡ true =
-          rw (inv .clocks-are) at (sym t ∙ f) in
-          rw known (ap₂ onward (sym (moved .location-is)) (sym (moved-ages (head .clocks) moved)))
+          (r : Bool) → r ≡ takes d (head .clocks) (getD symbols depth 0) now (edgeAt e edges) → r ≡ true
+          → byEdge e ≡ leastAt head edges d symbols stamps after (getD stamps depth 0) next
+      reached r t f = rw (sym t ∙ f, a) (ap₂ onward (sym (moved .location-is)) (sym (moved-ages (head .clocks) moved)))
 
       -- no accepting run that way
       pub trying-stuck :
-          (r : Bool) (run : Run) → r ≡ takes d clocks (getD symbols depth 0) now (edgeAt e edges) → r ≡ true
-          → run ≡ placed (depth + 1) (leastAt head edges d symbols stamps (depth + 1) (getD stamps depth 0) next)
+          (r : Bool) (run : Run) → r ≡ takes d (head .clocks) (getD symbols depth 0) now (edgeAt e edges) → r ≡ true
+          → run ≡ placed after (leastAt head edges d symbols stamps after (getD stamps depth 0) next)
           → run .found ≡ false
-          → Trying clocks (e + 1)
+          → Trying by (e + 1)
       trying-stuck r run t f p g =
           skip (ap (λ (q : Path). q .found) (reached r t f) ∙ (sym (ap (λ (b : Run). b .found) p) ∙ g))
 
       pub trying-found :
           (r : Bool) (run : Run) → depth < mostBranchEvents
-          → r ≡ takes d clocks (getD symbols depth 0) now (edgeAt e edges)
+          → r ≡ takes d (head .clocks) (getD symbols depth 0) now (edgeAt e edges)
           → r ≡ true
-          → run ≡ placed (depth + 1) (leastAt head edges d symbols stamps (depth + 1) (getD stamps depth 0) next)
+          → run ≡ placed after (leastAt head edges d symbols stamps after (getD stamps depth 0) next)
           → run .found ≡ true
           → withEdge run depth e ≡ placed depth (tryFrom 0)
       trying-found r run b t f p g =
-          let q : Path = leastAt head edges d symbols stamps (depth + 1) (getD stamps depth 0) next in
+          let q : Path = leastAt head edges d symbols stamps after (getD stamps depth 0) next in
           let found : q .found ≡ true = sym (ap (λ (x : Run). x .found) p) ∙ g in
-          let by : byEdge e ≡ q = reached r t f in
+          let led : byEdge e ≡ q = reached r t f in
           let whole : tryFrom 0 ≡ path true 0 (e ∷ q .taken) =
-          sym (inv .rest-is) ∙ (try-step e h ∙ rw (by, found)) in
-          rw (p, whole, found, edge-before depth e (q .taken) b)
+          sym (inv .rest-is) ∙ (try-step e h ∙ rw (led, found)) in
+          rw (p, whole, found, edge-before depth after e (q .taken) b a)
 
-  pub trying-none : {clocks e : ℕ} → Trying clocks e → head .count ≤ e → tryFrom 0 ≡ noPath
+  pub trying-none : {by : List ℕ} {e : ℕ} → Trying by e → head .count ≤ e → tryFrom 0 ≡ noPath
   trying-none {e = e} inv h = let z : head .count - e ≡ 0 = omega arith in sym (inv .rest-is) ∙ rw z
 
 -- the least run from before the delay is that over all edges after it
@@ -182,15 +188,17 @@ at-event head edges d symbols stamps depth last delay from now ready h b e w =
 
 -- the next event is ready too
 pub next-ready :
-    (head : Head) (edges : List ℕ) (symbols stamps : List ℕ) (depth last delay e : ℕ) (from now next : Configuration)
+    (head : Head) (edges : List ℕ) (symbols stamps : List ℕ) (depth after last delay e : ℕ)
+    (from now next : Configuration)
     → Ready head symbols stamps depth last from
     → depth < length symbols
+    → after ≡ depth + 1
     → getD stamps depth 0 < 2 ^ 32
     → delay ≡ getD stamps depth 0 - last
     → Waited delay from now
     → Moved (edgeAt e edges) now next
-    → Ready head symbols stamps (depth + 1) (getD stamps depth 0) next
-next-ready head edges symbols stamps depth last delay e from now next ready h b q w m =
+    → Ready head symbols stamps after (getD stamps depth 0) next
+next-ready head edges symbols stamps depth after last delay e from now next ready h a b q w m =
     let order = ordered-rest last symbols stamps depth h (ready .counts-equal) (ready .stamps-ordered) in
     let aged = waited-until (head .clocks) last (getD stamps depth 0) w q (ready .ages-most) (order .0) b in
     let most : AtMost (getD stamps depth 0) (agesOf (head .clocks) (now .ages)) =
@@ -201,7 +209,7 @@ next-ready head edges symbols stamps depth last delay e from now next ready h b 
       counts-equal = ready .counts-equal;
       events-most = ready .events-most;
       edges-most = ready .edges-most;
-      stamps-ordered = order .1;
+      stamps-ordered = rw a (order .1);
       ages-most =
           rw (moved-ages (head .clocks) m)
           (zeroed-most (getD stamps depth 0) 0 (edgeAt e edges .resets) (agesOf (head .clocks) (now .ages)) most);

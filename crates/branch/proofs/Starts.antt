@@ -1,39 +1,39 @@
--- The least run by its start: the initial locations passed led to no accepting run. What the whole runner answers.
+-- The least run by its start: the initial locations passed led to no accepting run.
 use mathlib.Core.Path.{_≡_, refl, sym, _∙_, ap}
 use mathlib.Core.Bool.{Bool, true, false}
-use mathlib.Core.List.{List, [], _∷_}
+use mathlib.Core.List.{List}
 use Prim.Native.Nat.{ℕ, suc, _+_, _-_, _≤_, _<_}
 use native.Mathlib.Omega.{arith}
 use native.Mathlib.Numerals.{add-one}
+use lib.ListN.{length}
 use Rattle.model.specs.declared.Head.{Head}
-use Rattle.model.specs.declared.Answer.{Answer}
-use Rattle.model.specs.declared.Branch.{Branch}
-use Rattle.model.specs.Basics.{pick, zeros, bit, bitsFrom, fine}
+use Rattle.model.specs.Basics.{pick, zeros, bit, bitsFrom}
 use Rattle.model.specs.Rules.{mostLocations, mostClocks}
-use Rattle.model.specs.Words.{mostBranchEvents, eventsOf}
-use Rattle.model.specs.Runs.{startAges, Path, path, noPath, leastFrom, leastStart, leastRun}
+use Rattle.model.specs.Words.{eventsOf}
+use Rattle.model.specs.Runs.{Path, path, noPath, leastFrom, leastStart, leastRun}
 use Rattle.model.specs.Layout.{ruleIn}
-use Rattle.model.specs.Promises.{branchOf, RunsBranches}
-use Rattle.model.proofs.Logic.{no-way, by-test}
-use Rattle.model.proofs.Inputs.{Refused, Checked}
 use Rattle.model.proofs.Ages.{zeros-most, bits-more, bits-skip}
 use Rattle.ages.specs.declared.Configuration.{Configuration}
 use Rattle.ages.specs.Ages.{numbersOf}
 use Rattle.ages.proofs.Moves.{start-ages}
 use Rattle.branch.specs.declared.Run.{Run}
-use Rattle.branch.specs.Branches.{placed, withStart, noBranch, leastAt, begun, leastOf, Ready, Begins}
+use Rattle.branch.specs.Branches.{placed, withStart, leastAt, begun, leastOf, Ready, Begins}
 
--- before the first event, all ages 0
+-- with all n events left, the first is at place 0
+all-left : (n : ℕ) → n - n ≡ 0
+all-left n = omega arith
+
+-- before the first event, all of them left, all ages 0
 pub start-ready :
     (head : Head) (symbols stamps : List ℕ) (from : Configuration) → Begins head symbols stamps
     → numbersOf (from .ages .of) ≡ zeros mostClocks
-    → Ready head symbols stamps 0 0 from
+    → Ready head symbols stamps (length symbols - length symbols) 0 from
 start-ready head symbols stamps from b z = record {
   depth-in = omega arith;
   counts-equal = b .counts-equal;
   events-most = b .events-most;
   edges-most = b .edges-most;
-  stamps-ordered = b .stamps-ordered;
+  stamps-ordered = rw (all-left (length symbols)) (b .stamps-ordered);
   ages-most = rw (start-ages (head .clocks) (from .ages) z (b .clocks-most)) (zeros-most 0 (head .clocks));
 }
 
@@ -75,76 +75,35 @@ module _ (head : Head) (edges : List ℕ) (d : ℕ) (symbols stamps : List ℕ) 
         is-start : bit l (head .starts) ≡ true
         is-start = rw (inv .starts-are) at (sym t ∙ set)
 
-        run-is : leastAt head edges d symbols stamps 0 0 from ≡ runFrom l
-        run-is = rw (at, start-ages (head .clocks) (from .ages) z (b .clocks-most))
+        -- the run over all events
+        abbrev whole : Run
+        whole =
+            let first = length symbols - length symbols in
+            placed first (leastAt head edges d symbols stamps first 0 from)
+
+        whole-is : whole ≡ placed 0 (runFrom l)
+        whole-is = rw (all-left (length symbols), at, start-ages (head .clocks) (from .ages) z (b .clocks-most))
 
         start-step : startFrom l ≡ pick (runFrom l .found) (path true l (runFrom l .taken)) (startFrom (l + 1))
         unfolding leastStart ruleIn
         start-step = rw (left, bits-more (mostLocations - (l + 1)) l (head .starts) is-start, add-one l)
 
-        pub starting-stuck :
-            (run : Run) → run ≡ placed 0 (leastAt head edges d symbols stamps 0 0 from) → run .found ≡ false
-            → Starting starts (l + 1)
+        pub starting-stuck : (run : Run) → run ≡ whole → run .found ≡ false → Starting starts (l + 1)
         starting-stuck run p f =
-            let none : runFrom l .found ≡ false =
-            ap (λ (q : Path). q .found) (sym run-is) ∙ (sym (ap (λ (x : Run). x .found) p) ∙ f) in
+            let none : runFrom l .found ≡ false = sym (ap (λ (x : Run). x .found) (p ∙ whole-is)) ∙ f in
             on-to (start-step ∙ rw none)
 
         pub starting-found :
-            (run : Run) → run ≡ placed 0 (leastAt head edges d symbols stamps 0 0 from) → run .found ≡ true
+            (run : Run) → run ≡ whole → run .found ≡ true
             → withStart run l ≡ begun (leastOf head edges d symbols stamps)
         starting-found run p f =
-            let q : run ≡ placed 0 (runFrom l) = p ∙ ap (λ (x : Path). placed 0 x) run-is in
+            let q : run ≡ placed 0 (runFrom l) = p ∙ whole-is in
             let found : runFrom l .found ≡ true = sym (ap (λ (x : Run). x .found) q) ∙ f in
-            let whole : leastOf head edges d symbols stamps ≡ path true l (runFrom l .taken) =
+            let least : leastOf head edges d symbols stamps ≡ path true l (runFrom l .taken) =
             sym (inv .rest-is) ∙ (start-step ∙ rw found) in
-            rw (q, whole, found)
+            rw (q, least, found)
 
   pub starting-none :
       {starts l : ℕ} → Starting starts l → mostLocations ≤ l → leastOf head edges d symbols stamps ≡ noPath
   unfolding leastStart bitsFrom
   starting-none {l = l} inv h = let z : mostLocations - l ≡ 0 = omega arith in sym (inv .rest-is) ∙ rw z
-
--- A run that is not found is no run.
-not-found :
-    (head : Head) (edges : List ℕ) (d : ℕ) (symbols stamps ls : List ℕ)
-    → leastStart (ruleIn head edges) d (eventsOf symbols stamps) ls .found ≡ false
-    → leastStart (ruleIn head edges) d (eventsOf symbols stamps) ls ≡ noPath
-unfolding leastStart
-not-found head edges d symbols stamps [] h = refl
-not-found head edges d symbols stamps (l ∷ ls) h =
-    by-test (leastFrom (ruleIn head edges) d (eventsOf symbols stamps) 0 l (startAges (ruleIn head edges)) .found)
-    (λ e. no-way (sym (rw e at h)))
-    (λ e. rw e (not-found head edges d symbols stamps ls (rw e at h)))
-
-begun-is : (p : Path) → (p .found ≡ false → p ≡ noPath) → begun p ≡ branchOf fine p
-begun-is p none = by-test (p .found) (λ e. rw e) (λ e. rw (none e))
-
--- What the runner answers: the refusal with all else zero, or the least run.
-module _ (head : Head) (edges : List ℕ) (d : ℕ) (symbols stamps : List ℕ) where
-  pub refusal-is :
-      (a : Answer) (r : Branch) → Refused head edges d mostBranchEvents symbols stamps a
-      → r ≡ noBranch (a .number) (a .place)
-      → RunsBranches head edges d symbols stamps r
-  refusal-is a r f e = record { answer-is = e ∙ rw (f .answer-is, f .not-passed) }
-
-  module _ (c : Checked head edges d mostBranchEvents symbols stamps) where
-    pub begins : Begins head symbols stamps
-    begins = record {
-      clocks-most = c .clocks-most;
-      edges-most = c .count-most;
-      counts-equal = c .keeps .lengths-equal;
-      events-most = c .keeps .events-most;
-      stamps-ordered = c .keeps .stamps-ordered;
-    }
-
-    pub run-is-least :
-        (r : Branch) → r ≡ begun (leastOf head edges d symbols stamps) → RunsBranches head edges d symbols stamps r
-    unfolding leastRun
-    run-is-least r e = record {
-      answer-is =
-          e
-          ∙ rw (c .passes-both)
-          (begun-is (leastOf head edges d symbols stamps)
-          (not-found head edges d symbols stamps (ruleIn head edges .initial)));
-    }

@@ -1,11 +1,13 @@
 -- A run from some event on and the branch record that it becomes, and what must hold before a search.
 use mathlib.Core.Path.{_≡_}
-use mathlib.Core.Bool.{false}
+use mathlib.Core.Bool.{true, false}
 use mathlib.Core.List.{List, _++_}
 use Prim.Native.Nat.{ℕ, _-_, _≤_}
 use lib.ListN.{length, set, drop}
 use Rattle.model.specs.declared.Head.{Head}
 use Rattle.model.specs.declared.Branch.{Branch}
+use Rattle.model.specs.declared.Guard.{Guard}
+use Rattle.model.specs.declared.Guard.the-variants.{Holds, Fails}
 use Rattle.model.specs.Basics.{zeros, filled}
 use Rattle.model.specs.Rules.{mostClocks, mostEdges}
 use Rattle.model.specs.Words.{mostBranchEvents, eventsOf}
@@ -29,11 +31,40 @@ abbrev pub withEdge : Run → ℕ → ℕ → Run
 withEdge run depth e = record { edges = set (run .edges) depth e; found = run .found }
 
 abbrev pub withStart : Run → ℕ → Branch
-withStart run l = record { number = 0; place = 0; found = run .found; start = l; edges = run .edges }
+withStart run l = record {
+  number = 0;
+  place = 0;
+  found = run .found;
+  start = l;
+  edges = run .edges;
+  held = false;
+  position = 0;
+}
 
 -- no run: a refusal or none, all else zero
 abbrev pub noBranch : ℕ → ℕ → Branch
-noBranch n p = record { number = n; place = p; found = false; start = 0; edges = zeros mostBranchEvents }
+noBranch n p = record {
+  number = n;
+  place = p;
+  found = false;
+  start = 0;
+  edges = zeros mostBranchEvents;
+  held = false;
+  position = 0;
+}
+
+-- the answer with what held the rule back
+abbrev pub withHeld : Branch → Guard → Branch
+withHeld b Holds = b
+withHeld b (Fails n) = record {
+  number = b .number;
+  place = b .place;
+  found = b .found;
+  start = b .start;
+  edges = b .edges;
+  held = true;
+  position = n;
+}
 
 -- the least accepting run from a configuration, over the events from `depth` on, after the stamp `last`
 abbrev pub leastAt : Head → List ℕ → ℕ → List ℕ → List ℕ → ℕ → ℕ → Configuration → Path
@@ -49,6 +80,8 @@ begun p = record {
   found = p .found;
   start = p .start;
   edges = filled mostBranchEvents (p .taken);
+  held = false;
+  position = 0;
 }
 
 -- the least accepting run over the whole word

@@ -1,26 +1,34 @@
 // The branch runner: follows the branches with the events left, and answers the accepting run that is least by start,
-// then edge by edge. No scratch: at most MOST_BRANCH_EVENTS events.
+// then edge by edge, or what held the rule back. No scratch: at most MOST_BRANCH_EVENTS events.
 ghost use mathlib.Core.Path.{_≡_};
 ghost use mathlib.Core.List.{[]};
-ghost use Prim.Native.Nat.{_<_};
+ghost use Prim.Native.Nat.{_<_, _-_, _≤_};
+ghost use lib.ListN.{length};
 ghost use Rattle.model.specs.Words.{mostBranchEvents};
 ghost use Rattle.model.specs.Runs.{path};
 ghost use Rattle.model.specs.Promises.{RunsBranches};
-ghost use Rattle.branch.specs.Branches.{placed, begun, withEdge, withStart, noBranch, leastAt, leastOf};
-ghost use Rattle.branch.specs.Branches.{Ready, Begins};
+ghost use Rattle.branch.specs.Branches.{placed, begun, withEdge, withStart, withHeld, noBranch};
+ghost use Rattle.branch.specs.Branches.{leastAt, leastOf, Ready, Begins};
+
+mod held;
+
 use ages::Configuration;
 use ages::after_delay;
 use ages::after_edge;
-use ages::guard_holds;
 use ages::has_location;
 use ages::leaves;
+use ages::readings;
 use ages::start_at;
+use guards::guard_holds;
+use held::held_back;
 use model::Branch;
+use model::Guard;
 use model::Head;
 use model::MOST_BRANCH_EVENTS;
 use model::MOST_LOCATIONS;
 use model::Stamp;
 use numbers::has_bit;
+use numbers::part_of;
 use numbers::wide32;
 use rule::check_rule;
 use word::check_word;
@@ -57,38 +65,42 @@ pub(crate) fn with_edge(run: Run, depth: usize, e: u16) -> Run
     longer
 }
 
-// The least accepting run from a configuration, over the events from `depth` on; its edges stand from place `depth` on.
-// An edge is tested by the two parts of `can_take`: each is small enough to be compiled into the loop.
+// The least accepting run from a configuration over the events left: the last `left` of the word. It calls itself with
+// one event fewer. Its edges stand from the place of the first of these events on.
+// An edge is tested by the two parts of `can_take`, what the clocks read being the same for all edges.
 pub(crate) fn least_from(
     given: Given,
     edges: &[u16],
     symbols: &[u16],
     stamps: &[u32],
-    depth: usize,
+    left: usize,
     last: Stamp,
     from: Configuration,
 ) -> Run
-    requires { ⌜ Ready (given .head) (now symbols) (now stamps) depth (last .0) from ⌝ }
-    ensures { λ r. ⌜ r ≡ placed depth
-        (leastAt (given .head) (now (edges .entry)) (given .grain) (now (symbols .entry)) (now (stamps .entry)) depth
-        (last .0) from) ⌝ }
+    requires { ⌜ (left ≤ length (now symbols))
+        × Ready (given .head) (now symbols) (now stamps) (length (now symbols) - left) (last .0) from ⌝ }
+    ensures { λ r. ⌜ r ≡ placed (length (now (symbols .entry)) - left)
+        (leastAt (given .head) (now (edges .entry)) (given .grain) (now (symbols .entry)) (now (stamps .entry))
+        (length (now (symbols .entry)) - left) (last .0) from) ⌝ }
 {
     let head = given.head;
-    if symbols.len() <= depth {
+    if left == 0 {
         return no_edges(has_location(head.ends, from.location));
     }
+    let depth = symbols.len() - left;
     let stamp = Stamp(stamps[depth]);
     let now = after_delay(from, stamp.since(last));
-    let clocks = wide32(head.clocks);
     let count = head.count;
     let ages = now.ages;
+    let read = readings(ages);
+    let by = part_of(&read, 0, wide32(head.clocks));
     let mut e: u32 = 0;
     while e < count {
         if leaves(edges, e, now.location, symbols[depth])
-            && guard_holds(edges, e, clocks, given.grain, ages)
+            && guard_holds(edges, e, by, given.grain)
         {
             let next = after_edge(edges, e, now);
-            let run = least_from(given, edges, symbols, stamps, depth + 1, stamp, next);
+            let run = least_from(given, edges, symbols, stamps, left - 1, stamp, next);
             if run.found {
                 return with_edge(run, depth, e as u16);
             }
@@ -109,6 +121,8 @@ pub(crate) fn with_start(run: Run, start: u16) -> Branch
         found: run.found,
         start,
         edges,
+        held: false,
+        position: 0,
     }
 }
 
@@ -122,7 +136,22 @@ pub(crate) fn no_branch(number: u8, place: usize) -> Branch
         found: false,
         start: 0,
         edges: [0; MOST_BRANCH_EVENTS],
+        held: false,
+        position: 0,
     }
+}
+
+// The answer with what held the rule back, where a guard did.
+pub(crate) fn with_held(branch: Branch, answer: Guard) -> Branch
+    ensures { λ r. ⌜ r ≡ withHeld branch answer ⌝ }
+{
+    let Guard::Fails(position) = answer else {
+        return branch;
+    };
+    let mut told = branch;
+    told.held = true;
+    told.position = position;
+    told
 }
 
 // The least accepting run by its start: the first initial location from which there is one.
@@ -143,7 +172,7 @@ pub(crate) fn least_start(
     while l < MOST_LOCATIONS {
         if has_bit(starts, l) {
             let from = start_at(l as u32);
-            let run = least_from(given, edges, symbols, stamps, 0, Stamp(0), from);
+            let run = least_from(given, edges, symbols, stamps, symbols.len(), Stamp(0), from);
             if run.found {
                 return with_start(run, l as u16);
             }
@@ -153,7 +182,7 @@ pub(crate) fn least_start(
     no_branch(0, 0)
 }
 
-// 20, 21, 30 to 33 with at most MOST_BRANCH_EVENTS events; then the least accepting run.
+// 20, 21, 30 to 33 with at most MOST_BRANCH_EVENTS events; then the least accepting run, or what held the rule back.
 pub fn run_branches(
     head: Head,
     edges: &[u16],
@@ -177,5 +206,9 @@ pub fn run_branches(
     if word.number != 0 {
         return no_branch(word.number, word.place);
     }
-    least_start(head, edges, grain, symbols, stamps)
+    let branch = least_start(head, edges, grain, symbols, stamps);
+    if branch.found {
+        return branch;
+    }
+    with_held(branch, held_back(head, edges, grain, symbols, stamps))
 }

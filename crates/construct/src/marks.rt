@@ -21,8 +21,8 @@ use numbers::wide32;
 use pairs::Input;
 use pairs::Scale;
 use pairs::codes::unpack;
-use pairs::guards::allows;
 use pairs::moves::target;
+use pairs::regions::allows;
 
 // Marks a code.
 pub(crate) fn mark(marks: &mut [u32], span: Span, code: usize) -> Span

@@ -6,7 +6,7 @@ use Rattle.model.specs.declared.Head.{Head}
 use Rattle.model.specs.declared.Branch.{Branch}
 use Rattle.model.specs.Promises.{RunsBranches}
 use Rattle.head_library.specs.declared.BranchAnswer.{BranchAnswer}
-use Rattle.head_library.specs.Lent.{RunsBranchesInto}
+use Rattle.head_library.specs.Lent.{withoutEdges, RunsBranchesInto}
 
 pub one-branch-run-into :
     (h : Head) (t : List ℕ) (d : ℕ) (xs ts ns₁ ns₂ : List ℕ) (x y : BranchAnswer)
@@ -20,5 +20,5 @@ pub into-as-by-value :
     (h : Head) (t : List ℕ) (d : ℕ) (xs ts ns : List ℕ) (x : BranchAnswer) (b : Branch)
     → RunsBranchesInto h t d xs ts ns x
     → RunsBranches h t d xs ts b
-    → (x ≡ record { number = b .number; place = b .place; found = b .found; start = b .start }) × (ns ≡ b .edges)
+    → (x ≡ withoutEdges b) × (ns ≡ b .edges)
 into-as-by-value h t d xs ts ns x b p q = (p .answer-is ∙ rw (q .answer-is), p .taken-is ∙ rw (q .answer-is))

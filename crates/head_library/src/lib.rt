@@ -22,6 +22,8 @@ pub struct BranchAnswer {
     pub place: usize,
     pub found: bool,
     pub start: u16,
+    pub held: bool,
+    pub position: usize,
 }
 
 #[no_mangle]
@@ -146,6 +148,8 @@ pub extern "C" fn alderskein_run_branches(
         place: run.place,
         found: run.found,
         start: run.start,
+        held: run.held,
+        position: run.position,
     }
 }
 

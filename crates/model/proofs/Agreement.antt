@@ -17,7 +17,7 @@ use Rattle.model.specs.Demands.{Walk-agrees}
 use Rattle.model.proofs.Logic.{same-truth, In, Some}
 use Rattle.model.proofs.Valid.{Valid, valid-of, constant-below}
 use Rattle.model.proofs.Regions.{Whole, whole-at-even}
-use Rattle.model.proofs.Clocks.{TracksAll, guards-agree, advance-all, zero-all, zeroed-none, older-all}
+use Rattle.model.proofs.Clocks.{TracksAll, tracked-guards, advance-all, zero-all, zeroed-none, older-all}
 use Rattle.model.proofs.Clocks.{zeros-track}
 use Rattle.model.proofs.Codes.{digits-length, code-bases, start-bases, location-back, bases-back}
 use Rattle.model.proofs.Codes.{target-location, target-bases}
@@ -55,7 +55,7 @@ module _ (r : Rule) (valid : Valid r) (d : ℕ) (hd : 1 ≤ d) where
       let n : length (basesOf r x) ≡ r .clocks = digits-length (code-bases r x) in
       rw (
         ← h .location-is,
-        guards-agree (cm r) d t (basesOf r x) ages (e .atoms) hd (h .tracks)
+        tracked-guards (cm r) d t (basesOf r x) ages (e .atoms) hd (h .tracks)
             (λ a i. rw n (valid .edges-in e j .atoms-in a i .clock-below))
             (λ a i. constant-below r e a j i),
       )

@@ -1,22 +1,24 @@
 -- All clocks of a pair: bases that track the ages of a configuration meet the same guards, and go on tracking them as
 -- time passes, at a timer reset, and where an edge zeroes clocks.
-use mathlib.Core.Path.{_≡_, refl, ap₂}
+use mathlib.Core.Path.{_≡_, refl}
 use mathlib.Core.Bool.{Bool, true, _&&_}
 use mathlib.Core.List.{List, [], _∷_}
-use mathlib.Core.Logic.{inl, inr}
 use Prim.Native.Nat.{ℕ, zero, suc, _+_, _*_, _/_, _%_, _^_, _≤_, _<_}
 use native.Mathlib.Omega.{arith}
 use native.Mathlib.Nat.{zero-div}
-use lib.Dec.{eqb, ltb}
+use lib.Dec.{eqb, ltb, leb}
 use lib.ListN.{length, getD}
-use borrow.Author.Tests.{eqb-true}
+use borrow.Author.Tests.{eqb-true, ltb-true, leb-true}
 use Rattle.model.specs.Basics.{pick, zeros, bit}
 use Rattle.model.specs.Rules.{Atom, hasEqual}
-use Rattle.model.specs.Runs.{holds, older, zeroedFrom}
-use Rattle.model.specs.Construction.{intervalOf, regionOf, regionRelated, regionsHold, advanced}
-use Rattle.model.proofs.Logic.{no-way, and-left, and-right, or-cases, In, here, there}
-use Rattle.model.proofs.Regions.{Tracks, near, side, related-agrees, even-region, Whole, advance-one, zero-one}
-use Rattle.model.proofs.Regions.{older-one}
+use Rattle.model.specs.Guards.{related, meets, guard}
+use Rattle.model.specs.Runs.{older, zeroedFrom}
+use Rattle.model.specs.Construction.{intervalOf, regionOf, regionsOf, regionsHold, advanced}
+use Rattle.model.specs.Claims.{tracks, tracksAll, atomsWithin, Guards-agree}
+use Rattle.model.proofs.Logic.{no-way, by-test, and-left, and-right, In, here, there, Some, some-either}
+use Rattle.model.proofs.Guards.{same-tests, met-each}
+use Rattle.model.proofs.Regions.{Tracks, near, far, side, related-agrees, even-region, Whole, advance-one}
+use Rattle.model.proofs.Regions.{zero-one, older-one}
 
 pub data TracksAll (c d t : ℕ) : List ℕ → List ℕ → Type 0 where
   none : TracksAll c d t [] []
@@ -30,35 +32,85 @@ tracks-at none i h = absurd (omega arith)
 tracks-at (more o r) zero h = o
 tracks-at (more o r) (suc i) h = tracks-at r i (omega arith)
 
--- a guard holds over ages exactly if it holds over regions, its clocks and constants in their ranges
-pub guards-agree :
+-- what a clock reads
+pub region-at :
+    (c i : ℕ) (bs : List ℕ) (k : ℕ) → k < length bs → getD (regionsOf c i bs) k 0 ≡ regionOf c (getD bs k 0) i
+region-at c i [] k h = absurd (omega arith)
+region-at c i (b ∷ bs) zero h = refl
+region-at c i (b ∷ bs) (suc k) h = region-at c i bs k (omega arith)
+
+-- a guard answers over ages what it answers over regions, its clocks and constants in their ranges
+pub tracked-guards :
     (c d t : ℕ) (bs ages : List ℕ) (xs : List Atom) → 1 ≤ d → TracksAll c d t bs ages
     → ((a : Atom) → In a xs → a .clock < length bs)
     → ((a : Atom) → In a xs → a .constant ≤ c)
-    → holds d ages xs ≡ regionsHold c (intervalOf c d t) bs xs
-guards-agree c d t bs ages [] hd r clock-in constant-in = refl
-guards-agree c d t bs ages (a ∷ xs) hd r clock-in constant-in =
-    let b : ℕ = getD bs (a .clock) 0 in
-    let g : ℕ = getD ages (a .clock) 0 in
-    ap₂ _&&_
-    (related-agrees (a .relation) g (a .constant * d) (regionOf c b (intervalOf c d t)) (a .constant)
-    (side c d t b g (a .constant) hd (constant-in a (here refl)) (tracks-at r (a .clock) (clock-in a (here refl)))))
-    (guards-agree c d t bs ages xs hd r (λ x i. clock-in x (there i)) (λ x i. constant-in x (there i)))
+    → guard d ages xs ≡ guard 2 (regionsOf c (intervalOf c d t) bs) xs
+tracked-guards c d t bs ages xs hd r clock-in constant-in =
+    same-tests 0 (meets d ages) (meets 2 (regionsOf c (intervalOf c d t) bs)) xs agree
+  where
+    agree : (a : Atom) → In a xs → meets d ages a ≡ meets 2 (regionsOf c (intervalOf c d t) bs) a
+    agree a i =
+        let b : ℕ = getD bs (a .clock) 0 in
+        let g : ℕ = getD ages (a .clock) 0 in
+        let e : a .constant * 2 ≡ 2 * a .constant = omega arith in
+        rw (region-at c (intervalOf c d t) bs (a .clock) (clock-in a i), e)
+        (related-agrees (a .relation) g (a .constant * d) (regionOf c b (intervalOf c d t)) (a .constant)
+        (side c d t b g (a .constant) hd (constant-in a i) (tracks-at r (a .clock) (clock-in a i))))
 
--- a guard with an equality holds at even intervals only
+-- ages and regions give the same answer
+tracks-one : (c d t b a : ℕ) → tracks c d t b a ≡ true → Tracks c d t b a
+tracks-one c d t b a h =
+    by-test (leb b c) (λ e. near (leb-true b c e) (eqb-true a (b * d + t) (rw e at h)))
+    (λ e.
+    let both : (eqb b (suc c) && ltb (c * d) a) ≡ true = rw e at h in
+    far (eqb-true b (suc c) (and-left (eqb b (suc c)) (ltb (c * d) a) both))
+    (ltb-true (c * d) a (and-right (eqb b (suc c)) (ltb (c * d) a) both)))
+
+tracks-each : (c d t : ℕ) (bs ages : List ℕ) → tracksAll c d t bs ages ≡ true → TracksAll c d t bs ages
+tracks-each c d t [] [] h = none
+tracks-each c d t [] (a ∷ ages) h = no-way h
+tracks-each c d t (b ∷ bs) [] h = no-way h
+tracks-each c d t (b ∷ bs) (a ∷ ages) h =
+    let one : tracks c d t b a ≡ true = and-left (tracks c d t b a) (tracksAll c d t bs ages) h in
+    let rest : tracksAll c d t bs ages ≡ true = and-right (tracks c d t b a) (tracksAll c d t bs ages) h in
+    more {b = b} {a = a} (tracks-one c d t b a one) (tracks-each c d t bs ages rest)
+
+atom-within :
+    (k c : ℕ) (xs : List Atom) → atomsWithin k c xs ≡ true → (a : Atom) → In a xs → (a .clock < k) × (a .constant ≤ c)
+atom-within k c (x ∷ xs) h a (here e) =
+    let both : (ltb (x .clock) k && leb (x .constant) c) ≡ true =
+    and-left (ltb (x .clock) k && leb (x .constant) c) (atomsWithin k c xs) h in
+    rw e (
+      ltb-true (x .clock) k (and-left (ltb (x .clock) k) (leb (x .constant) c) both),
+      leb-true (x .constant) c (and-right (ltb (x .clock) k) (leb (x .constant) c) both),
+    )
+atom-within k c (x ∷ xs) h a (there i) =
+    atom-within k c xs (and-right (ltb (x .clock) k && leb (x .constant) c) (atomsWithin k c xs) h) a i
+
+pub guards-agree : Guards-agree
+guards-agree c d t bs ages xs hd r w =
+    tracked-guards c d t bs ages xs (leb-true 1 d hd) (tracks-each c d t bs ages r)
+    (λ a i. atom-within (length bs) c xs w a i .0) (λ a i. atom-within (length bs) c xs w a i .1)
+
+-- a guard with an equality holds at even intervals only: it asks that a region is an even number
+equal-in : (xs : List Atom) → hasEqual xs ≡ true → Some (λ a. a .relation ≡ 2) xs
+equal-in [] h = no-way h
+equal-in (a ∷ xs) h =
+    some-either (eqb (a .relation) 2) (hasEqual xs) h (eqb-true (a .relation) 2) (equal-in xs)
+
 pub even-guard :
-    (c i : ℕ) (bs : List ℕ) (xs : List Atom) → hasEqual xs ≡ true → regionsHold c i bs xs ≡ true → i % 2 ≡ 0
-even-guard c i bs [] h m = no-way h
-even-guard c i bs (a ∷ xs) h m =
+    (c i : ℕ) (bs : List ℕ) (xs : List Atom) → ((a : Atom) → In a xs → a .clock < length bs) → hasEqual xs ≡ true
+    → regionsHold c i bs xs ≡ true
+    → i % 2 ≡ 0
+even-guard c i bs xs clock-in h m =
+    let p = equal-in xs h in
+    let a : Atom = p .member in
     let x : ℕ = regionOf c (getD bs (a .clock) 0) i in
-    let now-holds : Bool = regionRelated (a .relation) x (a .constant) in
-    let rest : Bool = regionsHold c i bs xs in
-    elim (or-cases (eqb (a .relation) 2) (hasEqual xs) h) [
-      | inl e ↦
-          even-region c (getD bs (a .clock) 0) i (a .constant)
-          (eqb-true x (2 * a .constant) (rw (eqb-true (a .relation) 2 e) at (and-left now-holds rest m)))
-      | inr e ↦ even-guard c i bs xs e (and-right now-holds rest m)
-    ]
+    let holds-it : related (a .relation) (getD (regionsOf c i bs) (a .clock) 0) (a .constant * 2) ≡ true =
+    met-each 0 (meets 2 (regionsOf c i bs)) xs m a (p .is-in) in
+    let e : a .constant * 2 ≡ 2 * a .constant = omega arith in
+    even-region c (getD bs (a .clock) 0) i (a .constant)
+    (eqb-true x (2 * a .constant) (rw (p .such, region-at c i bs (a .clock) (clock-in a (p .is-in)), e) at holds-it))
 
 -- a timer reset
 advance-half :

@@ -108,12 +108,15 @@ branch-zeroed h t d xs ts a p e =
 
 pub branch-refused :
     (h : Head) (t : List ℕ) (d : ℕ) (xs ts : List ℕ) (a : Branch) → RunsBranches h t d xs ts a → (a .number ≡ 0 → ⊥)
-    → a .found ≡ false
+    → (a .found ≡ false) × (a .held ≡ false) × (a .position ≡ 0)
 branch-refused h t d xs ts a p n =
     let r : Refusal = inputRefusal h t d 12 xs ts in
     let number : a .number ≡ r .number = ap (λ (x : Branch). x .number) (p .answer-is) in
-    let stops : passes r ≡ false = ne-eqb (r .number) 0 (λ z. n (number ∙ z)) in
-    ap (λ (x : Branch). x .found) (p .answer-is) ∙ rw stops
+    let stops : passes r ≡ false = ne-eqb (r .number) 0 (λ z. n (number ∙ z)) in (
+      ap (λ (x : Branch). x .found) (p .answer-is) ∙ rw stops,
+      ap (λ (x : Branch). x .held) (p .answer-is) ∙ rw stops,
+      ap (λ (x : Branch). x .position) (p .answer-is) ∙ rw stops,
+    )
 
 -- Event 4,097, and event 13 by branch, of any rule: 31.
 pub exact-most :

@@ -44,6 +44,9 @@ pub mod LeastRun
 pub mod Configs
 pub mod Reaching
 pub mod Counted
+-- Guards, atom by atom; what held a rule back (2.1)
+pub mod Guards
+pub mod HeldBack
 -- Rows: bases track ages, codes give their pairs back, the successor row is the paper's set
 pub mod Regions
 pub mod Clocks

@@ -9,8 +9,8 @@ use native.Mathlib.Nat.{div-add-mod', mod-lt}
 use lib.Dec.{ltb, leb}
 use borrow.Author.Tests.{ltb-true, ltb-false, leb-true, leb-false, lt-ltb, le-ltb, le-leb, lt-leb, eq-eqb, ne-eqb}
 use Rattle.model.specs.Basics.{pick}
-use Rattle.model.specs.Runs.{related}
-use Rattle.model.specs.Construction.{topInterval, intervalCount, intervalOf, regionOf, regionRelated}
+use Rattle.model.specs.Guards.{related}
+use Rattle.model.specs.Construction.{topInterval, intervalCount, intervalOf, regionOf}
 use Rattle.model.proofs.Logic.{Cmp, cmp, is-lt, is-eq, is-gt, Two, two, less, least}
 
 -- the three ways to find a region: base above cm, base plus interval above cm, neither
@@ -108,7 +108,7 @@ side c d t b a k hd hk (near h e) = go (age c d t hd)
 
 -- so an atom holds of both or of neither
 pub related-agrees :
-    (relation a limit x k : ℕ) → Side a limit x (2 * k) → related relation a limit ≡ regionRelated relation x k
+    (relation a limit x k : ℕ) → Side a limit x (2 * k) → related relation a limit ≡ related relation x (2 * k)
 related-agrees relation a m x k (below h g) =
     rw (
       lt-ltb a m h,

@@ -17,6 +17,7 @@ use Rattle.model.proofs.Logic.{no-way, by-test, and-left, and-right, or
 use Rattle.model.proofs.Logic.{not-in-nil, Some, first-some, later-some, some-either, two, less, least}
 use Rattle.model.proofs.Valid.{Valid, has-equal}
 use Rattle.model.proofs.Clocks.{even-guard}
+use Rattle.model.proofs.Codes.{digits-length, code-bases}
 
 -- a row with a code: the code, and what was in it
 with-same : (x y : ℕ) (ys : List ℕ) → eqb x y ≡ true → withCode x (y ∷ ys) ≡ y ∷ ys
@@ -218,6 +219,9 @@ module _ (r : Rule) (s i : ℕ) where
       let m = reset-of xs h .such in
       let e : Edge = m .member in
       even-guard (cm r) i (basesOf r (reset-of xs h .member)) (e .atoms)
+      (λ a j.
+      rw (digits-length (code-bases r (reset-of xs h .member)))
+      (v .edges-in e (m .is-in) .atoms-in a j .clock-below))
       (has-equal e (v .edges-in e (m .is-in) .pinned) (m .such .some-clock))
       (guard-of (reset-of xs h .member) e (m .such .allowed))
 

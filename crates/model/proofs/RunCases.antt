@@ -1,11 +1,15 @@
--- Runs, the least run and the walk over the rows, by computation: what counts as a run, and which run is the least.
+-- Runs, the least run, guards and what held a rule back, and the walk over the rows, by computation: what counts as a
+-- run, which run is the least, and which atom is named.
 use mathlib.Core.Path.{_≡_, refl}
 use mathlib.Core.Bool.{true, false}
 use mathlib.Core.List.{List, [], _∷_}
-use Rattle.model.specs.Rules.{Rule, rule, cm, pairCount}
+use Prim.Native.Nat.{ℕ}
+use Rattle.model.specs.declared.Guard.the-variants.{Holds, Fails}
+use Rattle.model.specs.Rules.{Atom, Edge, Rule, rule, cm, pairCount}
 use Rattle.model.specs.Words.{Event, eventsOf}
+use Rattle.model.specs.Guards.{guard}
 use Rattle.model.specs.Runs.{isAcceptingRun, acceptsFrom, acceptsFromSome, accepts, path, leastFrom, leastStart}
-use Rattle.model.specs.Runs.{leastRun}
+use Rattle.model.specs.Runs.{leastRun, heldBack}
 use Rattle.model.specs.Files.{recordRefusal, withRecord, atEnd, readFrom, readRule}
 use Rattle.model.specs.Construction.{codeOf, locationOf, basesOf, startRow, allows, rowResets, targetOf}
 use Rattle.model.specs.Construction.{nextRow, holdsFinal, walksFrom, walks}
@@ -50,6 +54,61 @@ leasts =
 leasts-are : leasts
 unfolding acceptsFrom acceptsFromSome accepts leastFrom leastStart leastRun free-edge two-starts leasts
 leasts-are = (refl, refl, refl, refl)
+
+-- The first atom that fails. x0 at least 1, x1 at most 3, x0 equal 2: at ages of D = 1 and 2, and at regions.
+atom : ℕ → ℕ → ℕ → Atom
+atom clock relation constant = record { clock = clock; relation = relation; constant = constant }
+
+bounds : List Atom
+bounds = atom 0 3 1 ∷ atom 1 1 3 ∷ atom 0 2 2 ∷ []
+
+guards : Type 0
+guards =
+    (guard 1 (0 ∷ 9 ∷ []) bounds ≡ Fails 0) × (guard 1 (2 ∷ 9 ∷ []) bounds ≡ Fails 1)
+    × (guard 1 (1 ∷ 3 ∷ []) bounds ≡ Fails 2)
+    × (guard 1 (2 ∷ 3 ∷ []) bounds ≡ Holds)
+    × (guard 2 (1 ∷ 6 ∷ []) bounds ≡ Fails 0)
+    × (guard 2 (4 ∷ 7 ∷ []) bounds ≡ Fails 1)
+    × (guard 2 (5 ∷ 6 ∷ []) bounds ≡ Fails 2)
+    × (guard 2 (4 ∷ 6 ∷ []) bounds ≡ Holds)
+    × (guard 1 (4 ∷ []) [] ≡ Holds)
+
+guards-are : guards
+unfolding atom bounds guards
+guards-are = (refl, refl, refl, refl, refl, refl, refl, refl, refl)
+
+-- What held a rule back, D = 2. Initial are 1 and 2: edge 0 leaves neither, edge 1 has symbol 1, edge 2 is the lowest
+-- on symbol 0, edge 3 can always be taken, edge 4 never.
+edge-from : ℕ → ℕ → List Atom → Edge
+edge-from source symbol atoms =
+    record { source = source; target = 0; symbol = symbol; resets = 0; atoms = atoms }
+
+waits : List ℕ → Rule
+waits final =
+    rule 3 3 2 (1 ∷ 2 ∷ []) final 0
+    (edge-from 0 0 (atom 0 2 9 ∷ [])
+    ∷ edge-from 1 1 (atom 0 3 0 ∷ atom 1 0 0 ∷ [])
+    ∷ edge-from 2 0 bounds
+    ∷ edge-from 1 0 []
+    ∷ edge-from 1 0 (atom 1 0 0 ∷ [])
+    ∷ [])
+
+helds : Type 0
+helds =
+    (heldBack (waits []) 2 [] ≡ Holds) × (heldBack (waits []) 2 (eventsOf (0 ∷ []) (1 ∷ [])) ≡ Fails 0)
+    × (heldBack (waits []) 2 (eventsOf (0 ∷ []) (3 ∷ [])) ≡ Fails 2)
+    × (heldBack (waits []) 2 (eventsOf (0 ∷ []) (4 ∷ [])) ≡ Holds)
+    × (heldBack (waits []) 2 (eventsOf (0 ∷ []) (7 ∷ [])) ≡ Fails 1)
+    × (heldBack (waits []) 2 (eventsOf (0 ∷ 1 ∷ []) (7 ∷ 8 ∷ [])) ≡ Fails 1)
+    × (heldBack (waits []) 2 (eventsOf (1 ∷ 0 ∷ []) (4 ∷ 7 ∷ [])) ≡ Fails 1)
+    × (heldBack (waits []) 2 (eventsOf (2 ∷ []) (1 ∷ [])) ≡ Holds)
+    × (heldBack (waits (0 ∷ [])) 2 (eventsOf (0 ∷ []) (1 ∷ [])) ≡ Holds)
+    × (heldBack (waits (0 ∷ [])) 2 (eventsOf (1 ∷ []) (1 ∷ [])) ≡ Fails 1)
+    × (heldBack (waits (0 ∷ [])) 2 (eventsOf (0 ∷ 0 ∷ []) (1 ∷ 2 ∷ [])) ≡ Fails 0)
+
+helds-are : helds
+unfolding acceptsFrom acceptsFromSome accepts heldBack atom bounds edge-from waits helds
+helds-are = (refl, refl, refl, refl, refl, refl, refl, refl, refl, refl, refl)
 
 -- an edge back to 0, and one to 1 at age 1 that resets the clock
 stays-or-resets : Rule

@@ -8,10 +8,11 @@ use borrow.Author.Tests.{eq-eqb}
 use Rattle.model.specs.declared.Answer.{Answer}
 use Rattle.model.specs.declared.Building.{Building}
 use Rattle.model.specs.declared.Branch.{Branch}
+use Rattle.model.specs.declared.Guard.{Guard}
 use Rattle.model.specs.Basics.{oneIf, Refusal}
 use Rattle.model.specs.Rules.{Rule}
 use Rattle.model.specs.Words.{eventsOf, mostEvents, wordRefusal}
-use Rattle.model.specs.Runs.{accepts, leastRun}
+use Rattle.model.specs.Runs.{accepts, leastRun, heldBack}
 use Rattle.model.specs.Layout.{ruleIn, ruleRefusal}
 use Rattle.model.specs.Tables.{Tables, tables}
 use Rattle.model.specs.Walks.{tableAccepts}
@@ -46,11 +47,11 @@ table-value r t d symbols stamps answer says e z =
 
 -- the branch runner finds a run exactly if the word is accepted
 branch-found :
-    (f : Refusal) (r : Rule) (d : ℕ) (symbols stamps : List ℕ) (branch : Branch)
-    → branch ≡ branchOf f (leastRun r d (eventsOf symbols stamps))
+    (f : Refusal) (r : Rule) (d : ℕ) (symbols stamps : List ℕ) (g : Guard) (branch : Branch)
+    → branch ≡ branchOf f (leastRun r d (eventsOf symbols stamps)) g
     → branch .number ≡ 0
     → branch .found ≡ accepts r d (eventsOf symbols stamps)
-branch-found f r d symbols stamps branch e z =
+branch-found f r d symbols stamps g branch e z =
     let none : f .number ≡ 0 = sym (ap (λ (x : Branch). x .number) e) ∙ z in
     ap (λ (x : Branch). x .found) e ∙ rw (eq-eqb (f .number) 0 none) (runs-are .found-is r d (eventsOf symbols stamps))
 
@@ -76,5 +77,6 @@ runners-agree head edges scratch scratch′ cells cells′ rows rows′ pool poo
     let verdict : table .value ≡ oneIf (accepts r d (eventsOf symbols stamps)) =
     table-value r (tables (building .built) cells′ rows′ pool′) d symbols stamps table says (t .answer-is) zt in (
       value-of _ _ exact (e .answer-is) ze ∙ sym verdict,
-      ap oneIf (branch-found _ r d symbols stamps branch (b .answer-is) zb) ∙ sym verdict,
+      ap oneIf (branch-found _ r d symbols stamps (heldBack r d (eventsOf symbols stamps)) branch (b .answer-is) zb)
+          ∙ sym verdict,
     )

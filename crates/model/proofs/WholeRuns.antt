@@ -8,10 +8,11 @@ use lib.ListN.{length, replicate}
 use Rattle.model.specs.declared.Head.{Head}
 use Rattle.model.specs.declared.Answer.{Answer}
 use Rattle.model.specs.declared.Branch.{Branch}
+use Rattle.model.specs.declared.Guard.the-variants.{Fails}
 use Rattle.model.specs.Basics.{pick, oneIf, zeros, maskOf, bitsFrom, Refusal, refusal, fine, passes, _⨾_}
 use Rattle.model.specs.Words.{eventsOf, mostEvents, mostBranchEvents, wordRefusal}
-use Rattle.model.specs.Runs.{acceptsFrom, acceptsFromSome, accepts, leastFrom, leastStart, leastRun}
-use Rattle.model.specs.Runs.{byEdges, byConfigs, roomRefusalFrom, roomRefusal}
+use Rattle.model.specs.Runs.{acceptsFrom, acceptsFromSome, accepts, leastFrom, leastStart, leastRun, heldBack}
+use Rattle.model.specs.Runs.{path, noPath, byEdges, byConfigs, roomRefusalFrom, roomRefusal}
 use Rattle.model.specs.Layout.{headOf, edgesNumbers, edgeTable, ruleIn, ruleRefusal}
 use Rattle.model.specs.Walks.{inShape, shapeRefusal, verdict, step, stepAll, tableAccepts}
 use Rattle.model.specs.Promises.{answerOf, ChecksWord, ChecksTable, configRoom, inputRefusal, exactRefusal}
@@ -40,6 +41,7 @@ branch-as :
     {h : Head} {t : List ℕ} {d : ℕ} {xs ts : List ℕ} {a : Branch} {g : Refusal} → ruleRefusal h t ≡ g
     → a
     ≡ branchOf (g ⨾ wordRefusal (h .symbols) d mostBranchEvents xs ts) (leastRun (ruleIn h t) d (eventsOf xs ts))
+    (heldBack (ruleIn h t) d (eventsOf xs ts))
     → RunsBranches h t d xs ts a
 unfolding ruleIn inputRefusal
 branch-as k answer-is = record { answer-is = rw k answer-is }
@@ -108,10 +110,33 @@ exacts-zeroed-are = (
 )
 
 -- The branch runner: the start and the edges of the least run, unused places zero; all zero where there is none and on
--- a refusal. At most 12 events.
+-- a refusal. At most 12 events. What held the rule back: nothing on a refusal, with a run, where no edge leaves an
+-- initial location on the first symbol, and where its guard holds.
 branch : ℕ → ℕ → Branch
-branch number place =
-    record { number = number; place = place; found = false; start = 0; edges = replicate 12 0 }
+branch number place = record {
+  number = number;
+  place = place;
+  found = false;
+  start = 0;
+  edges = replicate 12 0;
+  held = false;
+  position = 0;
+}
+
+held-at : ℕ → Branch
+held-at position = record {
+  number = 0;
+  place = 0;
+  found = false;
+  start = 0;
+  edges = replicate 12 0;
+  held = true;
+  position = position;
+}
+
+run-by : List ℕ → Branch
+run-by edges =
+    record { number = 0; place = 0; found = true; start = 0; edges = edges; held = false; position = 0 }
 
 branches : Type 0
 branches =
@@ -120,20 +145,23 @@ branches =
     × RunsBranches worked-head (worked-edges 7366) 0 (0 ∷ []) [] (branch 30 0)
     × RunsBranches worked-head (worked-edges 7366) 2 (2 ∷ []) [] (branch 31 0)
     × RunsBranches worked-head (worked-edges 7366) 2 (replicate 13 2) (replicate 13 0) (branch 31 0)
-    × RunsBranches worked-head (worked-edges 7366) 2 (replicate 12 0) (replicate 12 0) (branch 0 0)
+    × RunsBranches worked-head (worked-edges 7366) 2 (replicate 12 0) (replicate 12 0) (held-at 0)
     × RunsBranches worked-head (worked-edges 7366) 2 (0 ∷ 2 ∷ []) (2 ∷ 1 ∷ []) (branch 32 2)
     × RunsBranches worked-head (worked-edges 7366) 2 (0 ∷ 1 ∷ []) (2 ∷ 1 ∷ []) (branch 33 2)
-    × RunsBranches worked-head (worked-edges 7366) 2 (0 ∷ 1 ∷ []) (2 ∷ 4 ∷ [])
-    (record { number = 0; place = 0; found = true; start = 0; edges = 0 ∷ 1 ∷ replicate 10 0 })
+    × RunsBranches worked-head (worked-edges 7366) 2 (0 ∷ 1 ∷ []) (2 ∷ 4 ∷ []) (run-by (0 ∷ 1 ∷ replicate 10 0))
     × RunsBranches worked-head (worked-edges 7366) 2 (0 ∷ 1 ∷ []) (2 ∷ 3 ∷ []) (branch 0 0)
+    × RunsBranches worked-head (worked-edges 7366) 2 [] [] (run-by (replicate 12 0))
+    × RunsBranches worked-head (worked-edges 7366) 2 (0 ∷ []) (1 ∷ []) (held-at 0)
+    × RunsBranches worked-head (worked-edges 7366) 2 (1 ∷ []) (1 ∷ []) (branch 0 0)
+    × RunsBranches worked-head (worked-edges 7366) 2 (0 ∷ []) (2 ∷ []) (branch 0 0)
     × RunsBranches (headOf forks) (edgeTable 7424 forks) 1 (0 ∷ 1 ∷ 1 ∷ []) (0 ∷ 0 ∷ 0 ∷ [])
-    (record { number = 0; place = 0; found = true; start = 0; edges = 0 ∷ 2 ∷ 3 ∷ replicate 9 0 })
+    (run-by (0 ∷ 2 ∷ 3 ∷ replicate 9 0))
     × RunsBranches (headOf forks) (edgeTable 7424 forks) 1 (replicate 12 1) (replicate 12 0)
-    (record { number = 0; place = 0; found = true; start = 0; edges = replicate 11 2 ++ (3 ∷ []) })
+    (run-by (replicate 11 2 ++ (3 ∷ [])))
 
 branches-are : branches
-unfolding maskOf bitsFrom edgesNumbers edgeTable ruleIn wordRefusal leastFrom leastStart leastRun branch free-edge
-    forks branches
+unfolding maskOf bitsFrom edgesNumbers edgeTable ruleIn wordRefusal acceptsFrom acceptsFromSome accepts leastFrom
+    leastStart leastRun heldBack branch held-at run-by free-edge forks branches
 branches-are = (
   branch-as both-refused refl,
   branch-as head-refused refl,
@@ -145,9 +173,23 @@ branches-are = (
   branch-as worked-passes refl,
   branch-as worked-passes refl,
   branch-as worked-passes refl,
+  branch-as worked-passes refl,
+  branch-as worked-passes refl,
+  branch-as worked-passes refl,
+  branch-as worked-passes refl,
   branch-as forks-passes refl,
   branch-as forks-passes refl,
 )
+
+-- a position past 0, and that a refusal has neither run nor position
+told : Type 0
+told =
+    (branchOf fine noPath (Fails 2) ≡ held-at 2)
+    × (branchOf (refusal 21 0) (path true 1 (1 ∷ [])) (Fails 3) ≡ branch 21 0)
+
+told-are : told
+unfolding branch held-at told
+told-are = (refl, refl)
 
 -- The table runner on the worked table: 25, then 30 to 33; yes and no. The checks that it makes.
 table : ℕ → List ℕ → List ℕ → Answer → Type 0

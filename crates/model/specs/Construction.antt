@@ -7,7 +7,8 @@ use lib.ListN.{length, getD}
 use Rattle.model.specs.Basics.{pick, oneIf, isIn, same, zeros, quotient, remainder}
 use Rattle.model.specs.Rules.{Atom, Edge, Rule, cm, baseCount}
 use Rattle.model.specs.Words.{Event}
-use Rattle.model.specs.Runs.{related, zeroed}
+use Rattle.model.specs.Guards.{guard, isMet}
+use Rattle.model.specs.Runs.{zeroed}
 
 -- Interval numbers of the timer: 2c is [c], 2c + 1 is (c, c + 1), 2 · cm + 1 is everything above cm.
 abbrev pub topInterval : ℕ → ℕ
@@ -30,15 +31,14 @@ abbrev pub regionOf : ℕ → ℕ → ℕ → ℕ
 regionOf c base i =
     pick (ltb c base) (topInterval c) (pick (ltb (2 * c) (2 * base + i)) (topInterval c) (2 * base + i))
 
--- a region against a constant, which is at most cm: constant c is region 2c
-abbrev pub regionRelated : ℕ → ℕ → ℕ → Bool
-regionRelated relation region constant = related relation region (2 * constant)
+-- the regions of all clocks of a pair
+abbrev pub regionsOf : ℕ → ℕ → List ℕ → List ℕ
+regionsOf c i [] = []
+regionsOf c i (b ∷ bases) = regionOf c b i ∷ regionsOf c i bases
 
--- a guard over regions: all atoms hold
+-- a guard over regions: all atoms hold; a constant is at most cm, and constant c is region 2c
 abbrev pub regionsHold : ℕ → ℕ → List ℕ → List Atom → Bool
-regionsHold c i bases [] = true
-regionsHold c i bases (a ∷ as-are) =
-    regionRelated (a .relation) (regionOf c (getD bases (a .clock) 0) i) (a .constant) && regionsHold c i bases as-are
+regionsHold c i bases atoms = isMet (guard 2 (regionsOf c i bases) atoms)
 
 -- The code of a pair: location · (cm + 2)^K plus the sum of base(k) · (cm + 2)^k; and the pair of a code.
 abbrev pub digitsCode : ℕ → List ℕ → ℕ

@@ -5,7 +5,10 @@ pub mod Basics
 pub mod Rules
 -- "The rule": words, and what a word may not be (30 to 33)
 pub mod Words
--- "The rule": ages, guards, runs, acceptance; "Runners": the least accepting run, configurations and 26
+-- "The rule": guards, and the first atom that does not hold (2.1)
+pub mod Guards
+-- "The rule": ages, runs, acceptance; "Runners": the least accepting run, what held the rule back (2.1), configurations
+-- and 26
 pub mod Runs
 -- "The file": records, reading with refusals 1 to 8, writing
 pub mod Files
@@ -21,5 +24,6 @@ pub mod Walks
 pub mod Promises
 -- Demands 2 and 3 as claims about the definitions and the promises
 pub mod Demands
--- Further claims that pin the definitions: runs, configurations, successor sets, the tables by place, the follower
+-- Further claims that pin the definitions: runs, configurations, successor sets, the tables by place, the follower,
+-- guards and what held a rule back
 pub mod Claims

@@ -12,6 +12,7 @@ use Rattle.model.specs.declared.Built.{Built}
 use Rattle.model.specs.declared.Answer.{Answer}
 use Rattle.model.specs.declared.Reading.{Reading}
 use Rattle.model.specs.declared.Building.{Building}
+use Rattle.model.specs.declared.Guard.{Guard}
 use Rattle.model.specs.declared.Branch.{Branch}
 use Rattle.model.specs.declared.Follower.{Follower}
 use Rattle.model.specs.declared.Started.{Started}
@@ -20,7 +21,8 @@ use Rattle.model.specs.declared.Moved.{Moved}
 use Rattle.model.specs.Basics.{pick, oneIf, zeros, filled, written, Refusal, refuse, passes, _⨾_}
 use Rattle.model.specs.Rules.{Rule}
 use Rattle.model.specs.Words.{Event, eventsOf, mostEvents, mostBranchEvents, grainOk, wordRefusal}
-use Rattle.model.specs.Runs.{accepts, Path, leastRun, roomRefusal}
+use Rattle.model.specs.Guards.{isMet, failingPosition}
+use Rattle.model.specs.Runs.{accepts, Path, leastRun, heldBack, roomRefusal}
 use Rattle.model.specs.Files.{readRule, ruleBytes}
 use Rattle.model.specs.Layout.{edgeNeed, headOf, noHead, edgeTable, ruleIn, ruleRefusal}
 use Rattle.model.specs.Tables.{Tables, tables, tablesOf, builtOf, noBuilt, tableRefusal}
@@ -131,14 +133,17 @@ pub record RunsExact
       scratch′
       ≡ pick (passes (inputRefusal head edges d mostEvents symbols stamps)) (zeros (length scratch)) scratch
 
--- run_branches: 20, 21, 30 to 33 with at most 12 events. All zero where no run accepts, and on a refusal.
-abbrev pub branchOf : Refusal → Path → Branch
-branchOf f p = record {
+-- run_branches: 20, 21, 30 to 33 with at most 12 events. The run is all zero where none accepts, and on a refusal. What
+-- held the rule back is a flag and a position; both are zero where it is nothing, and on a refusal.
+abbrev pub branchOf : Refusal → Path → Guard → Branch
+branchOf f p g = record {
   number = f .number;
   place = f .place;
   found = passes f && p .found;
   start = pick (passes f && p .found) (p .start) 0;
   edges = filled mostBranchEvents (pick (passes f && p .found) (p .taken) []);
+  held = passes f && not (isMet g);
+  position = pick (passes f) (failingPosition g) 0;
 }
 
 pub record RunsBranches
@@ -147,6 +152,7 @@ pub record RunsBranches
       answer
       ≡ branchOf (inputRefusal head edges d mostBranchEvents symbols stamps)
       (leastRun (ruleIn head edges) d (eventsOf symbols stamps))
+      (heldBack (ruleIn head edges) d (eventsOf symbols stamps))
 
 -- run_table: 25, then 30 to 33
 unfoldable pub runRefusal : Tables → ℕ → List ℕ → List ℕ → Refusal

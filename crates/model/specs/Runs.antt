@@ -1,26 +1,19 @@
 -- Runs over a word, ages exact in D-ths of a second (document 000, section 2).
 use mathlib.Core.Bool.{Bool, true, false, _&&_, _||_}
 use mathlib.Core.List.{List, [], _∷_, _++_}
-use Prim.Native.Nat.{ℕ, suc, _-_, _+_, _*_}
-use lib.Dec.{eqb, ltb, leb}
+use Prim.Native.Nat.{ℕ, suc, _-_, _+_}
+use lib.Dec.{eqb, ltb}
 use lib.ListN.{length, getD}
 use Rattle.model.specs.Basics.{pick, isIn, same, zeros, bit, Refusal, refusal, refuse}
 use Rattle.model.specs.Rules.{Atom, Edge, Rule}
 use Rattle.model.specs.Words.{Event}
-
--- an age against a constant, both in D-ths
-abbrev pub related : ℕ → ℕ → ℕ → Bool
-related relation age limit =
-    pick (eqb relation 0) (ltb age limit)
-    (pick (eqb relation 1) (leb age limit)
-    (pick (eqb relation 2) (eqb age limit)
-    (pick (eqb relation 3) (leb limit age) (ltb limit age))))
+use Rattle.model.specs.Guards.{guard, isMet}
+use Rattle.model.specs.declared.Guard.{Guard}
+use Rattle.model.specs.declared.Guard.the-variants.{Holds}
 
 -- a guard over ages: all atoms hold, each age compared with constant · D
 abbrev pub holds : ℕ → List ℕ → List Atom → Bool
-holds d ages [] = true
-holds d ages (a ∷ as-are) =
-    related (a .relation) (getD ages (a .clock) 0) (a .constant * d) && holds d ages as-are
+holds d ages atoms = isMet (guard d ages atoms)
 
 -- the delay is added to every age
 abbrev pub older : ℕ → List ℕ → List ℕ
@@ -110,6 +103,19 @@ leastStart r d vs (l ∷ ls) =
 
 unfoldable pub leastRun : Rule → ℕ → List Event → Path
 leastRun r d vs = leastStart r d vs (r .initial)
+
+-- What held the rule back (2.1): with at least one event and no accepting run, the guard of the lowest edge that leaves
+-- an initial location on the first symbol, by the first event's ages; nothing where there is no such edge.
+abbrev pub lowestLeaving : List ℕ → ℕ → ℕ → List ℕ → List Edge → Guard
+lowestLeaving initial s d ages [] = Holds
+lowestLeaving initial s d ages (e ∷ es) =
+    pick (isIn (e .source) initial && eqb (e .symbol) s) (guard d ages (e .atoms)) (lowestLeaving initial s d ages es)
+
+unfoldable pub heldBack : Rule → ℕ → List Event → Guard
+heldBack r d [] = Holds
+heldBack r d (v ∷ vs) =
+    pick (accepts r d (v ∷ vs)) Holds
+    (lowestLeaving (r .initial) (v .symbol) d (older (v .stamp) (startAges r)) (r .edges))
 
 -- All distinct configurations (location, ages) after each event, in the order in which they are found.
 pub record Config : Type 0 where

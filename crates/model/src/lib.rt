@@ -140,7 +140,15 @@ pub struct Building {
     pub built: Built,
 }
 
+// A guard's answer: it holds, or the first atom, by position from 0, that does not.
+pub enum Guard {
+    Holds,
+    Fails(usize),
+}
+
 // A run that accepts: its start and its edges, by number. All zero where there is none.
+// `held`: a guard held the rule back at the first event; its atom at `position`, from 0, is the first that does not
+// hold. Both are zero where a run accepts, and wherever no guard is to be named.
 #[repr(C)]
 pub struct Branch {
     pub number: u8,
@@ -148,6 +156,8 @@ pub struct Branch {
     pub found: bool,
     pub start: u16,
     pub edges: [u16; 12],
+    pub held: bool,
+    pub position: usize,
 }
 
 // One timer over a table: D as `grain`, the row, the stamp of the last timer reset, the last stamp, the event count.

@@ -11,9 +11,11 @@ use lib.Seq.{getD-take}
 use Rattle.model.specs.Basics.{pick, quotient, remainder, bit}
 use Rattle.model.specs.Rules.{Atom, Edge, Rule, cm, baseCount, mostClocks}
 use Rattle.model.specs.Runs.{zeroedFrom, zeroed}
-use Rattle.model.specs.Construction.{regionOf, regionRelated, regionsHold, digitsOf, digitsCode, codeOf, locationOf}
+use Rattle.model.specs.Guards.{guard, isMet}
+use Rattle.model.specs.Construction.{regionOf, regionsOf, regionsHold, digitsOf, digitsCode, codeOf, locationOf}
 use Rattle.model.specs.Construction.{basesOf, allows, advanced, targetOf}
-use Rattle.model.proofs.Logic.{In, here, there}
+use Rattle.model.proofs.Logic.{In}
+use Rattle.model.proofs.Guards.{same-readings}
 use Rattle.model.proofs.Valid.{EdgeIn}
 use Rattle.pairs.specs.declared.Scale.{Scale}
 use Rattle.pairs.specs.declared.Input.{Input}
@@ -42,14 +44,18 @@ take-moved :
 take-moved k mask true c i bs = take-zeroed k 0 mask (advanced c i bs) ∙ ap (zeroed mask) (take-advanced k c i bs)
 take-moved k mask false c i bs = take-zeroed k 0 mask bs
 
+take-regions : (k c i : ℕ) (bs : List ℕ) → take k (regionsOf c i bs) ≡ regionsOf c i (take k bs)
+take-regions zero c i bs = refl
+take-regions (suc k) c i [] = refl
+take-regions (suc k) c i (b ∷ bs) = ap (λ (l : List ℕ). regionOf c b i ∷ l) (take-regions k c i bs)
+
 -- a guard looks only at the clocks of its atoms
 guard-take :
     (k c i : ℕ) (bs : List ℕ) (xs : List Atom) → ((a : Atom) → In a xs → a .clock < k)
-    → regionsHold c i bs xs ≡ regionsHold c i (take k bs) xs
-guard-take k c i bs [] h = refl
-guard-take k c i bs (a ∷ xs) h =
-    ap₂ (λ (n : ℕ) (t : Bool). regionRelated (a .relation) (regionOf c n i) (a .constant) && t)
-    (sym (getD-take k bs (a .clock) 0 (h a (here refl)))) (guard-take k c i bs xs (λ b j. h b (there j)))
+    → guard 2 (regionsOf c i bs) xs ≡ guard 2 (regionsOf c i (take k bs)) xs
+guard-take k c i bs xs h =
+    same-readings 2 (regionsOf c i bs) (regionsOf c i (take k bs)) xs
+    (λ a j. rw (← take-regions k c i bs) (sym (getD-take k (regionsOf c i bs) (a .clock) 0 (h a j))))
 
 module _ {r : Rule} {z : Scale} (scaled : Scaled r z) where
   radix-is : radix z ≡ baseCount r
@@ -72,8 +78,9 @@ module _ {r : Rule} {z : Scale} (scaled : Scaled r z) where
   allows-is at x e v =
       let holds : ℕ → List ℕ → Bool = λ c bs. regionsHold c (at .interval) bs (e .atoms) in
       let g : holds (z .top) (unpacked z x .bases) ≡ holds (cm r) (basesOf r x) =
-      guard-take (r .clocks) (z .top) (at .interval) (unpacked z x .bases) (e .atoms)
-      (λ a i. v .atoms-in a i .clock-below)
+      ap isMet
+      (guard-take (r .clocks) (z .top) (at .interval) (unpacked z x .bases) (e .atoms)
+      (λ a i. v .atoms-in a i .clock-below))
       ∙ ap₂ (λ (c : ℕ) (bs : List ℕ). regionsHold c (at .interval) bs (e .atoms)) (scaled .top-is) (bases-are x) in
       ap₂ (λ (l : ℕ) (t : Bool). eqb (e .source) l && eqb (e .symbol) (at .symbol) && t) (location-is x) g
 

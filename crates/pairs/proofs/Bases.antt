@@ -2,14 +2,14 @@
 use mathlib.Core.Path.{_≡_, refl, sym, _∙_, ap}
 use mathlib.Core.Bool.{Bool, true, false}
 use mathlib.Core.List.{List, [], _∷_, _++_, append-assoc, append-nil}
-use Prim.Native.Nat.{ℕ, suc, _+_, _-_, _*_, _/_, _%_, _^_, _≤_, _<_}
+use Prim.Native.Nat.{ℕ, zero, suc, _+_, _-_, _*_, _/_, _%_, _^_, _≤_, _<_}
 use native.Mathlib.Omega.{arith}
-use native.Mathlib.Nat.{pow-le-pow-right, pow-le-pow-left, pow-zero, pow-suc, le-trans, mul-le-mul}
+use native.Mathlib.Nat.{pow-le-pow-right, pow-le-pow-left, pow-zero, pow-suc, le-trans, mul-le-mul, zero-mod, zero-div}
 use native.Mathlib.Numerals.{add-one}
-use lib.ListN.{length, getD, set, take, drop, length-set}
-use lib.Seq.{take-suc-set, drop-cons, take-length, drop-length, take-nil}
+use lib.ListN.{length, getD, set, take, drop, length-set, take-append-drop}
+use lib.Seq.{take-suc-set, drop-cons, drop-set-lt, take-length, drop-length, take-nil}
 use borrow.Author.Tests.{lt-ltb, le-ltb}
-use Rattle.model.specs.Basics.{pick, bit, quotient, remainder}
+use Rattle.model.specs.Basics.{pick, zeros, bit, quotient, remainder}
 use Rattle.model.specs.Rules.{mostClocks}
 use Rattle.model.specs.Runs.{zeroedFrom}
 use Rattle.model.specs.Construction.{digitsCode, digitsOf, advanced}
@@ -44,14 +44,22 @@ pub moved-kept :
     (mask k : ℕ) (timer : Bool) (c i b : ℕ) → bit k mask ≡ false → timer ≡ false → b ≡ movedBase mask k timer c i b
 moved-kept mask k timer c i b e t = rw (e, t)
 
--- The digits taken off so far, with those still to come, are the digits of the number.
+-- the digits of 0
+digits-zero : (n m : ℕ) → digitsOf n m 0 ≡ zeros n
+digits-zero zero m = refl
+digits-zero (suc n) zero = ap (λ (l : List ℕ). 0 ∷ l) (digits-zero n zero)
+digits-zero (suc n) (suc m) =
+    rw (zero-mod (suc m), zero-div (suc m)) (ap (λ (l : List ℕ). 0 ∷ l) (digits-zero n (suc m)))
+
+-- The digits taken off so far, with those still to come, are the digits of the number; the bases from k on are zeros.
 pub record Taking (m x k rest : ℕ) (bases : List ℕ) : Type 0 where
   pub turns : k ≤ mostClocks
   pub long : length bases ≡ mostClocks
+  pub later-zero : drop k bases ≡ zeros (mostClocks - k)
   pub all-are : take k bases ++ digitsOf (mostClocks - k) m rest ≡ digitsOf mostClocks m x
 
-pub taking-start : (m x : ℕ) (bases : List ℕ) → length bases ≡ mostClocks → Taking m x 0 x bases
-taking-start m x bases h = record { turns = omega arith; long = h; all-are = refl }
+pub taking-start : (m x : ℕ) → Taking m x 0 x (zeros mostClocks)
+taking-start m x = record { turns = omega arith; long = refl; later-zero = refl; all-are = refl }
 
 module _ {m x k rest : ℕ} {bases : List ℕ} (inv : Taking m x k rest bases) where
   pub taking-next :
@@ -60,16 +68,29 @@ module _ {m x k rest : ℕ} {bases : List ℕ} (inv : Taking m x k rest bases) w
   taking-next digit p h e =
       let a : mostClocks - k ≡ suc (mostClocks - (k + 1)) = omega arith in
       let to-come : List ℕ = digitsOf (mostClocks - (k + 1)) m (rest / m) in
+      let inside : k < length bases = omega (arith, inv .long) in
       let front : take (k + 1) (set bases k digit) ≡ take k bases ++ (digit ∷ []) =
-      rw (add-one k) (take-suc-set bases k digit (omega (arith, inv .long))) in
+      rw (add-one k) (take-suc-set bases k digit inside) in
+      let zero-head : getD bases k 0 ∷ drop (suc k) bases ≡ 0 ∷ zeros (mostClocks - (k + 1)) =
+      sym (drop-cons bases k 0 inside) ∙ (rw a at (inv .later-zero)) in
+      let later : drop (suc k) bases ≡ zeros (mostClocks - (k + 1)) = ap (drop 1) zero-head in
       record {
         turns = omega arith;
         long = length-set bases k digit ∙ inv .long;
+        later-zero =
+            drop-set-lt (k + 1) bases k digit (omega arith) ∙ (ap (λ (n : ℕ). drop n bases) (add-one k) ∙ later);
         all-are =
             rw (front, append-assoc (take k bases) (digit ∷ []) to-come, e)
             (rw (← remainder-is rest m p, ← quotient-is rest m p)
             (rw a at (inv .all-are)));
       }
+
+  -- nothing is left: the digits to come are zeros, as the bases not yet set are
+  pub taking-nothing : rest ≡ 0 → bases ≡ digitsOf mostClocks m x
+  taking-nothing e =
+      let to-come : digitsOf (mostClocks - k) m rest ≡ drop k bases =
+      rw e (digits-zero (mostClocks - k) m) ∙ sym (inv .later-zero) in
+      sym (take-append-drop k bases) ∙ (rw to-come at (inv .all-are))
 
   pub taking-end : mostClocks ≤ k → bases ≡ digitsOf mostClocks m x
   taking-end h =

@@ -1,3 +1,3 @@
 pub mod Bases
-pub mod GuardTests
+pub mod EdgeTests
 pub mod Agreement

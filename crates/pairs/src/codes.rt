@@ -12,7 +12,8 @@ use numbers::wide8;
 use numbers::wide16;
 use numbers::wide32;
 
-// The pair that a code stands for.
+// The pair that a code stands for. Once nothing is left of the code, every digit still to come is 0, and the bases are
+// 0 from the start: no more divisions are made.
 pub fn unpack(scale: Scale, code: u32) -> Pair
     ensures { λ r. ⌜ r ≡ unpacked scale code ⌝ }
 {
@@ -24,6 +25,9 @@ pub fn unpack(scale: Scale, code: u32) -> Pair
     let mut bases = [0u16; MOST_CLOCKS];
     let mut k: usize = 0;
     while k < MOST_CLOCKS {
+        if rest == 0 {
+            return Pair { location, bases };
+        }
         bases[k] = narrow16(rest % radix);
         rest = rest / radix;
         k += 1;

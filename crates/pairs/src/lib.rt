@@ -1,10 +1,10 @@
 // Pairs of a location and bases, their codes, and where edges lead from them.
-// Total: each number has the width that its range needs, and a base past the array is 0, as in the definitions.
+// Total: each number has the width that its range needs, and a clock past the array reads 0, as in the definitions.
 use model::MOST_CLOCKS;
 
 pub mod codes;
-pub mod guards;
 pub mod moves;
+pub mod regions;
 pub mod resets;
 
 // What the codes of a rule's pairs are made by: the clocks, cm as `top`, and the weight of a location, (cm + 2)^K.

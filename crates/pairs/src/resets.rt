@@ -4,7 +4,7 @@ ghost use Rattle.model.specs.Layout.{edgeAt};
 ghost use Rattle.pairs.specs.Pairs.{pairResetsOn};
 use crate::Input;
 use crate::Pair;
-use crate::guards::allows;
+use crate::regions::allows;
 use edges::fields::resets_of;
 
 // Does edge `e` reset a clock, and does a pair allow it?

@@ -55,7 +55,8 @@ impl Engine for Reference {
         let (number, place) = refusal(outcome);
         let branch = outcome.unwrap_or_default();
         *taken = branch.edges.map(|edge| edge as u16);
-        BranchAnswer { number, place, found: branch.found, start: branch.start as u16 }
+        let (held, position) = (branch.held.is_some(), branch.held.unwrap_or(0));
+        BranchAnswer { number, place, found: branch.found, start: branch.start as u16, held, position }
     }
 
     fn start_follower(grain: u32) -> Started {

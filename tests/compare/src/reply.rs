@@ -85,7 +85,9 @@ impl Reply {
         match self {
             Reply::Written(answer, _) => answer.value.to_string(),
             Reply::Branch(branch, taken) => {
-                format!("{} {} {}", u8::from(branch.found), branch.start, numbers_text(taken))
+                let (found, edges) = (u8::from(branch.found), numbers_text(taken));
+                let held = if branch.held { branch.position.saturating_add(1) } else { 0 };
+                format!("{found} {} {edges} {held}", branch.start)
             }
             Reply::Walked(_) => String::new(),
             _ => self.verdict().map_or(String::new(), |yes| u8::from(yes).to_string()),

@@ -1,4 +1,4 @@
-//! The runner by branch: the least accepting run of a short word.
+//! The runner by branch: the least accepting run of a short word, or what held the rule back.
 
 use crate::rule::{check_rule, initial_locations, Edge, Head, Rule, MOST_CLOCKS};
 use crate::time::{Age, Stamp};
@@ -8,7 +8,8 @@ use crate::Refusal;
 /// The most events of a word run by branch.
 pub const MOST_BRANCH_EVENTS: usize = 12;
 
-/// The accepting run that is least by start, then edge by edge; all zero if there is none.
+/// The accepting run that is least by start, then edge by edge; all zero if there is none, and then the atom
+/// that held the rule back.
 #[derive(Clone, Copy, Debug, Default, PartialEq, Eq)]
 pub struct Branch {
     /// Whether there is an accepting run.
@@ -17,6 +18,10 @@ pub struct Branch {
     pub start: u32,
     /// Its edges' numbers from 0; places past the word's events are zero.
     pub edges: [u32; MOST_BRANCH_EVENTS],
+    /// With at least one event and no accepting run: of the lowest edge that leaves an initial location on the
+    /// first symbol, the position from 0 of the first atom that fails by the first event's ages. None if there
+    /// is no such edge or its guard holds, and in every other case.
+    pub held: Option<usize>,
 }
 
 /// Follows the branches of a word of at most 12 events: 20, 21, 30 to 33.
@@ -29,17 +34,27 @@ pub fn run_branches(
 ) -> Result<Branch, Refusal> {
     check_rule(head, edges)?;
     check_word(head.symbols, grain, MOST_BRANCH_EVENTS as u32, symbols, stamps)?;
+    let rule = Rule { head, edges, grain };
+    let rest = Rest { symbols, stamps, last: Stamp::START };
     let mut branch = Branch::default();
     for start in initial_locations(head) {
-        let from = Configuration { location: start, ages: [Age::ZERO; MOST_CLOCKS as usize] };
-        let rest = Rest { symbols, stamps, last: Stamp::START };
-        if follow(Rule { head, edges, grain }, rest, from, &mut branch.edges) {
+        if follow(rule, rest, Configuration::start(start), &mut branch.edges) {
             branch.found = true;
             branch.start = start;
-            break;
+            return Ok(branch);
         }
     }
+    branch.held = held_back(rule, rest);
     Ok(branch)
+}
+
+/// What held the rule back in a word without an accepting run: the first failing atom of the lowest edge that
+/// leaves any initial location on the first symbol.
+fn held_back(rule: Rule, word: Rest) -> Option<usize> {
+    let (&symbol, &stamp) = (word.symbols.first()?, word.stamps.first()?);
+    let edge = rule.edges().find(|edge| edge.symbol() == symbol && rule.is_initial(edge.source()))?;
+    let aged = Configuration::start(edge.source()).after(Stamp(stamp).since(word.last));
+    aged.first_failing(edge, rule.grain)
 }
 
 /// A location and an age per clock.
@@ -78,13 +93,22 @@ fn follow(rule: Rule, rest: Rest, from: Configuration, run: &mut [u32]) -> bool 
 }
 
 impl Configuration {
+    /// The location with all ages 0.
+    fn start(location: u32) -> Self {
+        Configuration { location, ages: [Age::ZERO; MOST_CLOCKS as usize] }
+    }
+
     fn after(self, delay: Age) -> Self {
         Configuration { ages: self.ages.map(|age| age.after(delay)), ..self }
     }
 
+    /// The edge's first atom that fails by these ages.
+    fn first_failing(&self, edge: Edge, grain: u32) -> Option<usize> {
+        edge.first_failing(|clock| self.ages[clock], |constant| Age::of_constant(constant, grain))
+    }
+
     fn allows(&self, edge: Edge, grain: u32) -> bool {
-        edge.source() == self.location
-            && edge.allows(|clock| self.ages[clock], |constant| Age::of_constant(constant, grain))
+        edge.source() == self.location && self.first_failing(edge, grain).is_none()
     }
 
     fn moved(&self, edge: Edge) -> Self {

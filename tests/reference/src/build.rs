@@ -73,7 +73,7 @@ impl Codes {
     /// Whether the edge's guard holds for a pair when the timer is in this interval.
     fn allow(&self, code: u32, edge: Edge, interval: Interval) -> bool {
         let region = |clock| interval.plus_base(self.base(code, clock), self.largest);
-        edge.allows(region, Interval::of_constant)
+        edge.first_failing(region, Interval::of_constant).is_none()
     }
 
     /// The edge's target with all bases as they are.

@@ -109,9 +109,10 @@ fn age_by(delay: Age, configuration: &[u32], aged: &mut [u32; MOST_NUMBERS]) {
 
 /// Whether the edge can be taken on the symbol in the configuration.
 fn takes(edge: Edge, symbol: u16, configuration: &[u32], grain: u32) -> bool {
+    let age = |clock| Age(configuration[1 + clock]);
     edge.source() == configuration[0]
         && edge.symbol() == symbol
-        && edge.allows(|clock| Age(configuration[1 + clock]), |constant| Age::of_constant(constant, grain))
+        && edge.first_failing(age, |constant| Age::of_constant(constant, grain)).is_none()
 }
 
 /// The configuration after the edge: its target, its clocks zeroed.

@@ -89,9 +89,15 @@ impl<'a> Edge<'a> {
         self.0[EDGE_FRONT..end].chunks_exact(3).map(Atom::new)
     }
 
-    /// Whether all atoms hold, given the clocks' values and the constants' worth on the same scale.
-    pub fn allows<T: Ord>(self, value: impl Fn(usize) -> T, worth: impl Fn(u32) -> T) -> bool {
-        self.atoms().all(|atom| atom.holds(value(usize::from(atom.clock)), worth(u32::from(atom.constant))))
+    /// The guard's answer, given the clocks' values and the constants' worth on the same scale: the position
+    /// from 0 of the first atom that does not hold, or nothing if all hold.
+    pub fn first_failing<T: Ord>(
+        self,
+        value: impl Fn(usize) -> T,
+        worth: impl Fn(u32) -> T,
+    ) -> Option<usize> {
+        self.atoms()
+            .position(|atom| !atom.holds(value(usize::from(atom.clock)), worth(u32::from(atom.constant))))
     }
 }
 
@@ -141,6 +147,10 @@ pub(crate) struct Rule<'a> {
 impl<'a> Rule<'a> {
     pub fn edges(self) -> impl Iterator<Item = Edge<'a>> {
         edges_in_use(self.head, self.edges)
+    }
+
+    pub fn is_initial(self, location: u32) -> bool {
+        self.head.initial >> location & 1 == 1
     }
 
     pub fn is_final(self, location: u32) -> bool {

@@ -143,7 +143,8 @@ impl State {
         fields.end()?;
         let outcome = run_branches(&self.head, &self.edges, grain, &symbols, &stamps);
         let shown = outcome.map(|branch| {
-            format!("{} {} {}", u8::from(branch.found), branch.start, numbers_text(&branch.edges))
+            let held = branch.held.map_or(0, |position| position + 1);
+            format!("{} {} {} {held}", u8::from(branch.found), branch.start, numbers_text(&branch.edges))
         });
         Some(result_text(shown))
     }

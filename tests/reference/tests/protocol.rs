@@ -24,7 +24,7 @@ fn the_example_of_the_protocol() {
     let script = "exact 2 0,1 2,4 64 3\n branch 2 0,1 2,4\nstart 2\n\n# note\nfollow 0 2";
     let expected = [
         "exact ok 1 scratch=64:7da144b97d054b25",
-        "branch ok 1 0 0,1,0,0,0,0,0,0,0,0,0,0",
+        "branch ok 1 0 0,1,0,0,0,0,0,0,0,0,0,0 0",
         "start ok follower=2,0,0,0,0",
         "follow ok 0 follower=2,2,2,2,1",
     ];
@@ -79,7 +79,7 @@ fn the_calls_answer_in_their_form() {
         "write ok 58 out=60:",
         "table ok 1",
         "table no 31 0",
-        "branch ok 0 0 0,0,0,0,0,0,0,0,0,0,0,0",
+        "branch ok 0 0 0,0,0,0,0,0,0,0,0,0,0,0 1",
         "exact no 30 0 scratch=3:",
         "start ok follower=2,0,0,0,0",
         "walk ok verdicts=4:",

@@ -4,7 +4,8 @@
 mod common;
 
 use common::{
-    code, construct, enumerate, random_rule, random_word, refusal, Bounds, PlainRule, PlainWord, Random, Room,
+    code, construct, enumerate, held_back, random_rule, random_word, refusal, Bounds, PlainRule, PlainWord,
+    Random, Room, Runs,
 };
 use reference::{check_rule, check_table, follow_event, start_follower, write_rule, Branch, Built, Head};
 
@@ -25,6 +26,41 @@ fn wider_rules() {
 #[test]
 fn twelve_events() {
     cross_check(3, 250, &LONG, 10, 12);
+}
+
+/// Words of one to three events at any times, most of which no run accepts.
+#[test]
+fn what_held_random_rules_back() {
+    let mut random = Random(4);
+    let (mut held_at, mut held_by_nothing) = ([0; 4], 0);
+    for _ in 0..1000 {
+        let rule = random_rule(&mut random, &WIDER);
+        let mut room = Room::listing(2);
+        let head = room.read(&rule.file()).unwrap();
+        for _ in 0..20 {
+            let word = careless_word(&mut random, &rule);
+            let runs = enumerate(&rule, &word);
+            let expected = branch(&rule, &word, &runs);
+            assert_eq!(room.branch(&head, &word), Ok(expected), "{rule:?} {word:?}");
+            match expected.held {
+                Some(position) => held_at[position] += 1,
+                None => held_by_nothing += 1,
+            }
+        }
+    }
+    println!("held at {held_at:?}, by nothing {held_by_nothing}");
+    assert!(held_at.iter().all(|&count| count > 50) && held_by_nothing > 1000, "too few of some kind");
+}
+
+fn careless_word(random: &mut Random, rule: &PlainRule) -> PlainWord {
+    let grain = random.pick(&[1, 2, 3, 1000]);
+    let mut events = Vec::new();
+    let mut stamp = 0;
+    for _ in 0..random.between(1, 3) {
+        stamp += random.below(u64::from(4 * grain) + 1) as u32;
+        events.push((random.below(rule.symbols.into()) as u16, stamp));
+    }
+    PlainWord::new(grain, &events)
 }
 
 fn cross_check(seed: u64, rules: usize, bounds: &Bounds, words: usize, events: u64) {
@@ -120,7 +156,7 @@ fn run_and_compare(rule: &PlainRule, word: &PlainWord, room: &Room, head: &Head,
     let accepted = !runs.accepting.is_empty();
     let about = || format!("{rule:?} {word:?}");
     assert_eq!(room.table(built, word), Ok(accepted), "{}", about());
-    assert_eq!(room.branch(head, word), Ok(least(&runs.accepting)), "{}", about());
+    assert_eq!(room.branch(head, word), Ok(branch(rule, word, &runs)), "{}", about());
     compare_follower(rule, word, room, built);
 
     let size = 2 * (1 + usize::from(rule.clocks));
@@ -137,12 +173,15 @@ fn run_and_compare(rule: &PlainRule, word: &PlainWord, room: &Room, head: &Head,
     accepted
 }
 
-/// The least accepting run as the branch runner returns it.
-fn least(accepting: &[(u16, Vec<u32>)]) -> Branch {
-    let Some((start, taken)) = accepting.iter().min() else { return Branch::default() };
+/// The least accepting run, or what held the rule back, as the branch runner returns it.
+fn branch(rule: &PlainRule, word: &PlainWord, runs: &Runs) -> Branch {
+    let Some((start, taken)) = runs.accepting.iter().min() else {
+        let held = if word.symbols.is_empty() { None } else { held_back(rule, word) };
+        return Branch { held, ..Branch::default() };
+    };
     let mut edges = [0; 12];
     edges[..taken.len()].copy_from_slice(taken);
-    Branch { found: true, start: u32::from(*start), edges }
+    Branch { found: true, start: u32::from(*start), edges, held: None }
 }
 
 /// The follower's verdict after each event is that of the word so far.

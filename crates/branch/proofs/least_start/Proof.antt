@@ -2,6 +2,7 @@
 use mathlib.Core.Path.{sym, _∙_, ap}
 use mathlib.Core.Logic.{⊎-elim}
 use Prim.Native.Nat.{_-_}
+use native.Mathlib.Omega.{arith}
 use borrow.Author.Needs.{needs}
 use Rattle.model.specs.Rules.{mostLocations}
 use Rattle.model.specs.Runs.{Path}
@@ -35,7 +36,7 @@ start-at-requires c κs = search needs
 
 least-from-requires : tie.Need-least-from-requires Inv-loop μ-loop
 least-from-requires c κs =
-    start-ready _ _ _ _ (c .before .before .before .before .loop .inv .0) (c .start-at .ensures .1)
+    (omega arith, start-ready _ _ _ _ (c .before .before .before .before .loop .inv .0) (c .start-at .ensures .1))
 
 cast-with-start : tie.Need-cast-with-start Inv-loop μ-loop
 cast-with-start c = search needs

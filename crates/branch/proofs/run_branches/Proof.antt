@@ -1,7 +1,12 @@
--- `branch::run_branches` meets its contract: the rule is checked, then the word, then the least run is looked for.
+-- `branch::run_branches` meets its contract: the rule is checked, then the word, then the least run is looked for, and
+-- what held the rule back.
+use mathlib.Core.Path.{refl}
+use mathlib.Core.Bool.{true, false}
+use Rattle.model.specs.declared.Guard.the-variants.{Holds}
 use Rattle.model.specs.Words.{mostBranchEvents}
 use Rattle.model.proofs.Inputs.{Checked, rule-refused, word-refused, both-passed}
-use Rattle.branch.proofs.Starts.{refusal-is, begins, run-is-least}
+use Rattle.branch.proofs.Lowest.{held-none}
+use Rattle.branch.proofs.Outcome.{refusal-is, begins, found-of, run-is-least}
 use borrow.Author.Needs.{needs}
 use Rattle.branch.proofs.run_branches.Statement.{statement}
 use Rattle.branch.proofs.run_branches.Tie as tie
@@ -73,9 +78,48 @@ least-start-requires c κs =
 
 returns-3 : tie.Need-returns-3
 returns-3 c =
-    let a = c .before .before .before .before .before .before .before .before .before .before .args in
-    run-is-least (a .head) (a .edges .now) (a .grain) (a .symbols .now) (a .stamps .now) (checked (c .before)) _
-    (c .least-start .ensures)
+    let least = c .before in
+    let passed = least .before in
+    let a = passed .before .before .before .before .before .before .before .before .before .args in
+    run-is-least (a .head) (a .edges .now) (a .grain) (a .symbols .now) (a .stamps .now) (checked passed)
+    (least .least-start .result)
+    _
+    Holds
+    (least .least-start .ensures)
+    (held-none (a .head) (a .edges .now) (a .grain) (a .symbols .now) (a .stamps .now)
+    (found-of (a .head) (a .edges .now) (a .grain) (a .symbols .now) (a .stamps .now) (least .least-start .result) true
+    (least .least-start .ensures)
+    (c .if3 .taken)))
+    refl
+
+held-back-requires : tie.Need-held-back-requires
+held-back-requires c κs =
+    let least = c .before in
+    let passed = least .before in
+    let a = passed .before .before .before .before .before .before .before .before .before .args in (
+      begins (a .head) (a .edges .now) (a .grain) (a .symbols .now) (a .stamps .now) (checked passed),
+      found-of (a .head) (a .edges .now) (a .grain) (a .symbols .now) (a .stamps .now) (least .least-start .result)
+          false
+          (least .least-start .ensures)
+          (c .if3 .left),
+    )
+
+with-held-requires : tie.Need-with-held-requires
+with-held-requires c κs = search needs
+
+returns-4 : tie.Need-returns-4
+returns-4 c =
+    let held = c .before in
+    let least = held .before .before in
+    let passed = least .before in
+    let a = passed .before .before .before .before .before .before .before .before .before .args in
+    run-is-least (a .head) (a .edges .now) (a .grain) (a .symbols .now) (a .stamps .now) (checked passed)
+    (least .least-start .result)
+    _
+    (held .held-back .result)
+    (least .least-start .ensures)
+    (held .held-back .ensures)
+    (c .with-held .ensures)
 
 pub run-branches-spec : {M : Type 1} → statement M
 run-branches-spec =
@@ -89,4 +133,7 @@ run-branches-spec =
     no-branch-requires-2
     returns-2
     least-start-requires
-    returns-3)
+    returns-3
+    held-back-requires
+    with-held-requires
+    returns-4)

@@ -109,18 +109,37 @@ impl PlainEdge {
 
     /// Whether all atoms hold for these values, a constant being worth `unit` times itself.
     fn holds(&self, values: &[u64], unit: u64) -> bool {
-        self.atoms.iter().all(|&(clock, relation, constant)| {
-            let (value, bound) = (values[usize::from(clock)], u64::from(constant) * unit);
-            match relation {
-                0 => value < bound,
-                1 => value <= bound,
-                2 => value == bound,
-                3 => value >= bound,
-                4 => value > bound,
-                _ => unreachable!(),
-            }
-        })
+        self.atoms.iter().all(|&atom| atom_holds(atom, values, unit))
     }
+}
+
+fn atom_holds((clock, relation, constant): (u16, u16, u16), values: &[u64], unit: u64) -> bool {
+    let (value, bound) = (values[usize::from(clock)], u64::from(constant) * unit);
+    match relation {
+        0 => value < bound,
+        1 => value <= bound,
+        2 => value == bound,
+        3 => value >= bound,
+        4 => value > bound,
+        _ => unreachable!(),
+    }
+}
+
+/// What holds the rule back in a word with at least one event and no accepting run.
+pub fn held_back(rule: &PlainRule, word: &PlainWord) -> Option<usize> {
+    let ages = vec![u64::from(word.stamps[0]); rule.clocks.into()];
+    for edge in &rule.edges {
+        if edge.symbol != word.symbols[0] || !rule.initial.contains(&edge.source) {
+            continue;
+        }
+        for position in 0..edge.atoms.len() {
+            if !atom_holds(edge.atoms[position], &ages, word.grain.into()) {
+                return Some(position);
+            }
+        }
+        return None;
+    }
+    None
 }
 
 /// A word: D and its events.

@@ -1,11 +1,15 @@
--- `pairs::codes::unpack` meets its contract: the digits taken off so far, with those to come, are those of the code.
-use mathlib.Core.Path.{_≡_, refl}
-use Prim.Native.Nat.{_≤_, _<_, _-_, _%_}
+-- `pairs::codes::unpack` meets its contract: the digits taken off so far, with those to come, are those of the code;
+-- once nothing is left, those to come are zeros.
+use mathlib.Core.Path.{_≡_}
+use Prim.Native.Nat.{_≤_, _<_, _+_, _-_, _%_}
 use native.Mathlib.Nat.{mod-lt}
 use native.Mathlib.Omega.{arith}
 use borrow.Author.Needs.{needs}
 use Rattle.model.specs.Rules.{mostClocks}
-use Rattle.pairs.proofs.Bases.{Taking, taking-start, taking-next, taking-end, unpack-is}
+use Rattle.model.specs.Construction.{digitsOf}
+use Rattle.pairs.specs.declared.Pair.{Pair}
+use Rattle.pairs.specs.Pairs.{unpacked}
+use Rattle.pairs.proofs.Bases.{Taking, taking-start, taking-next, taking-nothing, taking-end, unpack-is}
 use Rattle.pairs.proofs.codes.unpack.Statement.{statement}
 use Rattle.pairs.proofs.codes.unpack.Tie as tie
 
@@ -35,7 +39,34 @@ remainder-requires : tie.Need-remainder-requires Inv-loop μ-loop
 remainder-requires c κs = search needs
 
 loop-holds : tie.Need-loop-holds Inv-loop μ-loop
-loop-holds c = (search needs, search needs, taking-start _ _ _ refl)
+loop-holds c = (search needs, search needs, taking-start _ _)
+
+-- the pair, once the bases are all digits of the code
+all-taken :
+    (c : tie.At-loop Inv-loop μ-loop)
+    → let remainder = c .before in
+    let quotient = remainder .before in
+    let top = quotient .before .before in
+    let a = top .before .before .args in
+    c .loop .bases ≡ digitsOf mostClocks (top .wide8 .result + 2) (remainder .remainder .result)
+    → _≡_ {A = Pair} (record { location = quotient .quotient .result; bases = c .loop .bases })
+    (unpacked (a .scale) (a .code))
+all-taken c e =
+    let remainder = c .before in
+    let quotient = remainder .before in
+    let whole = quotient .before in
+    let top = whole .before in
+    let weight = top .before in
+    unpack-is (weight .before .args .scale) _ _ _ _ _ _ _ (weight .wide32 .ensures .0) (top .wide8 .ensures .0)
+    (whole .wide322 .ensures .0)
+    (quotient .quotient .ensures)
+    (remainder .remainder .ensures)
+    e
+
+returns : tie.Need-returns Inv-loop μ-loop
+returns c =
+    let at-loop = c .before .before in
+    all-taken at-loop (taking-nothing (at-loop .loop .inv .2) (c .if1 .taken))
 
 rem-narrow16 : tie.Need-rem-narrow16 Inv-loop μ-loop
 rem-narrow16 c = search needs
@@ -60,21 +91,14 @@ loop-less c = search needs
 
 loop-again : tie.Need-loop-again Inv-loop μ-loop
 loop-again c =
-    let l = c .before .before .loop in
+    let at-loop = c .before .before .before in
+    let l = at-loop .loop in
     let fits : c .narrow16 .result ≡ l .rest % _ =
     c .narrow16 .ensures .1 (omega (arith, mod-lt (l .rest) (l .inv .0))) in
     (search needs, search needs, taking-next (l .inv .2) _ (l .inv .0) (search needs) fits)
 
-returns : tie.Need-returns Inv-loop μ-loop
-returns c =
-    let r = c .before .before in
-    unpack-is (r .before .before .before .before .before .args .scale) _ _ _ _ _ _ _
-    (r .before .before .before .before .wide32 .ensures .0)
-    (r .before .before .before .wide8 .ensures .0)
-    (r .before .before .wide322 .ensures .0)
-    (r .before .quotient .ensures)
-    (r .remainder .ensures)
-    (taking-end (c .before .loop .inv .2) (search needs))
+returns-2 : tie.Need-returns-2 Inv-loop μ-loop
+returns-2 c = all-taken (c .before) (taking-end (c .before .loop .inv .2) (search needs))
 
 pub unpack-spec : {M : Type 1} → statement M
 unpack-spec =
@@ -89,6 +113,7 @@ unpack-spec =
     quotient-requires
     remainder-requires
     loop-holds
+    returns
     rem-narrow16
     narrow16-requires
     mul-bases
@@ -97,4 +122,4 @@ unpack-spec =
     add-k
     loop-less
     loop-again
-    returns)
+    returns-2)

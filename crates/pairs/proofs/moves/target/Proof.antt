@@ -1,7 +1,7 @@
 -- `pairs::moves::target` meets its contract: the edge's target and the moved bases, packed.
 use borrow.Author.Needs.{needs}
 use Rattle.model.specs.Layout.{edgeAt}
-use Rattle.pairs.proofs.GuardTests.{target-is}
+use Rattle.pairs.proofs.EdgeTests.{target-is}
 use Rattle.pairs.proofs.moves.target.Statement.{statement}
 use Rattle.pairs.proofs.moves.target.Tie as tie
 

@@ -1,7 +1,7 @@
 -- `pairs::resets::edge_resets` meets its contract: an empty mask resets nothing.
 use borrow.Author.Needs.{needs}
 use Rattle.model.specs.Layout.{edgeAt}
-use Rattle.pairs.proofs.GuardTests.{resets-none, resets-some}
+use Rattle.pairs.proofs.EdgeTests.{resets-none, resets-some}
 use Rattle.pairs.proofs.resets.edge_resets.Statement.{statement}
 use Rattle.pairs.proofs.resets.edge_resets.Tie as tie
 

@@ -1,6 +1,8 @@
 //! What came up: refusals call by call, verdicts runner by runner, limits.
 
-use protocol::{Call, Reply, State, What};
+use crate::rules::Edge;
+use alderskein::raw::BranchAnswer;
+use protocol::{Call, Reply, State, What, Word};
 use std::collections::BTreeMap;
 use std::fmt;
 
@@ -25,7 +27,7 @@ const REFUSALS: [(&str, &[u8]); 13] = [
 const RUNNERS: [&str; 6] = ["exact", "branch", "table", "follow", "follow_in_place", "decide"];
 
 /// The limits and corners that must come up.
-const LIMITS: [&str; 28] = [
+const LIMITS: [&str; 37] = [
     "read: L = 32",
     "read: S = 16",
     "read: K = 4",
@@ -52,6 +54,15 @@ const LIMITS: [&str; 28] = [
     "exact: 4,096 events",
     "exact: no room at the start",
     "branch: 12 events",
+    "branch: accepted though the lowest edge's guard fails",
+    "branch: no run, no events",
+    "branch: no run, no edge on the first symbol",
+    "branch: no run, the lowest edge's guard holds",
+    "branch: held at atom 0",
+    "branch: held at a later atom",
+    "branch: held at atom 7",
+    "branch: held, several initial locations",
+    "branch: held, not by an edge of the first location",
     "table: 4,096 events",
     "table: stamp over 2^31",
 ];
@@ -139,8 +150,9 @@ impl Cover {
                 self.mark("exact: 4,096 events", answer.number == 0 && word.symbols.len() == 4_096);
                 self.mark("exact: no room at the start", answer.number == 26 && answer.place == 0);
             }
-            (Call::Branch { word }, Reply::Branch(answer, _)) => {
-                self.mark("branch: 12 events", answer.number == 0 && word.symbols.len() == 12);
+            (Call::Branch { word }, Reply::Branch(answer, _)) if answer.number == 0 => {
+                self.mark("branch: 12 events", word.symbols.len() == 12);
+                self.count_held(word, answer, state);
             }
             (_, Reply::Followed(_) | Reply::Moved(_)) => {
                 let whole = reply.refusal() == Some((0, 0));
@@ -148,6 +160,27 @@ impl Cover {
             }
             _ => {}
         }
+    }
+
+    /// What held the rule back, or why nothing did.
+    fn count_held(&mut self, word: &Word, answer: &BranchAnswer, state: &State) {
+        let BranchAnswer { found, held, position, .. } = *answer;
+        let Some((&symbol, &stamp)) = word.symbols.first().zip(word.stamps.first()) else {
+            return self.mark("branch: no run, no events", !found);
+        };
+        let starts = state.head.starts;
+        let lowest = lowest_edge(state, starts, symbol);
+        let fails = lowest.as_ref().is_some_and(|(_, edge)| !edge.allows(&[stamp; 4], word.grain));
+        let of_first = lowest_edge(state, starts & starts.wrapping_neg(), symbol);
+        let numbers = [&lowest, &of_first].map(|edge| edge.as_ref().map(|(number, _)| number));
+        self.mark("branch: accepted though the lowest edge's guard fails", found && fails);
+        self.mark("branch: no run, no edge on the first symbol", !found && lowest.is_none());
+        self.mark("branch: no run, the lowest edge's guard holds", !found && lowest.is_some() && !fails);
+        self.mark("branch: held at atom 0", held && position == 0);
+        self.mark("branch: held at a later atom", held && position > 0);
+        self.mark("branch: held at atom 7", held && position == 7);
+        self.mark("branch: held, several initial locations", held && starts.count_ones() > 1);
+        self.mark("branch: held, not by an edge of the first location", held && numbers[0] != numbers[1]);
     }
 
     fn count_read(&mut self, file: &[u8], state: &State) {
@@ -193,6 +226,12 @@ impl Cover {
         missing.extend(limits.map(|(name, _)| name.to_string()));
         missing
     }
+}
+
+/// The lowest edge that leaves one of these locations on this symbol, with its number.
+fn lowest_edge(state: &State, locations: u32, symbol: u16) -> Option<(usize, Edge)> {
+    let edges = state.edges.chunks_exact(29).take(state.head.count as usize).map(Edge::of_places);
+    edges.enumerate().find(|(_, edge)| locations >> edge.source & 1 == 1 && edge.symbol == symbol)
 }
 
 /// S · W of the rule in the state.

@@ -7,6 +7,7 @@
 
 mod cover;
 mod damage;
+mod held;
 mod limits;
 mod random;
 mod rules;

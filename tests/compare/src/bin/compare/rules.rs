@@ -49,18 +49,33 @@ impl Edge {
         record(5, &[&front, self.atoms.as_flattened()].concat())
     }
 
+    /// An edge from its places in an edge table.
+    pub fn of_places(places: &[u16]) -> Self {
+        let atoms = places[5..].chunks_exact(3).take(places[4].into());
+        Edge {
+            source: places[0],
+            target: places[1],
+            symbol: places[2],
+            mask: places[3],
+            atoms: atoms.map(|atom| [atom[0], atom[1], atom[2]]).collect(),
+        }
+    }
+
     /// Whether all atoms hold at these ages, in D-ths of a second.
     pub fn allows(&self, ages: &[u32], grain: u32) -> bool {
-        self.atoms.iter().all(|&[clock, relation, constant]| {
-            let (age, bound) = (ages[usize::from(clock)], u32::from(constant) * grain);
-            match relation {
-                0 => age < bound,
-                1 => age <= bound,
-                2 => age == bound,
-                3 => age >= bound,
-                _ => age > bound,
-            }
-        })
+        self.atoms.iter().all(|atom| holds(atom, ages, grain))
+    }
+}
+
+/// Whether an atom holds at these ages.
+pub fn holds(&[clock, relation, constant]: &[u16; 3], ages: &[u32], grain: u32) -> bool {
+    let (age, bound) = (ages[usize::from(clock)], u32::from(constant) * grain);
+    match relation {
+        0 => age < bound,
+        1 => age <= bound,
+        2 => age == bound,
+        3 => age >= bound,
+        _ => age > bound,
     }
 }
 
@@ -156,7 +171,8 @@ fn some_ends(random: &mut Random, rule: &Rule, atoms: Vec<[u16; 3]>) -> Edge {
     }
 }
 
-fn any_atom(random: &mut Random, rule: &Rule, constant: u16) -> [u16; 3] {
+/// An atom that the reader accepts.
+pub fn any_atom(random: &mut Random, rule: &Rule, constant: u16) -> [u16; 3] {
     let relation = random.pick(&[0, 1, 2, 2, 3, 3, 4]);
     [random.below(rule.clocks.into()) as u16, relation, random.between(0, constant.into()) as u16]
 }

@@ -1,6 +1,7 @@
 //! The kinds of scenes.
 
 use crate::damage::{damaged_file, rubbish};
+use crate::held::held_back;
 use crate::limits;
 use crate::random::Random;
 use crate::rules::{any_rule, Rule, MIDDLE, SMALL, WIDE};
@@ -12,7 +13,7 @@ use protocol::{Call, Room, What, Word};
 type Kind = fn(&mut Scene);
 
 /// The common kinds with their weights.
-const COMMON: [(&str, usize, Kind); 10] = [
+const COMMON: [(&str, usize, Kind); 11] = [
     ("whole rules", 30, whole_rule),
     ("damaged files", 25, damaged),
     ("changed rules", 15, changed_rule),
@@ -23,6 +24,7 @@ const COMMON: [(&str, usize, Kind); 10] = [
     ("bad words", 15, bad_words),
     ("followers", 10, tables::followers),
     ("loose words", 8, loose_words),
+    ("words held back", 15, held_back),
 ];
 
 /// The costly kinds: one scene in so many, the first one early.

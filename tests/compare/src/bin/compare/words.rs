@@ -50,12 +50,25 @@ pub fn branch_steps(rule: &Rule, word: &Word) -> u64 {
     steps
 }
 
+/// D in its range.
+pub fn any_grain(random: &mut Random) -> u32 {
+    let any = random.between(1, 1_000) as u32;
+    random.pick(&[1, 2, 2, 2, 3, 4, 10, 1_000, any])
+}
+
 /// A word that keeps the word rules and mostly leaves some run alive.
 pub fn live_word(random: &mut Random, rule: &Rule, most: usize) -> Word {
-    let any = random.between(1, 1_000) as u32;
-    let grain = random.pick(&[1, 2, 2, 2, 3, 4, 10, 1_000, any]);
-    let mut word = Word { grain, symbols: vec![], stamps: vec![] };
-    let mut alive = start(rule);
+    let word = Word { grain: any_grain(random), symbols: vec![], stamps: vec![] };
+    prolonged(random, rule, word, most)
+}
+
+/// The word with at most so many events more, which mostly leave some run alive.
+pub fn prolonged(random: &mut Random, rule: &Rule, mut word: Word, most: usize) -> Word {
+    let (mut alive, mut last) = (start(rule), 0);
+    for (&symbol, &stamp) in word.symbols.iter().zip(&word.stamps) {
+        alive = after(rule, &alive, word.grain, symbol, stamp - last);
+        last = stamp;
+    }
     for _ in 0..random.between(0, most) {
         add_event(random, rule, &mut word, &mut alive);
     }
@@ -82,7 +95,7 @@ fn add_event(random: &mut Random, rule: &Rule, word: &mut Word, alive: &mut Runs
 }
 
 /// Whole seconds, up to the next second, into a second, or far on.
-fn any_delay(random: &mut Random, rule: &Rule, grain: u32, last: u32) -> u32 {
+pub fn any_delay(random: &mut Random, rule: &Rule, grain: u32, last: u32) -> u32 {
     let whole = random.pick(&[0, 0, 1, 1, 1, 2, 3, u32::from(rule.top()) + 1]) * grain;
     match random.below(40) {
         0 => u32::MAX - last - random.below(3_000) as u32 % (u32::MAX - last).max(1),
