@@ -1,9 +1,9 @@
 -- What held a rule back: edges that leave no initial location on the first symbol are passed, so the answer is what the
 -- edges still to come give; and what the clocks read at the first event.
-use mathlib.Core.Path.{_≡_, refl, sym, _∙_, ap, ap₂}
+use mathlib.Core.Path.{_≡_, refl, sym, _∙_, ap}
 use mathlib.Core.Bool.{Bool, true, false, _&&_, not}
 use mathlib.Core.List.{List, [], _∷_}
-use Prim.Native.Nat.{ℕ, suc, _+_, _-_, _*_, _^_, _≤_, _<_}
+use Prim.Native.Nat.{ℕ, _+_, _-_, _*_, _^_, _≤_, _<_}
 use native.Mathlib.Omega.{arith}
 use lib.Dec.{eqb}
 use lib.ListN.{length, getD, take, drop}
@@ -12,7 +12,7 @@ use Rattle.model.specs.declared.Head.{Head}
 use Rattle.model.specs.declared.Guard.{Guard}
 use Rattle.model.specs.declared.Guard.the-variants.{Holds}
 use Rattle.model.specs.Basics.{pick, isIn, zeros}
-use Rattle.model.specs.Rules.{Atom, Edge, mostClocks}
+use Rattle.model.specs.Rules.{Edge, mostClocks}
 use Rattle.model.specs.Words.{eventsOf}
 use Rattle.model.specs.Guards.{guard}
 use Rattle.model.specs.Runs.{older, startAges, accepts, lowestLeaving, heldBack}

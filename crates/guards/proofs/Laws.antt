@@ -12,7 +12,6 @@ use lib.Seq.{getD-drop}
 use mir.Syntax.{w64}
 use mir.Val.{Fits}
 use borrow.Author.Tests.{eq-eqb, ne-eqb, not-true, not-false}
-use Rattle.model.specs.declared.Guard.{Guard}
 use Rattle.model.specs.declared.Guard.the-variants.{Holds, Fails}
 use Rattle.model.specs.Rules.{Atom}
 use Rattle.model.specs.Guards.{related, firstFailing}

@@ -1,7 +1,7 @@
 -- All clocks of a pair: bases that track the ages of a configuration meet the same guards, and go on tracking them as
 -- time passes, at a timer reset, and where an edge zeroes clocks.
 use mathlib.Core.Path.{_≡_, refl}
-use mathlib.Core.Bool.{Bool, true, _&&_}
+use mathlib.Core.Bool.{true, _&&_}
 use mathlib.Core.List.{List, [], _∷_}
 use Prim.Native.Nat.{ℕ, zero, suc, _+_, _*_, _/_, _%_, _^_, _≤_, _<_}
 use native.Mathlib.Omega.{arith}
