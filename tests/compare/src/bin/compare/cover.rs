@@ -1,6 +1,6 @@
 //! What came up: refusals call by call, verdicts runner by runner, limits.
 
-use crate::rules::Edge;
+use crate::rules::{Edge, EDGE_NUMBERS};
 use alderskein::raw::BranchAnswer;
 use protocol::{Call, Reply, State, What, Word};
 use std::collections::BTreeMap;
@@ -192,7 +192,7 @@ impl Cover {
         self.mark("read: no final location", head.ends == 0);
         self.mark("read: no edge", head.count == 0);
         self.mark("read: 256 edges", head.count == 256);
-        self.mark("read: 8 atoms", state.edges.chunks(29).any(|edge| edge.get(4) == Some(&8)));
+        self.mark("read: 8 atoms", state.edges.chunks(EDGE_NUMBERS).any(|edge| edge.get(4) == Some(&8)));
         self.mark("read: longest file", file.len() == 15_760);
         self.mark("read: longer edge table", state.edges.len() > 7_424);
     }
@@ -230,13 +230,13 @@ impl Cover {
 
 /// The lowest edge that leaves one of these locations on this symbol, with its number.
 fn lowest_edge(state: &State, locations: u32, symbol: u16) -> Option<(usize, Edge)> {
-    let edges = state.edges.chunks_exact(29).take(state.head.count as usize).map(Edge::of_places);
+    let edges = state.edges.chunks_exact(EDGE_NUMBERS).take(state.head.count as usize).map(Edge::of_places);
     edges.enumerate().find(|(_, edge)| locations >> edge.source & 1 == 1 && edge.symbol == symbol)
 }
 
 /// S · W of the rule in the state.
 fn row_cells(state: &State) -> usize {
-    let edges = state.edges.chunks_exact(29).take(state.head.count as usize);
+    let edges = state.edges.chunks_exact(EDGE_NUMBERS).take(state.head.count as usize);
     let constants = edges.flat_map(|edge| edge[5..].iter().skip(2).step_by(3));
     let top = constants.map(|&constant| u32::from(constant)).max().unwrap_or(0);
     let top = top.max(state.head.ceiling.saturating_sub(1));

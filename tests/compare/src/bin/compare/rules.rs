@@ -2,6 +2,9 @@
 
 use crate::random::Random;
 
+/// How many numbers an edge takes in the edge table.
+pub const EDGE_NUMBERS: usize = 29;
+
 /// An edge; an atom is clock, relation, constant.
 #[derive(Clone, Debug)]
 pub struct Edge {

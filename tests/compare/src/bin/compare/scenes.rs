@@ -4,7 +4,7 @@ use crate::damage::{damaged_file, rubbish};
 use crate::held::held_back;
 use crate::limits;
 use crate::random::Random;
-use crate::rules::{any_rule, Rule, MIDDLE, SMALL, WIDE};
+use crate::rules::{any_rule, Rule, EDGE_NUMBERS, MIDDLE, SMALL, WIDE};
 use crate::scene::{needs, room_for, Needs, Scene, EDGE_TABLE, LISTING};
 use crate::tables;
 use crate::words::spoil;
@@ -167,11 +167,12 @@ fn change_codes(scene: &mut Scene) {
 
 fn change_rule(scene: &mut Scene, rule: &Rule) {
     let random = &mut *scene.random;
-    let used = 29 * rule.edges.len();
+    let used = EDGE_NUMBERS * rule.edges.len();
     let limits = [32, 16, 4, 1 << rule.locations, 1 << rule.locations, 32, rule.edges.len() as u32];
     let call = match random.below(10) {
         0 => {
-            let length = random.pick(&[EDGE_TABLE - 1, EDGE_TABLE + 1, EDGE_TABLE + 29, 0, 29]);
+            let length =
+                random.pick(&[EDGE_TABLE - 1, EDGE_TABLE + 1, EDGE_TABLE + EDGE_NUMBERS, 0, EDGE_NUMBERS]);
             Call::Resize { what: What::Edges, length, fill: random.below(2) as u32 }
         }
         1..=4 => {
