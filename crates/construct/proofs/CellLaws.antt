@@ -3,20 +3,21 @@
 use mathlib.Core.Path.{_≡_, sym, _∙_, ap, ap₂, subst}
 use mathlib.Core.Bool.{Bool, true, false}
 use mathlib.Core.List.{List}
-use Prim.Native.Nat.{ℕ, zero, suc, _+_, _-_, _*_, _≤_, _<_}
+use Prim.Native.Nat.{ℕ, _+_, _-_, _*_, _≤_, _<_}
 use native.Mathlib.Omega.{arith}
 use lib.ListN.{length, take, drop}
 use Rattle.model.specs.Basics.{oneIf, zeros}
 use Rattle.model.specs.Rules.{Rule}
 use Rattle.model.specs.Construction.{rowResets, nextRow, rowAt, numberOf, withRow, cellOf}
-use Rattle.model.specs.Tables.{rowStart, rowLength, codesAt}
+use Rattle.model.specs.Tables.{rowStart, rowLength}
 use Rattle.pairs.specs.declared.Input.{Input}
 use Rattle.construct.specs.declared.Marked.{Marked}
 use Rattle.construct.specs.declared.Progress.{Progress}
 use Rattle.construct.specs.declared.Placed.{Placed}
 use Rattle.construct.specs.Marks.{codesIn, NextMarked}
-use Rattle.construct.specs.Rows.{rowsHeld, rowsIn, Within, Grown, MarksNumbered}
+use Rattle.construct.specs.Rows.{rowsIn, Within, Grown, MarksNumbered}
 use Rattle.construct.specs.Cells.{CellMade}
+use Rattle.construct.proofs.RowSearch.{row-held}
 
 -- the cell's two parts
 pub cell-reset : (row : ℕ) (timer : Bool) (cell : ℕ) → timer ≡ true → cell ≡ 2 * row + 1 → cell ≡ 2 * row + oneIf timer
@@ -25,14 +26,7 @@ cell-reset row timer cell t e = e ∙ rw t
 pub cell-kept : (row : ℕ) (timer : Bool) (cell : ℕ) → timer ≡ false → cell ≡ 2 * row → cell ≡ 2 * row + oneIf timer
 cell-kept row timer cell t e = e ∙ (rw t (omega arith))
 
--- the row with a number, by its two numbers
-held-at : (n i k : ℕ) (rows pool : List ℕ) → k < n → rowAt (rowsHeld n i rows pool) k ≡ codesAt rows pool (i + k)
-held-at zero i k rows pool h = absurd (omega arith)
-held-at (suc n) i zero rows pool h = let e : i + 0 ≡ i = omega arith in rw e
-held-at (suc n) i (suc k) rows pool h =
-    let e : suc i + k ≡ i + suc k = omega arith in
-    held-at n (suc i) k rows pool (omega arith) ∙ ap (codesAt rows pool) e
-
+-- a row in the pool, by its two numbers
 module _
     (rows pool : List ℕ) (p : Progress) (row start n : ℕ) (below : row < p .rows) (is-start : start ≡ rowStart rows row)
     (is-length : n ≡ rowLength rows row) where
@@ -43,9 +37,7 @@ module _
   pub part-is : take (start + n - start) (drop start pool) ≡ rowAt (rowsIn (p .rows) rows pool) row
   part-is =
       let e : start + n - start ≡ n = omega arith in
-      let z : 0 + row ≡ row = omega arith in
-      rw (e, is-start, is-length)
-      (sym (held-at (p .rows) 0 row rows pool below ∙ ap (codesAt rows pool) z))
+      rw (e, is-start, is-length) (sym (row-held (p .rows) row rows pool below))
 
 pub cell-made :
     {says : List ℕ → List ℕ} (r : Rule) (row : ℕ) (at : Input) (rs : List (List ℕ)) {room : ℕ}
@@ -57,19 +49,24 @@ pub cell-made :
     → MarksNumbered says room (withRow (codesIn marks₁) rs) (numberOf (codesIn marks₁) rs) marks₁ marks′ rows′ pool′
     placed
     → cell ≡ 2 * placed .row + oneIf (marked .timer)
-    → CellMade says r row at rs room marks marks′ rows′ pool′ (record { cell = cell; progress = placed .progress })
+    → CellMade says r row at rs room marks marks′ rows′ pool′
+    (record { row = placed .row; cell = cell; progress = placed .progress })
 unfolding cellOf
 cell-made {says} r row at rs {room} {x} {marks} {marks₁} {marks′} {rows′} {pool′} marked placed cell e long next put c =
     let codes : codesIn marks₁ ≡ nextRow r (at .symbol) (at .interval) (rowAt rs row) =
     next .marks-are .codes-are ∙ ap (nextRow r (at .symbol) (at .interval)) e in
+    let row-is :
+    placed .progress .number ≡ 0
+    → placed .row ≡ numberOf (nextRow r (at .symbol) (at .interval) (rowAt rs row)) rs =
+    λ z. put .numbered .row-is z ∙ ap (λ (l : List ℕ). numberOf l rs) codes in
     record {
       marks-zero = put .marks-zero ∙ ap zeros long;
       grown =
           subst (λ (l : List ℕ). Grown says room (withRow l rs) rows′ pool′ (placed .progress)) codes
           (put .numbered .grown);
+      row-is = row-is;
       cell-is = λ z.
           c
-          ∙ ap₂ (λ (n : ℕ) (b : Bool). 2 * n + oneIf b)
-          (put .numbered .row-is z ∙ ap (λ (l : List ℕ). numberOf l rs) codes)
+          ∙ ap₂ (λ (n : ℕ) (b : Bool). 2 * n + oneIf b) (row-is z)
           (next .timer-is ∙ ap (rowResets r (at .symbol) (at .interval)) e);
     }

@@ -1,5 +1,6 @@
 -- A new row: it gets the next number, or it is the first that does not fit, whatever rows come after.
-use mathlib.Core.Path.{_≡_, refl, sym, _∙_, ap, ap₂}
+use mathlib.Core.Path.{_≡_, refl, sym, _∙_, ap, ap₂, subst}
+use mathlib.Core.Bool.{Bool, true}
 use mathlib.Core.List.{List, [], _∷_, _++_, append-assoc}
 use mathlib.Core.Logic.{inl, inr}
 use Prim.Native.Nat.{ℕ, suc, _+_, _-_, _*_, _≤_, _<_}
@@ -9,20 +10,21 @@ use lib.ListN.{length, set, length-append, length-set}
 use borrow.Author.Tests.{ltb-true, ltb-false}
 use Rattle.numbers.specs.Lent.{laid}
 use Rattle.numbers.proofs.Laid.{laid-filled}
-use Rattle.model.specs.Basics.{filled, refusal}
-use Rattle.model.specs.Construction.{numberOf, withRow}
+use Rattle.model.specs.Basics.{same, filled, refusal}
+use Rattle.model.specs.Construction.{rowAt, numberOf, withRow}
 use Rattle.model.specs.Tables.{rowWidth, rowNumbers, codesSay, poolNumbers, fitRefusal}
-use Rattle.model.proofs.Logic.{by-test, in-append}
+use Rattle.model.proofs.Logic.{by-test, and-left, and-right, same-equal, in-append}
 use Rattle.model.proofs.Masks.{Asc}
 use Rattle.model.proofs.Discovery.{Each}
 use Rattle.model.proofs.TablePlaces.{row-numbers-length}
 use Rattle.model.proofs.TableRoom.{fit-23, fit-24, fit-on}
-use Rattle.model.proofs.RowNumbers.{number-most, with-present, with-new}
+use Rattle.model.proofs.RowNumbers.{number-most, with-present, with-new, with-placed}
+use Rattle.model.proofs.RowNumbers.{Placed as Apart}
 use Rattle.construct.specs.declared.Found.{Found}
 use Rattle.construct.specs.declared.Found.the-variants.{At, Nothing}
 use Rattle.construct.specs.declared.Progress.{Progress}
 use Rattle.construct.specs.declared.Placed.{Placed}
-use Rattle.construct.specs.Rows.{rowsIn, foundIn, CodeSet, Held, Unfit, Numbered}
+use Rattle.construct.specs.Rows.{rowsIn, isAt, foundIn, CodeSet, Held, Unfit, Numbered}
 use Rattle.construct.proofs.RowSearch.{rows-length}
 use Rattle.construct.proofs.RowTables.{filled-length, filled-set, rows-append, pool-append}
 use Rattle.construct.proofs.RowTables.{rows-again}
@@ -97,7 +99,7 @@ module _
     {rows pool : List ℕ} {p : Progress} (held : Held codesSay rows pool p) (x rows′ pool′ : List ℕ) (a b : ℕ)
     (has-room : p .rows < p .room)
     (in-pool : p .total + length x ≤ length pool)
-    (codes : CodeSet x) (is-a : a ≡ p .total) (is-b : b ≡ length x)
+    (codes : CodeSet x) (new : numberOf x (rowsIn (p .rows) rows pool) ≡ p .rows) (is-a : a ≡ p .total) (is-b : b ≡ length x)
     (rows-now : rows′ ≡ set (set rows (rowWidth * p .rows) a) (rowWidth * p .rows + 1) b)
     (pool-now : pool′ ≡ laid pool (p .total) x) where
   numbers-long : length (rowNumbers codesSay 0 (rowsIn (p .rows) rows pool)) ≡ rowWidth * p .rows
@@ -155,6 +157,11 @@ module _
       new-rows
       new-pool
 
+  apart-then : Apart (rowsIn (p .rows) rows pool ++ (x ∷ []))
+  apart-then =
+      let rs : List (List ℕ) = rowsIn (p .rows) rows pool in
+      subst Apart (with-new x rs (omega (arith, new, count-is held))) (with-placed x rs (held .rows-apart))
+
   pub row-added :
       Numbered codesSay (p .room) (rowsIn (p .rows) rows pool ++ (x ∷ [])) (p .rows) rows′ pool′
       (record {
@@ -166,6 +173,7 @@ module _
       held = λ e. record {
         rows-ascend =
             rw rows-then (each-more (Asc 0) x (rowsIn (p .rows) rows pool) (codes .ascends) (held .rows-ascend));
+        rows-apart = rw rows-then apart-then;
         rows-are = rw (rows-then, rows-long) new-rows;
         pool-is = rw (rows-then, pool-long) new-pool;
         total-is =
@@ -224,39 +232,69 @@ found-nothing x rs f e g =
     absurd (let z : _≡_ {A = ℕ} 0 1 = cc in omega arith))
     (λ t. ltb-false (numberOf x rs) (length rs) t)
 
-module _
-    {says : List ℕ → List ℕ} {rows pool : List ℕ} {p : Progress} (held : Held says rows pool p) (x : List ℕ)
-    (f : Found) (is-found : f ≡ foundIn x (rowsIn (p .rows) rows pool)) where
-  -- an equal row has a number: that one is used
-  pub placed-found :
-      (row : ℕ) → f ≡ At row
+-- an equal row has a number: that one is used
+module _ {says : List ℕ → List ℕ} {rows pool : List ℕ} {p : Progress} (held : Held says rows pool p) (x : List ℕ)
+    (row : ℕ) where
+  placed-there :
+      numberOf x (rowsIn (p .rows) rows pool) < length (rowsIn (p .rows) rows pool)
+      → row ≡ numberOf x (rowsIn (p .rows) rows pool)
       → Numbered says (p .room) (withRow x (rowsIn (p .rows) rows pool)) (numberOf x (rowsIn (p .rows) rows pool)) rows
       pool
       (record { row = row; progress = p })
-  placed-found row g =
-      let k = found-at x (rowsIn (p .rows) rows pool) f row is-found g in
-      record {
-        grown = record {
-          held = λ e. held;
-          rows-are = λ e. sym (with-present x (rowsIn (p .rows) rows pool) (k .0));
-          refused = λ e. absurd (e (held .going));
-          room-kept = refl;
-        };
-        row-is = λ e. k .1;
-        row-below = omega (arith, k .0, k .1, rows-length (p .rows) 0 rows pool, held .in-room, held .room-most);
-      }
+  placed-there below is = record {
+    grown = record {
+      held = λ e. held;
+      rows-are = λ e. sym (with-present x (rowsIn (p .rows) rows pool) below);
+      refused = λ e. absurd (e (held .going));
+      room-kept = refl;
+    };
+    row-is = λ e. is;
+    row-below = omega (arith, below, is, rows-length (p .rows) 0 rows pool, held .in-room, held .room-most);
+  }
 
-  -- none has: the next one is used
+  -- by a guess: no two rows are equal, so it is the number
+  pub placed-guess :
+      (answer : Bool) → answer ≡ isAt row x (rowsIn (p .rows) rows pool) → answer ≡ true
+      → Numbered says (p .room) (withRow x (rowsIn (p .rows) rows pool)) (numberOf x (rowsIn (p .rows) rows pool)) rows
+      pool
+      (record { row = row; progress = p })
+  placed-guess answer e t =
+      let rs : List (List ℕ) = rowsIn (p .rows) rows pool in
+      let is : isAt row x rs ≡ true = sym e ∙ t in
+      let below : row < length rs =
+      ltb-true row (length rs) (and-left (ltb row (length rs)) (same x (rowAt rs row)) is) in
+      let equal : x ≡ rowAt rs row =
+      same-equal x (rowAt rs row) (and-right (ltb row (length rs)) (same x (rowAt rs row)) is) in
+      let number : numberOf x rs ≡ row = ap (λ (l : List ℕ). numberOf l rs) equal ∙ held .rows-apart row below in
+      placed-there (omega (arith, number, below)) (sym number)
+
+  -- by the search
+  pub placed-found :
+      (f : Found) → f ≡ foundIn x (rowsIn (p .rows) rows pool) → f ≡ At row
+      → Numbered says (p .room) (withRow x (rowsIn (p .rows) rows pool)) (numberOf x (rowsIn (p .rows) rows pool)) rows
+      pool
+      (record { row = row; progress = p })
+  placed-found f is-found g =
+      let k = found-at x (rowsIn (p .rows) rows pool) f row is-found g in
+      placed-there (k .0) (k .1)
+
+-- none has: the next one is used
+module _
+    {says : List ℕ → List ℕ} {rows pool : List ℕ} {p : Progress} (held : Held says rows pool p) (x : List ℕ)
+    (f : Found) (is-found : f ≡ foundIn x (rowsIn (p .rows) rows pool)) (is-none : f ≡ Nothing) where
+  pub number-new : numberOf x (rowsIn (p .rows) rows pool) ≡ p .rows
+  number-new =
+      let rs : List (List ℕ) = rowsIn (p .rows) rows pool in
+      omega (arith, number-most 0 x rs, found-nothing x rs f is-found is-none, rows-length (p .rows) 0 rows pool)
+
   pub placed-new :
-      (rows′ pool′ : List ℕ) (answer : Placed) → f ≡ Nothing
+      (rows′ pool′ : List ℕ) (answer : Placed)
       → Numbered says (p .room) (rowsIn (p .rows) rows pool ++ (x ∷ [])) (p .rows) rows′ pool′ answer
       → Numbered says (p .room) (withRow x (rowsIn (p .rows) rows pool)) (numberOf x (rowsIn (p .rows) rows pool)) rows′
       pool′ answer
-  placed-new rows′ pool′ answer g added =
+  placed-new rows′ pool′ answer added =
       let rs : List (List ℕ) = rowsIn (p .rows) rows pool in
-      let new : length rs ≤ numberOf x rs = found-nothing x rs f is-found g in
-      let are : withRow x rs ≡ rs ++ (x ∷ []) = with-new x rs new in
-      let n : p .rows ≡ numberOf x rs = omega (arith, number-most 0 x rs, new, rows-length (p .rows) 0 rows pool) in
+      let are : withRow x rs ≡ rs ++ (x ∷ []) = with-new x rs (found-nothing x rs f is-found is-none) in
       record {
         grown = record {
           held = added .grown .held;
@@ -264,6 +302,6 @@ module _
           refused = λ e. rw are (added .grown .refused e);
           room-kept = added .grown .room-kept;
         };
-        row-is = λ e. added .row-is e ∙ n;
+        row-is = λ e. added .row-is e ∙ sym number-new;
         row-below = added .row-below;
       }

@@ -5,19 +5,34 @@ use mathlib.Core.List.{List, _∷_}
 use Prim.Native.Nat.{ℕ, zero, suc, _+_, _-_, _*_, _≤_, _<_}
 use native.Mathlib.Omega.{arith}
 use native.Mathlib.Numerals.{add-one}
+use lib.Dec.{ltb}
 use lib.ListN.{length, getD, take, drop, length-take, length-drop}
 use lib.Seq.{ext-getD, getD-take, getD-drop}
 use borrow.Author.Tests.{lt-ltb, le-ltb}
 use Rattle.model.specs.Basics.{same}
-use Rattle.model.specs.Construction.{numberFrom, numberOf}
+use Rattle.model.specs.Construction.{rowAt, numberFrom, numberOf}
 use Rattle.model.specs.Tables.{rowWidth, rowStart, rowLength, codesAt}
 use Rattle.model.proofs.Logic.{by-test, same-equal, same-self}
 use Rattle.construct.specs.declared.Found.the-variants.{At, Nothing}
-use Rattle.construct.specs.Rows.{rowsHeld, rowsIn, foundIn, Within}
+use Rattle.construct.specs.Rows.{rowsHeld, rowsIn, isAt, foundIn, Within}
 
 pub rows-length : (n i : ℕ) (rows pool : List ℕ) → length (rowsHeld n i rows pool) ≡ n
 rows-length zero i rows pool = refl
 rows-length (suc n) i rows pool = ap suc (rows-length n (suc i) rows pool)
+
+-- the row with a number, by its two numbers
+held-at : (n i k : ℕ) (rows pool : List ℕ) → k < n → rowAt (rowsHeld n i rows pool) k ≡ codesAt rows pool (i + k)
+held-at zero i k rows pool h = absurd (omega arith)
+held-at (suc n) i zero rows pool h = let e : i + 0 ≡ i = omega arith in rw e
+held-at (suc n) i (suc k) rows pool h =
+    let e : suc i + k ≡ i + suc k = omega arith in
+    held-at n (suc i) k rows pool (omega arith) ∙ ap (codesAt rows pool) e
+
+pub row-held :
+    (n k : ℕ) (rows pool : List ℕ) → k < n → rowAt (rowsIn n rows pool) k ≡ codesAt rows pool k
+row-held n k rows pool h =
+    let z : 0 + k ≡ k = omega arith in
+    held-at n 0 k rows pool h ∙ ap (codesAt rows pool) z
 
 -- one row of the search
 number-here : (n : ℕ) (x y : List ℕ) (ys : List (List ℕ)) → x ≡ y → numberFrom n x (y ∷ ys) ≡ n
@@ -80,6 +95,26 @@ module _ {count row : ℕ} {rows pool codes : List ℕ} (inv : Searching count r
       let n : row ≡ numberOf codes (rowsIn count rows pool) = rw z at (inv .rest-is) in
       let l : length (rowsIn count rows pool) ≤ row = rw (rows-length count 0 rows pool) h in
       rw (← n, le-ltb row (length (rowsIn count rows pool)) l)
+
+-- One row against codes: it has no number, or it is another, or it is equal.
+module _ (count row : ℕ) (rows pool codes : List ℕ) where
+  pub at-none : count ≤ row → false ≡ isAt row codes (rowsIn count rows pool)
+  at-none h =
+      let l : length (rowsIn count rows pool) ≤ row = rw (rows-length count 0 rows pool) h in
+      rw (le-ltb row (length (rowsIn count rows pool)) l)
+
+  module _ (h : row < count) where
+    in-rows : ltb row (length (rowsIn count rows pool)) ≡ true
+    in-rows =
+        lt-ltb row (length (rowsIn count rows pool)) (rw (rows-length count 0 rows pool) h)
+
+    pub at-other : (codes ≡ codesAt rows pool row → ⊥) → false ≡ isAt row codes (rowsIn count rows pool)
+    at-other n = rw (in-rows, row-held count row rows pool h, other codes (codesAt rows pool row) n)
+
+    pub at-equal : codes ≡ codesAt rows pool row → true ≡ isAt row codes (rowsIn count rows pool)
+    at-equal e =
+        let s : same codes (codesAt rows pool row) ≡ true = rw e (same-self (codesAt rows pool row)) in
+        rw (in-rows, row-held count row rows pool h, s)
 
 -- A part of the pool against codes.
 module _ (pool codes : List ℕ) (start n : ℕ) (fits : start + n ≤ length pool) where

@@ -170,6 +170,7 @@ held-none rows pool room a b c =
     let f : length pool - 0 ≡ length pool = omega arith in
     record {
       rows-ascend = λ x i. elim i [ ];
+      rows-apart = λ n h. absurd (omega arith);
       rows-are = rw e a;
       pool-is = rw f b;
       total-is = refl;

@@ -7,7 +7,8 @@ use lib.ListN.{length}
 use Rattle.numbers.specs.Lent.{laid}
 use Rattle.model.specs.Basics.{zeros, filled}
 use Rattle.model.specs.Rules.{Rule}
-use Rattle.model.specs.Construction.{width, startRow, nextRow, rowAt, withRow, byIntervals, bySymbols, rowsOf, cellOf}
+use Rattle.model.specs.Construction.{width, startRow, nextRow, rowAt, numberOf, withRow, byIntervals, bySymbols, rowsOf}
+use Rattle.model.specs.Construction.{cellOf}
 use Rattle.model.specs.Tables.{cellsFrom, symbolCells, cellNumbers}
 use Rattle.pairs.specs.declared.Scale.{Scale}
 use Rattle.pairs.specs.declared.Input.{Input}
@@ -24,7 +25,7 @@ pub record CanLeave
   pub held : Held says rows pool p
   pub row-below : row < p .rows
 
--- one cell, and the row that it leads to
+-- the row that a cell leads to, and the cell
 pub record CellMade
     (says : List ℕ → List ℕ) (r : Rule) (row : ℕ) (at : Input) (rs : List (List ℕ)) (room : ℕ)
     (marks marks′ rows′ pool′ : List ℕ)
@@ -32,6 +33,9 @@ pub record CellMade
   pub marks-zero : marks′ ≡ zeros (length marks)
   pub grown :
       Grown says room (withRow (nextRow r (at .symbol) (at .interval) (rowAt rs row)) rs) rows′ pool′ (answer .progress)
+  pub row-is :
+      answer .progress .number ≡ 0
+      → answer .row ≡ numberOf (nextRow r (at .symbol) (at .interval) (rowAt rs row)) rs
   pub cell-is :
       answer .progress .number ≡ 0 → answer .cell ≡ cellOf r rs (rowAt rs row) (at .symbol) (at .interval)
 

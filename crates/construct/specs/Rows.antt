@@ -1,15 +1,17 @@
 -- Rows numbered so far, as the row table and the pool hold them, and the row that does not fit.
 use mathlib.Core.Path.{_≡_}
+use mathlib.Core.Bool.{Bool, _&&_}
 use mathlib.Core.List.{List, [], _∷_, _++_}
 use Prim.Native.Nat.{ℕ, zero, suc, _+_, _*_, _≤_, _<_}
 use lib.Dec.{ltb}
 use lib.ListN.{length}
-use Rattle.model.specs.Basics.{pick, zeros, filled, refusal}
+use Rattle.model.specs.Basics.{pick, same, zeros, filled, refusal}
 use Rattle.model.specs.Rules.{mostPairs}
-use Rattle.model.specs.Construction.{numberOf, mostRows}
+use Rattle.model.specs.Construction.{rowAt, numberOf, mostRows}
 use Rattle.model.specs.Tables.{rowWidth, rowStart, rowLength, codesAt, rowNumbers, poolNumbers, fitRefusal}
 use Rattle.model.proofs.Masks.{Asc}
 use Rattle.model.proofs.Discovery.{Each}
+use Rattle.model.proofs.RowNumbers.{Placed as Apart}
 use Rattle.construct.specs.declared.Found.{Found}
 use Rattle.construct.specs.declared.Found.the-variants.{At, Nothing}
 use Rattle.construct.specs.declared.Progress.{Progress}
@@ -23,6 +25,10 @@ rowsHeld (suc n) i rows pool = codesAt rows pool i ∷ rowsHeld n (suc i) rows p
 -- the first n rows
 abbrev pub rowsIn : ℕ → List ℕ → List ℕ → List (List ℕ)
 rowsIn n rows pool = rowsHeld n 0 rows pool
+
+-- Does the row with this number hold exactly x?
+abbrev pub isAt : ℕ → List ℕ → List (List ℕ) → Bool
+isAt n x rows = ltb n (length rows) && same x (rowAt rows n)
 
 -- What the search among the rows answers: the number of an equal row, or nothing where none has one.
 abbrev pub foundIn : List ℕ → List (List ℕ) → Found
@@ -38,10 +44,11 @@ pub record Within (count : ℕ) (rows pool : List ℕ) : Type 0 where
   pub rows-long : rowWidth * count ≤ length rows
   pub in-pool : (n : ℕ) → n < count → rowStart rows n + rowLength rows n ≤ length pool
 
--- The tables hold the rows numbered so far, each ascending, and zero past them, and there is room for what was put in.
--- What a row has in the row table beside its start, its codes say.
+-- The tables hold the rows numbered so far, each ascending, no two equal, and zero past them, and there is room for what
+-- was put in. What a row has in the row table beside its start, its codes say.
 pub record Held (says : List ℕ → List ℕ) (rows pool : List ℕ) (p : Progress) : Type 0 where
   pub rows-ascend : Each (Asc 0) (rowsIn (p .rows) rows pool)
+  pub rows-apart : Apart (rowsIn (p .rows) rows pool)
   pub rows-are : rows ≡ filled (length rows) (rowNumbers says 0 (rowsIn (p .rows) rows pool))
   pub pool-is : pool ≡ filled (length pool) (poolNumbers (rowsIn (p .rows) rows pool))
   pub total-is : p .total ≡ length (poolNumbers (rowsIn (p .rows) rows pool))

@@ -61,7 +61,7 @@ pub(crate) fn place_start(
         total: 0,
         room,
     };
-    let placed = place_marks(marks, span, rows, pool, none);
+    let placed = place_marks(marks, span, 0, rows, pool, none);
     placed.progress
 }
 

@@ -33,7 +33,8 @@ pub(crate) fn cell_of(row: usize, timer: bool) -> u32
     narrow32(2 * row)
 }
 
-// The cell of a row at a symbol and an interval; the row that it leads to is numbered if it is new.
+// The cell of a row at a symbol and an interval; the row that it leads to is numbered if it is new. `guess` is the row
+// that is looked at first.
 pub(crate) fn make_cell(
     head: Head,
     edges: &[u16],
@@ -41,6 +42,7 @@ pub(crate) fn make_cell(
     scale: Scale,
     row: usize,
     input: Input,
+    guess: usize,
     marks: &mut [u32],
     rows: &mut [u32],
     pool: &mut [u32],
@@ -56,9 +58,10 @@ pub(crate) fn make_cell(
     let start = start_in(rows, row);
     let end = start + length_in(rows, row);
     let marked = mark_next(head, edges, links, scale, input, &pool[start..end], marks);
-    let placed = place_marks(marks, marked.span, rows, pool, p);
+    let placed = place_marks(marks, marked.span, guess, rows, pool, p);
     let progress = placed.progress;
     Filled {
+        row: placed.row,
         cell: cell_of(placed.row, marked.timer),
         progress,
     }
@@ -72,7 +75,8 @@ pub(crate) fn place_of(row: usize, symbols: usize, symbol: usize, width: usize) 
     (row * symbols + symbol) * width
 }
 
-// The cells of a row at a symbol, interval by interval.
+// The cells of a row at a symbol, interval by interval. Neighbours mostly lead to the same row, so the row of the cell
+// before is the guess.
 pub(crate) fn fill_symbol(
     head: Head,
     edges: &[u16],
@@ -99,6 +103,7 @@ pub(crate) fn fill_symbol(
     let width = 2 * wide8(scale.top) + 2;
     let at = place_of(row, wide32(head.symbols), wide32(symbol), width);
     let mut progress = p;
+    let mut guess: usize = 0;
     let mut i: usize = 0;
     while i < width {
         let input = Input {
@@ -112,6 +117,7 @@ pub(crate) fn fill_symbol(
             scale,
             row,
             input,
+            guess,
             marks,
             rows,
             pool,
@@ -122,6 +128,7 @@ pub(crate) fn fill_symbol(
             return progress;
         }
         cells[at + i] = filled.cell;
+        guess = filled.row;
         i += 1;
     }
     progress

@@ -45,8 +45,9 @@ pub(crate) struct Placed {
     pub(crate) progress: Progress,
 }
 
-// A cell, and how far the rows are numbered with the row that it leads to.
+// The row that a cell leads to, the cell, and how far the rows are numbered with that row.
 pub(crate) struct Filled {
+    pub(crate) row: usize,
     pub(crate) cell: u32,
     pub(crate) progress: Progress,
 }

@@ -7,7 +7,7 @@ ghost use Rattle.numbers.specs.Lent.{laid};
 ghost use Rattle.model.specs.Construction.{numberOf, withRow};
 ghost use Rattle.model.specs.Tables.{rowWidth, rowStart, rowLength, codesSay};
 ghost use Rattle.construct.specs.Marks.{codesIn, InSpan};
-ghost use Rattle.construct.specs.Rows.{rowsIn, foundIn, CodeSet, Within, Held, Numbered};
+ghost use Rattle.construct.specs.Rows.{rowsIn, isAt, foundIn, CodeSet, Within, Held, Numbered};
 ghost use Rattle.construct.specs.Rows.{MarksNumbered};
 use crate::Found;
 use crate::Placed;
@@ -65,6 +65,29 @@ pub(crate) fn find_row(rows: &[u32], pool: &[u32], count: usize, codes: &[u32]) 
     }
 }
 
+// Does row `row` have a number, and does it hold exactly `codes`?
+pub(crate) fn is_row(rows: &[u32], pool: &[u32], count: usize, row: usize, codes: &[u32]) -> bool
+    requires { ⌜ Within count (now rows) (now pool) ⌝ }
+    ensures { λ r. ⌜ r ≡ isAt row (now (codes .entry)) (rowsIn count (now (rows .entry)) (now (pool .entry))) ⌝ }
+{
+    if count <= row {
+        return false;
+    }
+    let size = length_in(rows, row);
+    if size != codes.len() {
+        return false;
+    }
+    let start = start_in(rows, row);
+    let mut j: usize = 0;
+    while j < size {
+        if pool[start + j] != codes[j] {
+            return false;
+        }
+        j += 1;
+    }
+    true
+}
+
 // Copies `codes` into the pool.
 pub(crate) fn copy_codes(codes: &[u32], pool: &mut [u32], at: usize)
     requires { ⌜ at + length (now codes) ≤ length (now pool) ⌝ }
@@ -77,10 +100,12 @@ pub(crate) fn copy_codes(codes: &[u32], pool: &mut [u32], at: usize)
     }
 }
 
-// Gives `codes` the next number: 23 where there is no room for it, else 24 where the pool is too short.
+// Gives `codes`, which no row equals, the next number: 23 where there is no room for it, else 24 where the pool is too
+// short.
 pub(crate) fn add_row(codes: &[u32], rows: &mut [u32], pool: &mut [u32], p: Progress) -> Placed
     requires { ⌜ Held codesSay (now rows) (now pool) p ⌝ }
     requires { ⌜ CodeSet (now codes) ⌝ }
+    requires { ⌜ numberOf (now codes) (rowsIn (p .rows) (now rows) (now pool)) ≡ p .rows ⌝ }
     ensures { λ r.
         ⌜ Numbered codesSay (p .room)
         (rowsIn (p .rows) (now (rows .entry)) (now (pool .entry)) ++ (now (codes .entry) ∷ [])) (p .rows)
@@ -125,8 +150,15 @@ pub(crate) fn add_row(codes: &[u32], rows: &mut [u32], pool: &mut [u32], p: Prog
     }
 }
 
-// The number of the row that holds `codes`: if an equal set has a number that one, else the next.
-pub(crate) fn place_row(codes: &[u32], rows: &mut [u32], pool: &mut [u32], p: Progress) -> Placed
+// The number of the row that holds `codes`: if an equal set has a number that one, else the next. The guess, any number,
+// is looked at first: where it is right, no search is made.
+pub(crate) fn place_row(
+    codes: &[u32],
+    guess: usize,
+    rows: &mut [u32],
+    pool: &mut [u32],
+    p: Progress,
+) -> Placed
     requires { ⌜ Held codesSay (now rows) (now pool) p ⌝ }
     requires { ⌜ CodeSet (now codes) ⌝ }
     ensures { λ r.
@@ -135,6 +167,12 @@ pub(crate) fn place_row(codes: &[u32], rows: &mut [u32], pool: &mut [u32], p: Pr
         (numberOf (now (codes .entry)) (rowsIn (p .rows) (now (rows .entry)) (now (pool .entry))))
         (now (rows .exit)) (now (pool .exit)) r ⌝ }
 {
+    if is_row(rows, pool, p.rows, guess, codes) {
+        return Placed {
+            row: guess,
+            progress: p,
+        };
+    }
     let found = find_row(rows, pool, p.rows, codes);
     let Found::At(row) = found else {
         return add_row(codes, rows, pool, p);
@@ -146,6 +184,7 @@ pub(crate) fn place_row(codes: &[u32], rows: &mut [u32], pool: &mut [u32], p: Pr
 pub(crate) fn place_marks(
     marks: &mut [u32],
     span: Span,
+    guess: usize,
     rows: &mut [u32],
     pool: &mut [u32],
     p: Progress,
@@ -159,7 +198,7 @@ pub(crate) fn place_marks(
         (now (marks .entry)) (now (marks .exit)) (now (rows .exit)) (now (pool .exit)) r ⌝ }
 {
     let count = gather(marks, span);
-    let placed = place_row(&marks[..count], rows, pool, p);
+    let placed = place_row(&marks[..count], guess, rows, pool, p);
     clear32(&mut marks[..count]);
     placed
 }

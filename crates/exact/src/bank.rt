@@ -67,9 +67,11 @@ pub(crate) fn has_config(bank: &[u32], clocks: usize, n: usize, c: Configuration
     let mut at: usize = 0;
     let mut i: usize = 0;
     while i < n {
-        let known = load(bank, at);
-        if same_configuration(c, known, clocks) {
-            return true;
+        if entry_at(bank, at) == c.location {
+            let known = load(bank, at);
+            if same_configuration(c, known, clocks) {
+                return true;
+            }
         }
         at += width;
         i += 1;

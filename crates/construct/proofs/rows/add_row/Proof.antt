@@ -69,7 +69,7 @@ returns-3 c =
     let after-narrow32 = after-narrow322 .before in
     let at-if1 = after-narrow32 .before .before in
     let s = at-if1 .before .before .before .before in
-    row-added (s .pre .0) (s .args .codes .now) _ _ _ _ (at-if1 .if1 .left) (search needs) (s .pre .1)
+    row-added (s .pre .0) (s .args .codes .now) _ _ _ _ (at-if1 .if1 .left) (search needs) (s .pre .1 .0) (s .pre .1 .1)
     (after-narrow32 .narrow32 .ensures .1 (search needs))
     (after-narrow322 .narrow322 .ensures .1 (search needs))
     refl
