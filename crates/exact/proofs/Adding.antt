@@ -16,7 +16,7 @@ use Rattle.ages.specs.Ages.{numbersOf, agesOf, configOf, sameConfig}
 use Rattle.ages.proofs.Laws.{numbers-length}
 use Rattle.exact.specs.declared.bank.Added.{Added}
 use Rattle.exact.specs.declared.bank.Added.the-variants.{Count, Full}
-use Rattle.exact.specs.Banks.{numbersAt, configsAt, numbersIn, Loaded, Holds}
+use Rattle.exact.specs.Banks.{numbersAt, configAt, configsAt, numbersIn, Loaded, Holds}
 use Rattle.exact.specs.Ready.{Roomy}
 use Rattle.exact.proofs.Banks.{configs-length, configs-snoc, configs-rest, loaded-is, written-there}
 use Rattle.exact.proofs.Banks.{written-before}
@@ -64,6 +64,12 @@ stored-whole {at = at} c s₀ inv h = stored inv h ∙ rw (add-one at)
 pub ages-length : (k : ℕ) (ages : Ages) → length (ages .of) ≡ mostClocks → k ≤ mostClocks → length (agesOf k ages) ≡ k
 ages-length k ages n h = length-take-le k (numbersOf (ages .of)) (omega (arith, numbers-length (ages .of)))
 
+-- a configuration against the one that was read at a place
+pub compared :
+    (k at : ℕ) (c : Config) (s : List ℕ) (known : Configuration) → Loaded at s known → k ≤ mostClocks
+    → sameConfig c (configOf k known) ≡ sameConfig c (configAt k at s)
+compared k at c s known loaded few = ap (sameConfig c) (loaded-is k at s known loaded few)
+
 -- The configurations passed are others, so those from number i on decide.
 pub record Looking (k n i at : ℕ) (c : Config) (s : List ℕ) : Type 0 where
   pub turns : i ≤ n
@@ -75,8 +81,8 @@ looking k n c s =
     let e : n - 0 ≡ n = omega arith in
     record { turns = omega arith; place-is = sym (zero-mul (k + 1)); rest-is = rw e }
 
-module _ {k n i at : ℕ} {c : Config} {s : List ℕ} (inv : Looking k n i at c s) (h : i < n) (known : Configuration)
-    (loaded : Loaded at s known) (few : k ≤ mostClocks) (r : Bool) (test : r ≡ sameConfig c (configOf k known)) where
+module _ {k n i at : ℕ} {c : Config} {s : List ℕ} (inv : Looking k n i at c s) (h : i < n) (r : Bool)
+    (test : r ≡ sameConfig c (configAt k at s)) where
   look-step :
       hasConfig c (configsAt k n 0 s)
       ≡ (r || hasConfig c (configsAt k (n - (i + 1)) (at + (k + 1)) s))
@@ -84,7 +90,7 @@ module _ {k n i at : ℕ} {c : Config} {s : List ℕ} (inv : Looking k n i at c 
       sym (inv .rest-is)
       ∙ (ap (hasConfig c) (configs-rest k n i at s h)
       ∙ ap (λ (b : Bool). b || hasConfig c (configsAt k (n - (i + 1)) (at + (k + 1)) s))
-      (sym (test ∙ ap (sameConfig c) (loaded-is k at s known loaded few))))
+      (sym test))
 
   pub looking-next : r ≡ false → Looking k n (i + 1) (at + (k + 1)) c s
   looking-next f = record {

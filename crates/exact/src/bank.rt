@@ -6,8 +6,8 @@ ghost use lib.ListN.{length};
 ghost use lib.Seq.{sets};
 ghost use Rattle.model.specs.Rules.{mostClocks};
 ghost use Rattle.model.specs.Runs.{hasConfig, withConfig};
-ghost use Rattle.ages.specs.Ages.{configOf};
-ghost use Rattle.exact.specs.Banks.{numbersIn, configsAt, Loaded, Holds};
+ghost use Rattle.ages.specs.Ages.{configOf, sameConfig};
+ghost use Rattle.exact.specs.Banks.{numbersIn, configAt, configsAt, Loaded, Holds};
 ghost use Rattle.exact.specs.Ready.{Roomy};
 use ages::Ages;
 use ages::Configuration;
@@ -58,6 +58,18 @@ pub(crate) fn store(bank: &mut [u32], at: usize, clocks: usize, c: Configuration
     }
 }
 
+// Is the configuration the one at a place? Most differ in their location, so the ages are read only after it.
+pub(crate) fn is_at(bank: &[u32], clocks: usize, at: usize, c: Configuration) -> bool
+    requires { ⌜ (clocks ≤ mostClocks) × (at ≤ length (now bank)) ⌝ }
+    ensures { λ r. ⌜ r ≡ sameConfig (configOf clocks c) (configAt clocks at (now (bank .entry))) ⌝ }
+{
+    if entry_at(bank, at) != c.location {
+        return false;
+    }
+    let known = load(bank, at);
+    same_configuration(c, known, clocks)
+}
+
 // Is the configuration among the first n of the bank.
 pub(crate) fn has_config(bank: &[u32], clocks: usize, n: usize, c: Configuration) -> bool
     requires { ⌜ (clocks ≤ mostClocks) × (n * (clocks + 1) ≤ length (now bank)) ⌝ }
@@ -67,11 +79,8 @@ pub(crate) fn has_config(bank: &[u32], clocks: usize, n: usize, c: Configuration
     let mut at: usize = 0;
     let mut i: usize = 0;
     while i < n {
-        if entry_at(bank, at) == c.location {
-            let known = load(bank, at);
-            if same_configuration(c, known, clocks) {
-                return true;
-            }
+        if is_at(bank, clocks, at, c) {
+            return true;
         }
         at += width;
         i += 1;

@@ -25,8 +25,13 @@ add-width c = search needs
 loop-holds : tie.Need-loop-holds Inv-loop μ-loop
 loop-holds c = (search needs, search needs, search needs, looking _ _ _ _)
 
-load-requires : tie.Need-load-requires Inv-loop μ-loop
-load-requires c κs =
+-- the place of the configuration that is looked at lies in the bank
+inside :
+    (c : tie.In-loop Inv-loop μ-loop)
+    → (let l = c .before .loop in
+    let a = c .before .before .before .args in
+    l .at + (a .clocks + 1) ≤ length (a .bank .now))
+inside c =
     let a = c .before .before .before .args in
     let l = c .before .loop in
     omega (
@@ -35,27 +40,16 @@ load-requires c κs =
           (omega (arith, l .inv .3 .place-is)) (omega (arith, l .inv .2)),
     )
 
-same-configuration-requires : tie.Need-same-configuration-requires Inv-loop μ-loop
-same-configuration-requires c κs = search needs
+is-at-requires : tie.Need-is-at-requires Inv-loop μ-loop
+is-at-requires c κs = (c .before .loop .inv .0, omega (arith, inside c))
 
 returns : tie.Need-returns Inv-loop μ-loop
 returns c =
-    let l = c .before .before .before .before .loop in
-    look-found (l .inv .3) (c .before .before .before .loop-test .taken) _ (c .before .before .load .ensures)
-    (l .inv .0) _
-    (c .before .same-configuration .ensures)
-    (c .if1 .taken)
+    let test = c .before .before in
+    look-found (test .before .loop .inv .3) (test .loop-test .taken) _ (c .before .is-at .ensures) (c .if1 .taken)
 
 add-at : tie.Need-add-at Inv-loop μ-loop
-add-at c =
-    let test = c .before .before .before in
-    let a = test .before .before .before .args in
-    let l = test .before .loop in
-    omega (
-      arith,
-      place-within (a .clocks) (a .n) 0 (l .i) (l .at) (length (a .bank .now)) (test .loop-test .taken)
-          (omega (arith, l .inv .3 .place-is)) (omega (arith, l .inv .2)),
-    )
+add-at c = omega (arith, inside (c .before .before))
 
 add-i : tie.Need-add-i Inv-loop μ-loop
 add-i c = search needs
@@ -65,14 +59,12 @@ loop-less c = search needs
 
 loop-again : tie.Need-loop-again Inv-loop μ-loop
 loop-again c =
-    let l = c .before .before .before .before .loop in (
+    let test = c .before .before in
+    let l = test .before .loop in (
       l .inv .0,
       l .inv .1,
       l .inv .2,
-      looking-next (l .inv .3) (c .before .before .before .loop-test .taken) _ (c .before .before .load .ensures)
-          (l .inv .0) _
-          (c .before .same-configuration .ensures)
-          (c .if1 .left),
+      looking-next (l .inv .3) (test .loop-test .taken) _ (c .before .is-at .ensures) (c .if1 .left),
     )
 
 returns-2 : tie.Need-returns-2 Inv-loop μ-loop
@@ -86,8 +78,7 @@ has-config-spec =
     μ-loop
     add-width
     loop-holds
-    load-requires
-    same-configuration-requires
+    is-at-requires
     returns
     add-at
     add-i
