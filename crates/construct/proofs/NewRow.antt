@@ -99,7 +99,9 @@ module _
     {rows pool : List ℕ} {p : Progress} (held : Held codesSay rows pool p) (x rows′ pool′ : List ℕ) (a b : ℕ)
     (has-room : p .rows < p .room)
     (in-pool : p .total + length x ≤ length pool)
-    (codes : CodeSet x) (new : numberOf x (rowsIn (p .rows) rows pool) ≡ p .rows) (is-a : a ≡ p .total) (is-b : b ≡ length x)
+    (codes : CodeSet x)
+    (new : numberOf x (rowsIn (p .rows) rows pool) ≡ p .rows)
+    (is-a : a ≡ p .total) (is-b : b ≡ length x)
     (rows-now : rows′ ≡ set (set rows (rowWidth * p .rows) a) (rowWidth * p .rows + 1) b)
     (pool-now : pool′ ≡ laid pool (p .total) x) where
   numbers-long : length (rowNumbers codesSay 0 (rowsIn (p .rows) rows pool)) ≡ rowWidth * p .rows

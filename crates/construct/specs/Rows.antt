@@ -44,8 +44,8 @@ pub record Within (count : ℕ) (rows pool : List ℕ) : Type 0 where
   pub rows-long : rowWidth * count ≤ length rows
   pub in-pool : (n : ℕ) → n < count → rowStart rows n + rowLength rows n ≤ length pool
 
--- The tables hold the rows numbered so far, each ascending, no two equal, and zero past them, and there is room for what
--- was put in. What a row has in the row table beside its start, its codes say.
+-- The tables hold the rows numbered so far, each ascending and no two equal, and zero past them, and there is room for
+-- what was put in. What a row has in the row table beside its start, its codes say.
 pub record Held (says : List ℕ → List ℕ) (rows pool : List ℕ) (p : Progress) : Type 0 where
   pub rows-ascend : Each (Asc 0) (rowsIn (p .rows) rows pool)
   pub rows-apart : Apart (rowsIn (p .rows) rows pool)

@@ -150,8 +150,8 @@ pub(crate) fn add_row(codes: &[u32], rows: &mut [u32], pool: &mut [u32], p: Prog
     }
 }
 
-// The number of the row that holds `codes`: if an equal set has a number that one, else the next. The guess, any number,
-// is looked at first: where it is right, no search is made.
+// The number of the row that holds `codes`: if an equal set has a number that one, else the next. The guess, which may
+// be any number, is looked at first: where it is right, no search is made.
 pub(crate) fn place_row(
     codes: &[u32],
     guess: usize,

@@ -11,15 +11,13 @@ use lib.Seq.{sets, drop-cons, length-take-le}
 use Rattle.model.specs.Rules.{mostClocks}
 use Rattle.model.specs.Runs.{Config, hasConfig, withConfig}
 use Rattle.ages.specs.declared.Ages.{Ages}
-use Rattle.ages.specs.declared.Configuration.{Configuration}
-use Rattle.ages.specs.Ages.{numbersOf, agesOf, configOf, sameConfig}
+use Rattle.ages.specs.Ages.{numbersOf, agesOf, sameConfig}
 use Rattle.ages.proofs.Laws.{numbers-length}
 use Rattle.exact.specs.declared.bank.Added.{Added}
 use Rattle.exact.specs.declared.bank.Added.the-variants.{Count, Full}
-use Rattle.exact.specs.Banks.{numbersAt, configAt, configsAt, numbersIn, Loaded, Holds}
+use Rattle.exact.specs.Banks.{numbersAt, configAt, configsAt, numbersIn, Holds}
 use Rattle.exact.specs.Ready.{Roomy}
-use Rattle.exact.proofs.Banks.{configs-length, configs-snoc, configs-rest, loaded-is, written-there}
-use Rattle.exact.proofs.Banks.{written-before}
+use Rattle.exact.proofs.Banks.{configs-length, configs-snoc, configs-rest, written-there, written-before}
 
 -- four numbers that were read one after another
 pub four-read :
@@ -63,12 +61,6 @@ stored-whole {at = at} c s₀ inv h = stored inv h ∙ rw (add-one at)
 -- as many ages as clocks, with four at hand
 pub ages-length : (k : ℕ) (ages : Ages) → length (ages .of) ≡ mostClocks → k ≤ mostClocks → length (agesOf k ages) ≡ k
 ages-length k ages n h = length-take-le k (numbersOf (ages .of)) (omega (arith, numbers-length (ages .of)))
-
--- a configuration against the one that was read at a place
-pub compared :
-    (k at : ℕ) (c : Config) (s : List ℕ) (known : Configuration) → Loaded at s known → k ≤ mostClocks
-    → sameConfig c (configOf k known) ≡ sameConfig c (configAt k at s)
-compared k at c s known loaded few = ap (sameConfig c) (loaded-is k at s known loaded few)
 
 -- The configurations passed are others, so those from number i on decide.
 pub record Looking (k n i at : ℕ) (c : Config) (s : List ℕ) : Type 0 where

@@ -1,9 +1,9 @@
 -- `exact::bank::is_at` meets its contract: another location, or the configuration that was read is compared.
-use mathlib.Core.Path.{sym, _∙_}
-use Rattle.ages.specs.Ages.{configOf}
+use mathlib.Core.Path.{sym, _∙_, ap}
+use Rattle.ages.specs.Ages.{configOf, sameConfig}
 use Rattle.ages.proofs.Laws.{other-location}
 use Rattle.exact.specs.Banks.{configAt}
-use Rattle.exact.proofs.Adding.{compared}
+use Rattle.exact.proofs.Banks.{loaded-is}
 use borrow.Author.Needs.{needs}
 use Rattle.exact.proofs.bank.is_at.Statement.{statement}
 use Rattle.exact.proofs.bank.is_at.Tie as tie
@@ -30,8 +30,8 @@ returns-2 c =
     let start = after-load .before .before .before .before .before in
     let a = start .args in
     c .same-configuration .ensures
-    ∙ compared (a .clocks) (a .at) (configOf (a .clocks) (a .c)) (a .bank .now) _ (after-load .load .ensures)
-    (start .pre .0)
+    ∙ ap (sameConfig (configOf (a .clocks) (a .c)))
+    (loaded-is (a .clocks) (a .at) (a .bank .now) _ (after-load .load .ensures) (start .pre .0))
 
 pub is-at-spec : {M : Type 1} → statement M
 is-at-spec =
