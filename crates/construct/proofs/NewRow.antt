@@ -7,13 +7,13 @@ use Prim.Native.Nat.{ℕ, suc, _+_, _-_, _*_, _≤_, _<_}
 use native.Mathlib.Omega.{arith}
 use lib.Dec.{ltb}
 use lib.ListN.{length, set, length-append, length-set}
-use borrow.Author.Tests.{ltb-true, ltb-false}
+use borrow.Author.Tests.{ltb-true}
 use Rattle.numbers.specs.Lent.{laid}
 use Rattle.numbers.proofs.Laid.{laid-filled}
 use Rattle.model.specs.Basics.{same, filled, refusal}
 use Rattle.model.specs.Construction.{rowAt, numberOf, withRow}
 use Rattle.model.specs.Tables.{rowWidth, rowNumbers, codesSay, poolNumbers, fitRefusal}
-use Rattle.model.proofs.Logic.{by-test, and-left, and-right, same-equal, in-append}
+use Rattle.model.proofs.Logic.{and-left, and-right, same-equal, in-append}
 use Rattle.model.proofs.Masks.{Asc}
 use Rattle.model.proofs.Discovery.{Each}
 use Rattle.model.proofs.TablePlaces.{row-numbers-length}
@@ -25,7 +25,7 @@ use Rattle.construct.specs.declared.Found.the-variants.{At, Nothing}
 use Rattle.construct.specs.declared.Progress.{Progress}
 use Rattle.construct.specs.declared.Placed.{Placed}
 use Rattle.construct.specs.Rows.{rowsIn, isAt, foundIn, CodeSet, Held, Unfit, Numbered}
-use Rattle.construct.proofs.RowSearch.{rows-length}
+use Rattle.construct.proofs.RowSearch.{rows-length, found-at, found-nothing}
 use Rattle.construct.proofs.RowTables.{filled-length, filled-set, rows-append, pool-append}
 use Rattle.construct.proofs.RowTables.{rows-again}
 
@@ -211,28 +211,6 @@ unplaced n count total u = record {
   row-is = λ e. absurd (omega (arith, u .least));
   row-below = omega arith;
 }
-
--- what the search found, as a number
-found-at :
-    (x : List ℕ) (rs : List (List ℕ)) (f : Found) (row : ℕ) → f ≡ foundIn x rs → f ≡ At row
-    → (numberOf x rs < length rs) × (row ≡ numberOf x rs)
-found-at x rs f row e g =
-    by-test (ltb (numberOf x rs) (length rs))
-    (λ t.
-    let k : At row ≡ At (numberOf x rs) = sym g ∙ (e ∙ rw t) in
-    (ltb-true (numberOf x rs) (length rs) t, cc))
-    (λ t.
-    let k : At row ≡ Nothing = sym g ∙ (e ∙ rw t) in
-    absurd (let z : _≡_ {A = ℕ} 0 1 = cc in omega arith))
-
-found-nothing :
-    (x : List ℕ) (rs : List (List ℕ)) (f : Found) → f ≡ foundIn x rs → f ≡ Nothing → length rs ≤ numberOf x rs
-found-nothing x rs f e g =
-    by-test (ltb (numberOf x rs) (length rs))
-    (λ t.
-    let k : Nothing ≡ At (numberOf x rs) = sym g ∙ (e ∙ rw t) in
-    absurd (let z : _≡_ {A = ℕ} 0 1 = cc in omega arith))
-    (λ t. ltb-false (numberOf x rs) (length rs) t)
 
 -- an equal row has a number: that one is used
 module _ {says : List ℕ → List ℕ} {rows pool : List ℕ} {p : Progress} (held : Held says rows pool p) (x : List ℕ)

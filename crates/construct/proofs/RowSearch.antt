@@ -1,5 +1,5 @@
 -- The search among the rows: the rows still to come have the number that all have, while none passed is equal.
-use mathlib.Core.Path.{_≡_, refl, sym, _∙_, ap}
+use mathlib.Core.Path.{_≡_, refl, sym, _∙_, ap, ap₂}
 use mathlib.Core.Bool.{true, false}
 use mathlib.Core.List.{List, _∷_}
 use Prim.Native.Nat.{ℕ, zero, suc, _+_, _-_, _*_, _≤_, _<_}
@@ -8,11 +8,12 @@ use native.Mathlib.Numerals.{add-one}
 use lib.Dec.{ltb}
 use lib.ListN.{length, getD, take, drop, length-take, length-drop}
 use lib.Seq.{ext-getD, getD-take, getD-drop}
-use borrow.Author.Tests.{lt-ltb, le-ltb}
+use borrow.Author.Tests.{lt-ltb, le-ltb, ltb-true, ltb-false}
 use Rattle.model.specs.Basics.{same}
 use Rattle.model.specs.Construction.{rowAt, numberFrom, numberOf}
 use Rattle.model.specs.Tables.{rowWidth, rowStart, rowLength, codesAt}
 use Rattle.model.proofs.Logic.{by-test, same-equal, same-self}
+use Rattle.construct.specs.declared.Found.{Found}
 use Rattle.construct.specs.declared.Found.the-variants.{At, Nothing}
 use Rattle.construct.specs.Rows.{rowsHeld, rowsIn, isAt, foundIn, Within}
 
@@ -96,25 +97,82 @@ module _ {count row : ℕ} {rows pool codes : List ℕ} (inv : Searching count r
       let l : length (rowsIn count rows pool) ≤ row = rw (rows-length count 0 rows pool) h in
       rw (← n, le-ltb row (length (rowsIn count rows pool)) l)
 
--- One row against codes: it has no number, or it is another, or it is equal.
+-- what the search found, as a number
+pub found-at :
+    (x : List ℕ) (rs : List (List ℕ)) (f : Found) (row : ℕ) → f ≡ foundIn x rs → f ≡ At row
+    → (numberOf x rs < length rs) × (row ≡ numberOf x rs)
+found-at x rs f row e g =
+    by-test (ltb (numberOf x rs) (length rs))
+    (λ t.
+    let k : At row ≡ At (numberOf x rs) = sym g ∙ (e ∙ rw t) in
+    (ltb-true (numberOf x rs) (length rs) t, cc))
+    (λ t.
+    let k : At row ≡ Nothing = sym g ∙ (e ∙ rw t) in
+    absurd (let z : _≡_ {A = ℕ} 0 1 = cc in omega arith))
+
+pub found-nothing :
+    (x : List ℕ) (rs : List (List ℕ)) (f : Found) → f ≡ foundIn x rs → f ≡ Nothing → length rs ≤ numberOf x rs
+found-nothing x rs f e g =
+    by-test (ltb (numberOf x rs) (length rs))
+    (λ t.
+    let k : Nothing ≡ At (numberOf x rs) = sym g ∙ (e ∙ rw t) in
+    absurd (let z : _≡_ {A = ℕ} 0 1 = cc in omega arith))
+    (λ t. ltb-false (numberOf x rs) (length rs) t)
+
+-- A row by itself: the part of the row table that it has is a table of one row.
+abbrev pub alone : List ℕ → ℕ → List ℕ
+alone rows row = take (rowWidth * row + rowWidth - rowWidth * row) (drop (rowWidth * row) rows)
+
+number-alone :
+    (rows : List ℕ) (row k : ℕ) → k < rowWidth → getD (alone rows row) k 0 ≡ getD rows (rowWidth * row + k) 0
+number-alone rows row k l =
+    getD-take (rowWidth * row + rowWidth - rowWidth * row) (drop (rowWidth * row) rows) k 0 (omega arith)
+    ∙ getD-drop (rowWidth * row) rows k 0
+
+start-alone : (rows : List ℕ) (row : ℕ) → rowStart (alone rows row) 0 ≡ rowStart rows row
+start-alone rows row =
+    let z : rowWidth * row + 0 ≡ rowWidth * row = omega arith in
+    number-alone rows row 0 (omega arith) ∙ ap (λ (k : ℕ). getD rows k 0) z
+
+length-alone : (rows : List ℕ) (row : ℕ) → rowLength (alone rows row) 0 ≡ rowLength rows row
+length-alone rows row = number-alone rows row 1 (omega arith)
+
+pub within-alone :
+    {count row : ℕ} {rows pool : List ℕ} → Within count rows pool → row < count → Within 1 (alone rows row) pool
+within-alone {row = row} {rows = rows} within h = record {
+  rows-long = simp (length-take, length-drop) (omega (arith, row-inside within h));
+  in-pool = λ m l.
+      let z : m ≡ 0 = omega arith in
+      rw z (omega (arith, start-alone rows row, length-alone rows row, within .in-pool row h));
+}
+
+-- A row against codes: it has no number, or the search in it alone tells.
 module _ (count row : ℕ) (rows pool codes : List ℕ) where
   pub at-none : count ≤ row → false ≡ isAt row codes (rowsIn count rows pool)
   at-none h =
       let l : length (rowsIn count rows pool) ≤ row = rw (rows-length count 0 rows pool) h in
       rw (le-ltb row (length (rowsIn count rows pool)) l)
 
-  module _ (h : row < count) where
-    in-rows : ltb row (length (rowsIn count rows pool)) ≡ true
-    in-rows =
-        lt-ltb row (length (rowsIn count rows pool)) (rw (rows-length count 0 rows pool) h)
+  module _ (h : row < count) (f : Found) (is-found : f ≡ foundIn codes (rowsIn 1 (alone rows row) pool)) where
+    at-row : same codes (codesAt (alone rows row) pool 0) ≡ isAt row codes (rowsIn count rows pool)
+    at-row =
+        let l : row < length (rowsIn count rows pool) = rw (rows-length count 0 rows pool) h in
+        let e : codesAt (alone rows row) pool 0 ≡ codesAt rows pool row =
+        ap₂ (λ (n a : ℕ). take n (drop a pool)) (length-alone rows row) (start-alone rows row) in
+        rw (lt-ltb row (length (rowsIn count rows pool)) l, row-held count row rows pool h, e)
 
-    pub at-other : (codes ≡ codesAt rows pool row → ⊥) → false ≡ isAt row codes (rowsIn count rows pool)
-    at-other n = rw (in-rows, row-held count row rows pool h, other codes (codesAt rows pool row) n)
+    pub at-found : (n : ℕ) → f ≡ At n → true ≡ isAt row codes (rowsIn count rows pool)
+    at-found n g =
+        let below = found-at codes (rowsIn 1 (alone rows row) pool) f n is-found g .0 in
+        by-test (same codes (codesAt (alone rows row) pool 0)) (λ t. sym t ∙ at-row)
+        (λ t. let z : numberOf codes (rowsIn 1 (alone rows row) pool) ≡ 1 = cc in absurd (omega (arith, below, z)))
 
-    pub at-equal : codes ≡ codesAt rows pool row → true ≡ isAt row codes (rowsIn count rows pool)
-    at-equal e =
-        let s : same codes (codesAt rows pool row) ≡ true = rw e (same-self (codesAt rows pool row)) in
-        rw (in-rows, row-held count row rows pool h, s)
+    pub at-missed : f ≡ Nothing → false ≡ isAt row codes (rowsIn count rows pool)
+    at-missed g =
+        let least = found-nothing codes (rowsIn 1 (alone rows row) pool) f is-found g in
+        by-test (same codes (codesAt (alone rows row) pool 0))
+        (λ t. let z : numberOf codes (rowsIn 1 (alone rows row) pool) ≡ 0 = cc in absurd (omega (arith, least, z)))
+        (λ t. sym t ∙ at-row)
 
 -- A part of the pool against codes.
 module _ (pool codes : List ℕ) (start n : ℕ) (fits : start + n ≤ length pool) where

@@ -73,19 +73,12 @@ pub(crate) fn is_row(rows: &[u32], pool: &[u32], count: usize, row: usize, codes
     if count <= row {
         return false;
     }
-    let size = length_in(rows, row);
-    if size != codes.len() {
-        return false;
+    let at = ROW_WIDTH * row;
+    let found = find_row(&rows[at..at + ROW_WIDTH], pool, 1, codes);
+    match found {
+        Found::At(_) => true,
+        Found::Nothing => false,
     }
-    let start = start_in(rows, row);
-    let mut j: usize = 0;
-    while j < size {
-        if pool[start + j] != codes[j] {
-            return false;
-        }
-        j += 1;
-    }
-    true
 }
 
 // Copies `codes` into the pool.
