@@ -21,14 +21,14 @@ allMet (case found must-be ∷ xs) =
     eqb (found .number) (must-be .number) && eqb (found .place) (must-be .place) && allMet xs
 
 abbrev pub zero-head : Head
-zero-head = record { locations = 0; symbols = 0; clocks = 0; starts = 0; ends = 0; ceiling = 0; count = 0 }
+zero-head = record { locations = 0; symbols = 0; clocks = 0; starts = 0; ends = 0; count = 0 }
 
 abbrev pub zero-built : Built
 zero-built = record { locations = 0; symbols = 0; clocks = 0; top = 0; ends = 0; rows = 0; total = 0 }
 
 -- 2 edges of 29 numbers, and as many zeros as are asked for
 abbrev pub worked-head : Head
-worked-head = record { locations = 2; symbols = 2; clocks = 1; starts = 1; ends = 1; ceiling = 0; count = 2 }
+worked-head = record { locations = 2; symbols = 2; clocks = 1; starts = 1; ends = 1; count = 2 }
 
 abbrev pub worked-edges : ℕ → List ℕ
 worked-edges unused =
@@ -42,7 +42,7 @@ free-edge source target symbol = record { source = source; target = target; symb
 
 unfoldable pub forks : Rule
 forks =
-    rule 2 3 1 (0 ∷ []) (1 ∷ []) 0
+    rule 2 3 1 (0 ∷ []) (1 ∷ [])
     (free-edge 0 0 0
     ∷ free-edge 0 0 0
     ∷ free-edge 0 0 1

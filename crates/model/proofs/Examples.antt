@@ -8,7 +8,9 @@ use Rattle.model.specs.Basics.{maskOf, fine}
 use Rattle.model.specs.Rules.{Atom, Edge, Rule, rule, cm, pairCount}
 use Rattle.model.specs.Words.{eventsOf}
 use Rattle.model.specs.Runs.{acceptsFrom, acceptsFromSome, accepts}
-use Rattle.model.specs.Files.{recordRefusal, withRecord, atEnd, readFrom, readRule, edgeRecords, ruleBytes}
+use Rattle.model.specs.Files.{recordRefusal, withRecord, atEnd, readFrom, readRule, numbers, ceilingRecord}
+use Rattle.model.specs.Files.{edgeRecords, fileWith, ruleBytes, ceilingBytes, lessPast, lessCeiling, kindsPast}
+use Rattle.model.specs.Files.{hasCeiling}
 use Rattle.model.specs.Construction.{codeOf, locationOf, basesOf, startRow, allows, rowResets, targetOf}
 use Rattle.model.specs.Construction.{nextRow, byIntervals, bySymbols, rowsFrom, rowsOf, cellOf}
 use Rattle.model.specs.Tables.{Tables, tables, tablesBy, tablesOf}
@@ -34,7 +36,7 @@ pub edge-to : ℕ → ℕ → Edge
 edge-to target resets = record { source = 0; target = target; symbol = 0; resets = resets; atoms = at-age-one }
 
 pub ninth : Rule
-ninth = rule 2 2 1 (0 ∷ []) (0 ∷ []) 0 (edge-to 0 0 ∷ edge-to 1 1 ∷ [])
+ninth = rule 2 2 1 (0 ∷ []) (0 ∷ []) (edge-to 0 0 ∷ edge-to 1 1 ∷ [])
 
 -- an example: a word over the worked case with its answer, or a row with where it leads
 pub data Example : Type 0 where
@@ -88,19 +90,28 @@ unfolding maskOf cm pairCount recordRefusal withRecord atEnd readFrom readRule
     tablesBy tablesOf worked-file worked worked-tables
 worked-table-is = refl
 
--- The second rule: two clocks, a ceiling, resets of either clock, several atoms, strict and weak relations, so that
--- a swapped field, relation, digit, mask bit or order of discovery changes its table.
-unfoldable pub second-file : List ℕ
-second-file =
+-- The second rule: two clocks, resets of either clock, several atoms, strict and weak relations, so that a swapped
+-- field, relation, digit, mask bit or order of discovery changes its table. Its last edge can never be taken: x0 < 0
+-- does not hold; it is there for its constant, 2, which makes cm. Its file has a ceiling of 3, which counts for nothing.
+unfoldable pub second-locations : List ℕ
+second-locations =
     (6 ∷ 0 ∷ 1 ∷ 0 ∷ 3 ∷ 0 ∷ 2 ∷ 0 ∷ 2 ∷ 0 ∷ [])
-    ++ ((2 ∷ 0 ∷ 2 ∷ 0 ∷ 0 ∷ 0 ∷ [])
-    ++ ((2 ∷ 0 ∷ 2 ∷ 0 ∷ 1 ∷ 0 ∷ [])
-    ++ ((2 ∷ 0 ∷ 3 ∷ 0 ∷ 2 ∷ 0 ∷ [])
-    ++ ((2 ∷ 0 ∷ 4 ∷ 0 ∷ 2 ∷ 0 ∷ [])
-    ++ ((20 ∷ 0 ∷ 5 ∷ 0 ∷ 0 ∷ 0 ∷ 1 ∷ 0 ∷ 1 ∷ 0 ∷ 2 ∷ 0 ∷ 0 ∷ 0 ∷ 2 ∷ 0 ∷ 1 ∷ 0 ∷ 1 ∷ 0 ∷ 1 ∷ 0 ∷ 1 ∷ 0 ∷ [])
+    ++ ((2 ∷ 0 ∷ 2 ∷ 0 ∷ 0 ∷ 0 ∷ []) ++ ((2 ∷ 0 ∷ 2 ∷ 0 ∷ 1 ∷ 0 ∷ []) ++ (2 ∷ 0 ∷ 3 ∷ 0 ∷ 2 ∷ 0 ∷ [])))
+
+unfoldable pub second-records : List ℕ
+second-records =
+    (20 ∷ 0 ∷ 5 ∷ 0 ∷ 0 ∷ 0 ∷ 1 ∷ 0 ∷ 1 ∷ 0 ∷ 2 ∷ 0 ∷ 0 ∷ 0 ∷ 2 ∷ 0 ∷ 1 ∷ 0 ∷ 1 ∷ 0 ∷ 1 ∷ 0 ∷ 1 ∷ 0 ∷ [])
     ++ ((20 ∷ 0 ∷ 5 ∷ 0 ∷ 1 ∷ 0 ∷ 2 ∷ 0 ∷ 0 ∷ 0 ∷ 0 ∷ 0 ∷ 1 ∷ 0 ∷ 0 ∷ 0 ∷ 1 ∷ 0 ∷ 0 ∷ 0 ∷ 3 ∷ 0 ∷ 1 ∷ 0 ∷ [])
     ++ ((14 ∷ 0 ∷ 5 ∷ 0 ∷ 1 ∷ 0 ∷ 0 ∷ 0 ∷ 0 ∷ 0 ∷ 1 ∷ 0 ∷ 0 ∷ 0 ∷ 2 ∷ 0 ∷ 1 ∷ 0 ∷ [])
-    ++ (20 ∷ 0 ∷ 5 ∷ 0 ∷ 2 ∷ 0 ∷ 2 ∷ 0 ∷ 1 ∷ 0 ∷ 0 ∷ 0 ∷ 1 ∷ 0 ∷ 4 ∷ 0 ∷ 1 ∷ 0 ∷ 0 ∷ 0 ∷ 4 ∷ 0 ∷ 0 ∷ 0 ∷ []))))))))
+    ++ ((20 ∷ 0 ∷ 5 ∷ 0 ∷ 2 ∷ 0 ∷ 2 ∷ 0 ∷ 1 ∷ 0 ∷ 0 ∷ 0 ∷ 1 ∷ 0 ∷ 4 ∷ 0 ∷ 1 ∷ 0 ∷ 0 ∷ 0 ∷ 4 ∷ 0 ∷ 0 ∷ 0 ∷ [])
+    ++ (20 ∷ 0 ∷ 5 ∷ 0 ∷ 2 ∷ 0 ∷ 0 ∷ 0 ∷ 0 ∷ 0 ∷ 0 ∷ 0 ∷ 0 ∷ 0 ∷ 0 ∷ 0 ∷ 0 ∷ 0 ∷ 0 ∷ 0 ∷ 1 ∷ 0 ∷ 2 ∷ 0 ∷ []))))
+
+unfoldable pub second-file : List ℕ
+second-file = second-locations ++ ((2 ∷ 0 ∷ 4 ∷ 0 ∷ 3 ∷ 0 ∷ []) ++ second-records)
+
+-- the same file less its ceiling
+unfoldable pub second-less : List ℕ
+second-less = second-locations ++ second-records
 
 unfoldable pub second : Rule
 second = readRule second-file .rule-is
@@ -126,7 +137,7 @@ second-tables =
 pub second-table-is : tablesOf second 72 12 7 ≡ second-tables
 unfolding maskOf cm pairCount recordRefusal withRecord atEnd readFrom readRule
     codeOf locationOf basesOf startRow allows rowResets targetOf nextRow byIntervals bySymbols rowsFrom rowsOf cellOf
-    tablesBy tablesOf second-file second second-tables
+    tablesBy tablesOf second-locations second-records second-file second second-tables
 second-table-is = refl
 
 -- rows that hold a final location: 4 and 5
@@ -136,10 +147,26 @@ pub second-verdicts :
 unfolding verdict second-tables
 second-verdicts = (refl, refl, refl, refl, refl, refl)
 
--- both files are accepted, and written again have the same bytes
+-- both files are accepted; written again the first has the same bytes, the second those less its ceiling
 pub files-again :
     (readRule worked-file .refused ≡ fine) × (readRule second-file .refused ≡ fine)
-    × (ruleBytes worked ≡ worked-file) × (ruleBytes second ≡ second-file)
-unfolding maskOf cm pairCount recordRefusal withRecord atEnd readFrom readRule edgeRecords ruleBytes
-    worked-file worked second-file second
+    × (ruleBytes worked ≡ worked-file) × (ruleBytes second ≡ second-less)
+unfolding maskOf cm pairCount recordRefusal withRecord atEnd readFrom readRule edgeRecords fileWith ruleBytes
+    worked-file worked second-locations second-records second-file second-less second
 files-again = (refl, refl, refl, refl)
+
+-- what has a ceiling, and a file less its ceiling. An edge of this rule has the bytes of a ceiling record for an atom,
+-- x2 > 9, and is kept; so is the rest of a file that ends in the middle of a record.
+unfoldable pub seeming : List ℕ
+seeming = numbers (14 ∷ 5 ∷ 0 ∷ 0 ∷ 0 ∷ 0 ∷ 2 ∷ 4 ∷ 9 ∷ [])
+
+pub ceilings-are :
+    (hasCeiling worked-file ≡ false) × (hasCeiling second-file ≡ true) × (hasCeiling second-less ≡ false)
+    × (hasCeiling seeming ≡ false) × (hasCeiling (ceilingRecord 0 ++ seeming) ≡ true)
+    × (hasCeiling (seeming ++ ceilingRecord 0) ≡ true)
+    × (lessCeiling worked-file ≡ worked-file) × (lessCeiling second-file ≡ second-less)
+    × (lessCeiling second-less ≡ second-less) × (lessCeiling (ceilingRecord 0 ++ seeming) ≡ seeming)
+    × (lessCeiling (seeming ++ ceilingRecord 0) ≡ seeming) × (ceilingBytes 3 second ≡ second-file)
+unfolding maskOf cm pairCount recordRefusal withRecord atEnd readFrom readRule edgeRecords fileWith ceilingBytes
+    lessPast kindsPast worked-file second-locations second-records second-file second-less second seeming
+ceilings-are = (refl, refl, refl, refl, refl, refl, refl, refl, refl, refl, refl, refl)

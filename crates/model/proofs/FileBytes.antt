@@ -10,8 +10,8 @@ use lib.ListN.{length}
 use borrow.Author.Tests.{lt-ltb}
 use Rattle.model.specs.Basics.{allBelow}
 use Rattle.model.specs.Rules.{Atom, Edge, Rule, rising}
-use Rattle.model.specs.Files.{numbers, sizesRecord, locationRecords, ceilingRecord, atomNumbers, edgeRecord}
-use Rattle.model.specs.Files.{edgeRecords, ruleBytes}
+use Rattle.model.specs.Files.{numbers, sizesRecord, locationRecords, atomNumbers, edgeRecord}
+use Rattle.model.specs.Files.{edgeRecords, fileWith, ruleBytes}
 use Rattle.model.proofs.Logic.{and-both, In, here, there}
 use Rattle.model.proofs.Valid.{AtomIn, EdgeIn, Valid}
 use Rattle.model.proofs.Rising.{rising-below, rising-rest}
@@ -34,10 +34,6 @@ locations-bytes kind least l (x ∷ xs) a b h =
     all-below-append 256 (numbers (2 ∷ kind ∷ x ∷ [])) (locationRecords kind xs)
     (small-record kind x a (omega (arith, rising-below least l x xs h)))
     (locations-bytes kind (suc x) l xs a b (rising-rest least l x xs h))
-
-ceiling-bytes : (c : ℕ) → c ≤ 31 → allBelow 256 (ceilingRecord c) ≡ true
-ceiling-bytes zero h = refl
-ceiling-bytes (suc c) h = small-record 4 c (omega arith) (omega arith)
 
 atoms-small :
     (k : ℕ) (xs : List Atom) → k ≤ 4 → ((a : Atom) → In a xs → AtomIn k a) → allBelow 65536 (atomNumbers xs) ≡ true
@@ -81,17 +77,15 @@ module _ (r : Rule) (v : Valid r) where
       (all-below-more 65536 (r .clocks) [] (omega (arith, q .clocks-most)) refl)))
 
   pub valid-bytes : allBelow 256 (ruleBytes r) ≡ true
-  unfolding ruleBytes
+  unfolding fileWith ruleBytes
   valid-bytes =
       let l : r .locations ≤ 32 = v .sizes .locations-most in
       let edges-are : List ℕ = edgeRecords (r .edges) in
-      let from-ceiling : List ℕ = ceilingRecord (r .ceiling) ++ edges-are in
-      let from-final : List ℕ = locationRecords 3 (r .final) ++ from-ceiling in
+      let from-final : List ℕ = locationRecords 3 (r .final) ++ edges-are in
       let from-initial : List ℕ = locationRecords 2 (r .initial) ++ from-final in
       all-below-append 256 (sizesRecord r) from-initial sizes-bytes
       (all-below-append 256 (locationRecords 2 (r .initial)) from-final
       (locations-bytes 2 0 (r .locations) (r .initial) (omega arith) l (v .initial-rises))
-      (all-below-append 256 (locationRecords 3 (r .final)) from-ceiling
+      (all-below-append 256 (locationRecords 3 (r .final)) edges-are
       (locations-bytes 3 0 (r .locations) (r .final) (omega arith) l (v .final-rises))
-      (all-below-append 256 (ceilingRecord (r .ceiling)) edges-are (ceiling-bytes (r .ceiling) (v .ceiling-most))
-      (edges-bytes (r .edges) (v .edges-in)))))
+      (edges-bytes (r .edges) (v .edges-in))))

@@ -6,7 +6,7 @@ use Prim.Native.Nat.{ℕ, zero, suc, _+_, _*_, _≤_}
 use native.Mathlib.Omega.{arith}
 use lib.ListN.{length, length-append}
 use Rattle.model.specs.Rules.{Edge, Rule, rising, edgesOk}
-use Rattle.model.specs.Files.{locationRecords, ceilingRecord, edgeRecord, edgeRecords, ruleBytes}
+use Rattle.model.specs.Files.{locationRecords, edgeRecord, edgeRecords, fileWith, ruleBytes}
 use Rattle.model.proofs.Rising.{rising-least, rising-below, rising-rest}
 use Rattle.model.proofs.Valid.{sizes-of, Parts}
 use Rattle.model.proofs.ValidParts.{first-edge, other-edges}
@@ -15,10 +15,6 @@ use Rattle.model.proofs.FileRead.{edge-record-length}
 pub locations-length : (kind : ℕ) (xs : List ℕ) → length (locationRecords kind xs) ≡ 6 * length xs
 locations-length kind [] = refl
 locations-length kind (x ∷ xs) = omega (arith, locations-length kind xs)
-
-pub ceiling-length : (c : ℕ) → length (ceilingRecord c) ≤ 6
-ceiling-length zero = omega arith
-ceiling-length (suc c) = omega arith
 
 -- an edge's record has at most 60 bytes
 pub edges-length-most : (r : Rule) (es : List Edge) → edgesOk r es ≡ true → length (edgeRecords es) ≤ 60 * length es
@@ -42,22 +38,19 @@ rising-length l xs q = omega (arith, rising-count 0 l xs (omega arith) q)
 pub file-length :
     (r : Rule)
     → length (ruleBytes r)
-    ≡ 10 + 6 * length (r .initial) + 6 * length (r .final) + length (ceilingRecord (r .ceiling))
-    + length (edgeRecords (r .edges))
-unfolding ruleBytes
+    ≡ 10 + 6 * length (r .initial) + 6 * length (r .final) + length (edgeRecords (r .edges))
+unfolding fileWith ruleBytes
 file-length r =
     let edges-are : List ℕ = edgeRecords (r .edges) in
-    let from-ceiling : List ℕ = ceilingRecord (r .ceiling) ++ edges-are in
-    let from-final : List ℕ = locationRecords 3 (r .final) ++ from-ceiling in
+    let from-final : List ℕ = locationRecords 3 (r .final) ++ edges-are in
     let i = length-append (locationRecords 2 (r .initial)) from-final in
-    let f = length-append (locationRecords 3 (r .final)) from-ceiling in
-    let c = length-append (ceilingRecord (r .ceiling)) edges-are in
-    omega (arith, i, f, c, locations-length 2 (r .initial), locations-length 3 (r .final))
+    let f = length-append (locationRecords 3 (r .final)) edges-are in
+    omega (arith, i, f, locations-length 2 (r .initial), locations-length 3 (r .final))
 
-pub file-length-most : (r : Rule) → Parts r → length (ruleBytes r) ≤ 15760
+pub file-length-most : (r : Rule) → Parts r → length (ruleBytes r) ≤ 15754
 file-length-most r v =
     let l : r .locations ≤ 32 = sizes-of (r .locations) (r .symbols) (r .clocks) (v .sizes) .locations-most in
     let i = rising-length (r .locations) (r .initial) (v .initial-rises) in
     let f = rising-length (r .locations) (r .final) (v .final-rises) in
     let e = edges-length-most r (r .edges) (v .edges-ok) in
-    omega (arith, file-length r, ceiling-length (r .ceiling), v .edges-most)
+    omega (arith, file-length r, v .edges-most)

@@ -1,4 +1,5 @@
--- The file of a valid rule is accepted and spells that rule: its records are read one after another, each a step.
+-- The file of a valid rule, with or without a ceiling, is accepted and spells that rule: its records are read one after
+-- another, each a step.
 use mathlib.Core.Path.{_≡_, refl, _∙_, ap}
 use mathlib.Core.Bool.{true}
 use mathlib.Core.List.{List, [], _∷_, _++_, append-nil}
@@ -6,12 +7,14 @@ use Prim.Native.Nat.{ℕ, zero, suc, _+_, _-_, _*_, _/_, _≤_, _<_}
 use native.Mathlib.Omega.{arith}
 use lib.ListN.{length, length-append}
 use lib.Seq.{append-snoc, drop-at}
-use Rattle.model.specs.Rules.{Atom, Edge, Rule, rule, pairCount, mostPairs, mostEdges, sizesOk, edgeOk}
-use Rattle.model.specs.Rules.{integerReset, rising, edgesOk}
+use borrow.Author.Tests.{leb-true}
+use Rattle.model.specs.Rules.{Atom, Edge, Rule, rule, pairCount, mostPairs, mostEdges, mostConstant, sizesOk}
+use Rattle.model.specs.Rules.{edgeOk, integerReset, rising, edgesOk, validRule}
 use Rattle.model.specs.Files.{numberAt, recordHead, atomsFrom, edgeFrom, pastLast, noRule, withInitial}
-use Rattle.model.specs.Files.{withFinal, withCeiling, withEdge, withRecord, Spelt, readRule, numbers}
-use Rattle.model.specs.Files.{locationRecords, ceilingRecord, atomNumbers, edgeRecord, edgeRecords, ruleBytes}
-use Rattle.model.specs.Demands.{Valid-is-spelt}
+use Rattle.model.specs.Files.{withFinal, withEdge, withRecord, Spelt, readRule, numbers, locationRecords}
+use Rattle.model.specs.Files.{ceilingRecord, atomNumbers, edgeRecord, edgeRecords, fileWith, ruleBytes}
+use Rattle.model.specs.Files.{ceilingBytes}
+use Rattle.model.specs.Demands.{Read-back, Valid-is-spelt, Ceiling-is-dropped}
 use Rattle.model.proofs.Rising.{rising-least, rising-below, rising-rest}
 use Rattle.model.proofs.Valid.{sizes-of, Parts, valid-parts, valid-pairs}
 use Rattle.model.proofs.ValidParts.{Edge-ok, first-edge, other-edges, same-sizes, past-last}
@@ -78,15 +81,21 @@ edge-step p last r e rest h b room ok =
     ∙ ap (λ (f : Edge). readOn (p + (recordHead + n)) 5 (withEdge r f) rest) back
 
 pub ceiling-step :
-    (p last : ℕ) (r : Rule) (c : ℕ) (rest : List ℕ) → 1 ≤ r .locations → last ≤ 4 → r .ceiling ≡ 0 → c ≤ 30
-    → readOn p last r (numbers (2 ∷ 4 ∷ c ∷ []) ++ rest) ≡ readOn (p + 6) 4 (withCeiling r c) rest
+    (p last : ℕ) (r : Rule) (c : ℕ) (rest : List ℕ) → 1 ≤ r .locations → last ≤ 3 → c ≤ mostConstant
+    → readOn p last r (ceilingRecord c ++ rest) ≡ readOn (p + 6) 4 r rest
 unfolding withRecord
-ceiling-step p last r c rest h b none top =
-    let x : numberAt 0 (numbers (c ∷ []) ++ rest) ≡ c = two-back c in
-    read-record p last r (numbers (2 ∷ 4 ∷ c ∷ []) ++ rest) 4 2 (numbers (c ∷ []) ++ rest) rest refl refl refl refl
+ceiling-step p last r c rest h b most =
+    let back : numberAt 0 (numbers (c ∷ []) ++ rest) ≡ c = two-back c in
+    read-record p last r (ceilingRecord c ++ rest) 4 2 (numbers (c ∷ []) ++ rest) rest refl refl refl refl
     (omega arith)
-    (ceiling refl (record { length-is = refl; sizes-seen = h; no-fall = b; none-yet = none; in-range = rw x top }))
-    ∙ ap (λ (y : ℕ). readOn (p + 6) 4 (withCeiling r y) rest) x
+    (ceiling refl
+    (record {
+      length-is = refl;
+      sizes-seen = h;
+      no-fall = omega arith;
+      none-yet = λ e. omega arith;
+      in-range = rw back most;
+    }))
 
 pub final-step :
     (p last : ℕ) (r : Rule) (x : ℕ) (rest : List ℕ) → 1 ≤ r .locations → last ≤ 3 → pastLast (r .final) ≤ x
@@ -116,7 +125,7 @@ initial-step p last r x rest h b past below =
 
 pub sizes-step :
     (p last : ℕ) (r : Rule) (l s k : ℕ) (rest : List ℕ) → r .locations ≡ 0 → sizesOk l s k ≡ true
-    → readOn p last r (numbers (6 ∷ 1 ∷ l ∷ s ∷ k ∷ []) ++ rest) ≡ readOn (p + 10) 1 (rule l s k [] [] 0 []) rest
+    → readOn p last r (numbers (6 ∷ 1 ∷ l ∷ s ∷ k ∷ []) ++ rest) ≡ readOn (p + 10) 1 (rule l s k [] [] []) rest
 unfolding withRecord
 sizes-step p last r l s k rest none ok =
     read-record p last r (numbers (6 ∷ 1 ∷ l ∷ s ∷ k ∷ []) ++ rest) 1 6 (numbers (l ∷ s ∷ k ∷ []) ++ rest) rest
@@ -128,30 +137,30 @@ sizes-step p last r l s k rest none ok =
 
 -- All records of a kind.
 edges-read :
-    (l s k : ℕ) (i f : List ℕ) (c : ℕ) (done todo : List Edge) (whole : Rule) → 1 ≤ l
+    (l s k : ℕ) (i f : List ℕ) (done todo : List Edge) (whole : Rule) → 1 ≤ l
     → length done + length todo ≤ mostEdges
-    → edgesOk (rule l s k i f c done) todo ≡ true
-    → Reads 5 (rule l s k i f c (done ++ todo)) [] whole
-    → Reads 5 (rule l s k i f c done) (edgeRecords todo) whole
+    → edgesOk (rule l s k i f done) todo ≡ true
+    → Reads 5 (rule l s k i f (done ++ todo)) [] whole
+    → Reads 5 (rule l s k i f done) (edgeRecords todo) whole
 unfolding edgeRecords
-edges-read l s k i f c done [] whole h most ok rest p last b = rw (append-nil done) at (rest p last b)
-edges-read l s k i f c done (e ∷ todo) whole h most ok rest p last b =
-    edge-step p last (rule l s k i f c done) e (edgeRecords todo) h b (omega arith)
-    (first-edge (rule l s k i f c done) e todo ok)
-    ∙ edges-read l s k i f c (done ++ (e ∷ [])) todo whole h
+edges-read l s k i f done [] whole h most ok rest p last b = rw (append-nil done) at (rest p last b)
+edges-read l s k i f done (e ∷ todo) whole h most ok rest p last b =
+    edge-step p last (rule l s k i f done) e (edgeRecords todo) h b (omega arith)
+    (first-edge (rule l s k i f done) e todo ok)
+    ∙ edges-read l s k i f (done ++ (e ∷ [])) todo whole h
     (omega (arith, length-append done (e ∷ [])))
-    (same-sizes (rule l s k i f c (done ++ (e ∷ []))) (rule l s k i f c done) todo refl refl refl
-    ∙ other-edges (rule l s k i f c done) e todo ok)
+    (same-sizes (rule l s k i f (done ++ (e ∷ []))) (rule l s k i f done) todo refl refl refl
+    ∙ other-edges (rule l s k i f done) e todo ok)
     (rw append-snoc rest)
     (p + (recordHead + (8 + 6 * length (e .atoms)))) 5 (omega arith)
 
 finals-read :
     (l s k : ℕ) (i done todo rest : List ℕ) (whole : Rule) → 1 ≤ l → rising (pastLast done) l todo ≡ true
-    → Reads 3 (rule l s k i (done ++ todo) 0 []) rest whole
-    → Reads 3 (rule l s k i done 0 []) (locationRecords 3 todo ++ rest) whole
+    → Reads 3 (rule l s k i (done ++ todo) []) rest whole
+    → Reads 3 (rule l s k i done []) (locationRecords 3 todo ++ rest) whole
 finals-read l s k i done [] rest whole h q after p last b = rw (append-nil done) at (after p last b)
 finals-read l s k i done (x ∷ todo) rest whole h q after p last b =
-    final-step p last (rule l s k i done 0 []) x (locationRecords 3 todo ++ rest) h b
+    final-step p last (rule l s k i done []) x (locationRecords 3 todo ++ rest) h b
     (rising-least (pastLast done) l x todo q) (rising-below (pastLast done) l x todo q)
     ∙ finals-read l s k i (done ++ (x ∷ [])) todo rest whole h
     (rw (past-last done x) (rising-rest (pastLast done) l x todo q))
@@ -160,30 +169,30 @@ finals-read l s k i done (x ∷ todo) rest whole h q after p last b =
 
 initials-read :
     (l s k : ℕ) (done todo rest : List ℕ) (whole : Rule) → 1 ≤ l → rising (pastLast done) l todo ≡ true
-    → Reads 2 (rule l s k (done ++ todo) [] 0 []) rest whole
-    → Reads 2 (rule l s k done [] 0 []) (locationRecords 2 todo ++ rest) whole
+    → Reads 2 (rule l s k (done ++ todo) [] []) rest whole
+    → Reads 2 (rule l s k done [] []) (locationRecords 2 todo ++ rest) whole
 initials-read l s k done [] rest whole h q after p last b = rw (append-nil done) at (after p last b)
 initials-read l s k done (x ∷ todo) rest whole h q after p last b =
-    initial-step p last (rule l s k done [] 0 []) x (locationRecords 2 todo ++ rest) h b
+    initial-step p last (rule l s k done [] []) x (locationRecords 2 todo ++ rest) h b
     (rising-least (pastLast done) l x todo q) (rising-below (pastLast done) l x todo q)
     ∙ initials-read l s k (done ++ (x ∷ [])) todo rest whole h
     (rw (past-last done x) (rising-rest (pastLast done) l x todo q))
     (rw append-snoc after)
     (p + 6) 2 (omega arith)
 
-ceiling-read :
-    (l s k : ℕ) (i f : List ℕ) (c : ℕ) (rest : List ℕ) (whole : Rule) → 1 ≤ l → c ≤ 31
-    → Reads 5 (rule l s k i f c []) rest whole
-    → Reads 3 (rule l s k i f 0 []) (ceilingRecord c ++ rest) whole
-ceiling-read l s k i f zero rest whole h top after p last b = after p last (omega arith)
-ceiling-read l s k i f (suc c) rest whole h top after p last b =
-    ceiling-step p last (rule l s k i f 0 []) c rest h (omega arith) refl (omega arith)
-    ∙ after (p + 6) 4 (omega arith)
+-- The whole file, where what stands between locations and edges leaves the rule as it is.
+abbrev no-edges-yet : Rule → Rule
+no-edges-yet r = rule (r .locations) (r .symbols) (r .clocks) (r .initial) (r .final) []
 
--- The whole file.
-file-reads : (r : Rule) → Parts r → pairCount r ≤ mostPairs → readOn 0 0 noRule (ruleBytes r) ≡ spelt r
-unfolding ruleBytes
-file-reads r v few =
+abbrev Passes : List ℕ → Rule → Type 0
+Passes between r =
+    Reads 5 (no-edges-yet r) (edgeRecords (r .edges)) r → Reads 3 (no-edges-yet r) (between ++ edgeRecords (r .edges)) r
+
+file-reads :
+    (between : List ℕ) (r : Rule) → Passes between r → Parts r → pairCount r ≤ mostPairs
+    → readOn 0 0 noRule (fileWith between r) ≡ spelt r
+unfolding fileWith
+file-reads between r passed v few =
     let l : ℕ = r .locations in
     let s : ℕ = r .symbols in
     let k : ℕ = r .clocks in
@@ -191,15 +200,30 @@ file-reads r v few =
     sizes-step 0 0 noRule l s k _ refl (v .sizes)
     ∙ initials-read l s k [] (r .initial) _ r h (v .initial-rises)
     (λ p last b. finals-read l s k (r .initial) [] (r .final) _ r h (v .final-rises)
-    (ceiling-read l s k (r .initial) (r .final) (r .ceiling) (edgeRecords (r .edges)) r h (v .ceiling-most)
-    (edges-read l s k (r .initial) (r .final) (r .ceiling) [] (r .edges) r h (omega (arith, v .edges-most))
-    (same-sizes (rule l s k (r .initial) (r .final) (r .ceiling) []) r (r .edges) refl refl refl ∙ v .edges-ok)
+    (passed
+    (edges-read l s k (r .initial) (r .final) [] (r .edges) r h (omega (arith, v .edges-most))
+    (same-sizes (no-edges-yet r) r (r .edges) refl refl refl ∙ v .edges-ok)
     (end-reads r h few)))
     p last (omega arith))
     10 1 (omega arith)
 
-pub valid-is-spelt : Valid-is-spelt
-valid-is-spelt r h =
-    let e : readRule (ruleBytes r) ≡ spelt r =
-    read-all (ruleBytes r) ∙ file-reads r (valid-parts r h) (valid-pairs r h) in
+read-back :
+    (between : List ℕ) (r : Rule) → Passes between r → validRule r ≡ true → Read-back r (fileWith between r)
+read-back between r passed h =
+    let e : readRule (fileWith between r) ≡ spelt r =
+    read-all (fileWith between r) ∙ file-reads between r passed (valid-parts r h) (valid-pairs r h) in
     record { accepted = ap (λ (x : Spelt). x .refused) e; spells = ap (λ (x : Spelt). x .rule-is) e }
+
+pub valid-is-spelt : Valid-is-spelt
+unfolding ruleBytes
+valid-is-spelt r h = read-back [] r (λ edges p last b. edges p last (omega arith)) h
+
+pub ceiling-is-dropped : Ceiling-is-dropped
+unfolding ceilingBytes
+ceiling-is-dropped r c h top =
+    let sized = sizes-of (r .locations) (r .symbols) (r .clocks) (valid-parts r h .sizes) in
+    let most : c ≤ mostConstant = leb-true c mostConstant top in
+    read-back (ceilingRecord c) r
+    (λ edges p last b. ceiling-step p last (no-edges-yet r) c (edgeRecords (r .edges)) (sized .locations-least) b most
+    ∙ edges (p + 6) 4 (omega arith))
+    h

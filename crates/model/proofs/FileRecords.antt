@@ -34,7 +34,7 @@ pub record Ceiling-allowed (last : ℕ) (r : Rule) (n : ℕ) (body : List ℕ) :
   pub length-is : n ≡ 2
   pub sizes-seen : 1 ≤ r .locations
   pub no-fall : last ≤ 4
-  pub none-yet : r .ceiling ≡ 0
+  pub none-yet : last ≡ 4 → ⊥
   pub in-range : numberAt 0 body ≤ 30
 
 -- kind 5: an edge
@@ -96,7 +96,7 @@ sizes-by last r n body h = record {
 record Ordered (last kind : ℕ) (r : Rule) (body : List ℕ) : Type 0 where
   sizes-seen : 1 ≤ r .locations
   no-fall : last ≤ kind
-  one-ceiling : (eqb kind 4 && leb 1 (r .ceiling)) ≡ false
+  one-ceiling : (eqb kind 4 && eqb last 4) ≡ false
   initial-rises : (eqb kind 2 && ltb (numberAt 0 body) (pastLast (r .initial))) ≡ false
   final-rises : (eqb kind 3 && ltb (numberAt 0 body) (pastLast (r .final))) ≡ false
 
@@ -107,7 +107,7 @@ ordered last kind r body p h =
     let one : eqb kind 1 ≡ false = ne-eqb kind 1 (omega arith) in
     let a : Bool = not (seenSizes r) in
     let b : Bool = ltb kind last in
-    let c : Bool = eqb kind 4 && leb 1 (r .ceiling) in
+    let c : Bool = eqb kind 4 && eqb last 4 in
     let d : Bool = eqb kind 2 && ltb (numberAt 0 body) (pastLast (r .initial)) in
     let e : Bool = eqb kind 3 && ltb (numberAt 0 body) (pastLast (r .final)) in
     let all : (a || b || c || d || e) ≡ false = rw one at h in
@@ -175,7 +175,7 @@ ceiling-by last r n body h =
       length-is = eqb-true n 2 (h .of-length);
       sizes-seen = o .sizes-seen;
       no-fall = o .no-fall;
-      none-yet = omega (arith, leb-false 1 (r .ceiling) (o .one-ceiling));
+      none-yet = eqb-false last 4 (o .one-ceiling);
       in-range = ltb-false 30 (numberAt 0 body) (q .ceiling-most);
     }
 
@@ -251,7 +251,7 @@ final-pass last r n body h =
 ceiling-pass : (last : ℕ) (r : Rule) (n : ℕ) (body : List ℕ) → Ceiling-allowed last r n body → Passed last r 4 n body
 ceiling-pass last r n body h = record {
   of-length = eq-eqb n 2 (h .length-is);
-  in-order = rw (le-leb 1 (r .locations) (h .sizes-seen), le-ltb 4 last (h .no-fall), h .none-yet);
+  in-order = rw (le-leb 1 (r .locations) (h .sizes-seen), le-ltb 4 last (h .no-fall), ne-eqb last 4 (h .none-yet));
   not-too-many = refl;
   good-sizes = refl;
   in-range = rw (le-ltb 30 (numberAt 0 body) (h .in-range));

@@ -7,7 +7,7 @@ use Prim.Native.Nat.{ℕ, zero, suc, _-_, _/_, _≤_}
 use native.Mathlib.Omega.{arith}
 use lib.ListN.{length, drop, length-append}
 use Rattle.model.specs.Rules.{Edge, Rule, edgesOk}
-use Rattle.model.specs.Files.{numberAt, atomsFrom, edgeFrom, withSizes, withInitial, withFinal, withCeiling}
+use Rattle.model.specs.Files.{numberAt, atomsFrom, edgeFrom, withSizes, withInitial, withFinal}
 use Rattle.model.specs.Files.{withEdge, withRecord}
 use Rattle.model.proofs.Valid.{sizes-of, Parts}
 use Rattle.model.proofs.ValidParts.{same-sizes, edge-last, rising-last}
@@ -17,7 +17,6 @@ use Rattle.model.proofs.FileRecords.{sizes, initial, final, ceiling, ed
 pub record So-far (last : ℕ) (r : Rule) : Type 0 where
   pub parts : Parts r
   pub no-final : last ≤ 2 → r .final ≡ []
-  pub no-ceiling : last ≤ 3 → r .ceiling ≡ 0
   pub no-edges : last ≤ 4 → r .edges ≡ []
 
 -- after the sizes
@@ -27,12 +26,10 @@ sizes-so-far r n body a = record {
     sizes = a .in-range;
     initial-rises = refl;
     final-rises = refl;
-    ceiling-most = omega arith;
     edges-most = omega arith;
     edges-ok = refl;
   };
   no-final = λ b. refl;
-  no-ceiling = λ b. refl;
   no-edges = λ b. refl;
 }
 
@@ -58,12 +55,10 @@ module _ (last : ℕ) (r : Rule) (was : So-far last r) where
           initial-rises =
               rising-last (r .locations) (r .initial) x (was .parts .initial-rises) (a .rises) (a .in-range);
           final-rises = was .parts .final-rises;
-          ceiling-most = was .parts .ceiling-most;
           edges-most = was .parts .edges-most;
           edges-ok = edges-still (withInitial r x) refl refl refl;
         };
         no-final = λ b. was .no-final (a .no-fall);
-        no-ceiling = λ b. was .no-ceiling (omega (arith, a .no-fall));
         no-edges = λ b. was .no-edges (omega (arith, a .no-fall));
       }
 
@@ -76,32 +71,20 @@ module _ (last : ℕ) (r : Rule) (was : So-far last r) where
           sizes = was .parts .sizes;
           initial-rises = was .parts .initial-rises;
           final-rises = rising-last (r .locations) (r .final) x (was .parts .final-rises) (a .rises) (a .in-range);
-          ceiling-most = was .parts .ceiling-most;
           edges-most = was .parts .edges-most;
           edges-ok = edges-still (withFinal r x) refl refl refl;
         };
         no-final = λ b. absurd (omega arith);
-        no-ceiling = λ b. was .no-ceiling (a .no-fall);
         no-edges = λ b. was .no-edges (omega (arith, a .no-fall));
       }
 
-  ceiling-so-far :
-      (n : ℕ) (body : List ℕ) → Ceiling-allowed last r n body → So-far 4 (withCeiling r (numberAt 0 body))
-  ceiling-so-far n body a =
-      let x : ℕ = numberAt 0 body in
-      record {
-        parts = record {
-          sizes = was .parts .sizes;
-          initial-rises = was .parts .initial-rises;
-          final-rises = was .parts .final-rises;
-          ceiling-most = omega (arith, a .in-range);
-          edges-most = was .parts .edges-most;
-          edges-ok = edges-still (withCeiling r x) refl refl refl;
-        };
-        no-final = λ b. absurd (omega arith);
-        no-ceiling = λ b. absurd (omega arith);
-        no-edges = λ b. was .no-edges (a .no-fall);
-      }
+  -- a ceiling is dropped
+  ceiling-so-far : (n : ℕ) (body : List ℕ) → Ceiling-allowed last r n body → So-far 4 r
+  ceiling-so-far n body a = record {
+    parts = was .parts;
+    no-final = λ b. absurd (omega arith);
+    no-edges = λ b. was .no-edges (a .no-fall);
+  }
 
   edge-so-far :
       (n : ℕ) (body : List ℕ) → Edge-allowed last r n body → So-far 5 (withEdge r (edgeFrom n body))
@@ -112,7 +95,6 @@ module _ (last : ℕ) (r : Rule) (was : So-far last r) where
           sizes = was .parts .sizes;
           initial-rises = was .parts .initial-rises;
           final-rises = was .parts .final-rises;
-          ceiling-most = was .parts .ceiling-most;
           edges-most = omega (arith, length-append (r .edges) (e ∷ []), a .room);
           edges-ok = edge-last (withEdge r e) (r .edges) e (edges-still (withEdge r e) refl refl refl) (record {
             in-range = a .in-range;
@@ -121,7 +103,6 @@ module _ (last : ℕ) (r : Rule) (was : So-far last r) where
           });
         };
         no-final = λ b. absurd (omega arith);
-        no-ceiling = λ b. absurd (omega arith);
         no-edges = λ b. absurd (omega arith);
       }
 

@@ -1,4 +1,4 @@
--- An accepted file spells a valid rule, and that rule's file has the same bytes.
+-- An accepted file spells a valid rule, and is that rule's file, without a ceiling or with one.
 use mathlib.Core.Path.{_≡_, refl, sym, _∙_, ap}
 use mathlib.Core.Bool.{true, false, not}
 use mathlib.Core.List.{List, [], _∷_, _++_, append-nil, append-assoc}
@@ -6,13 +6,15 @@ use Prim.Native.Nat.{ℕ, _+_, _-_, _*_, _/_, _≤_}
 use native.Mathlib.Omega.{arith}
 use lib.Dec.{ltb}
 use lib.ListN.{length, drop}
-use borrow.Author.Tests.{ltb-false, leb-true, not-false}
+use borrow.Author.Tests.{ltb-false, leb-true, le-leb, not-false}
 use Rattle.model.specs.Basics.{allBelow, fine, refuse, Refusal}
-use Rattle.model.specs.Rules.{Edge, Rule, pairCount, mostPairs, validRule}
+use Rattle.model.specs.Rules.{Edge, Rule, pairCount, mostPairs, mostConstant, validRule}
 use Rattle.model.specs.Files.{numberAt, bodyLength, kindOf, bodyOf, edgeFrom, noRule, seenSizes, withSizes}
-use Rattle.model.specs.Files.{withInitial, withFinal, withCeiling, withEdge, withRecord, atEnd, readRule}
-use Rattle.model.specs.Files.{numbers, atomNumbers, edgeRecord, edgeRecords, ruleBytes}
-use Rattle.model.specs.Demands.{Spells-valid, Same-bytes}
+use Rattle.model.specs.Files.{withInitial, withFinal, withEdge, withRecord, atEnd, readRule, numbers}
+use Rattle.model.specs.Files.{ceilingRecord, atomNumbers, edgeRecord, edgeRecords, fileWith, ruleBytes}
+use Rattle.model.specs.Files.{ceilingBytes, lessCeiling, hasCeiling}
+use Rattle.model.specs.Demands.{Same-bytes, Spells-valid, Writing, plain, ceiled, Only-written}
+use Rattle.model.proofs.Logic.{no-way}
 use Rattle.model.proofs.Refusals.{refused-false, first-passes, then-passes}
 use Rattle.model.proofs.ValidParts.{parts-valid}
 use Rattle.model.proofs.Bytes.{numbersOf, all-below-drop}
@@ -21,9 +23,10 @@ use Rattle.model.proofs.FileRecords.{Sizes-allowed, Edge-allowed, Allow
 use Rattle.model.proofs.FileChecks.{Record-allowed, record-allowed}
 use Rattle.model.proofs.FileWrites.{writes-initial, writes-final, writes-ceiling, writes-edge, three-numbers}
 use Rattle.model.proofs.FileWrites.{four-numbers, atoms-numbers, record-again}
+use Rattle.model.proofs.FileLess.{less-plain, less-ceiled, plain-has-none, ceiled-has-one}
 use Rattle.model.proofs.FileSoFar.{So-far, sizes-so-far, atoms-from-length, sizes-once, record-so-far}
 
--- The file so far and the bytes left are, before and after a record, the same bytes.
+-- new bytes are old ones and a part, which stands before the rest
 joined :
     (new old part rest s : List ℕ) → new ≡ old ++ part → part ++ rest ≡ s → new ++ rest ≡ old ++ s
 joined new old part rest s p q = rw p (append-assoc old part rest ∙ ap (λ (l : List ℕ). old ++ l) q)
@@ -59,53 +62,101 @@ edge-again last r s b whole k a =
 after-kind : (r : Rule) (s : List ℕ) (k : ℕ) → kindOf s ≡ k → ruleAfter r s ≡ withRecord r k (bodyLength s) (bodyOf s)
 after-kind r s k e = ap (λ (j : ℕ). withRecord r j (bodyLength s) (bodyOf s)) e
 
--- before and after a record past the sizes
-module _ (last : ℕ) (r : Rule) (was : So-far last r) (s : List ℕ) (b : allBelow 256 s ≡ true) where
-  adds : (q : Rule) (part : List ℕ) → ruleAfter r s ≡ q → ruleBytes q ≡ ruleBytes r ++ part → part ++ bytesAfter s ≡ s
-      → ruleBytes (ruleAfter r s) ++ bytesAfter s ≡ ruleBytes r ++ s
-  adds q part e p same =
-      joined (ruleBytes (ruleAfter r s)) (ruleBytes r) part (bytesAfter s) s (ap ruleBytes e ∙ p) same
+-- What may stand between locations and edges of a file once a record of kind `last` has been read: nothing or, from
+-- kind 4 on, a ceiling.
+data Between (last : ℕ) (between : List ℕ) : Type 0 where
+  nothing : between ≡ [] → Between last between
+  one : (c : ℕ) → 4 ≤ last → c ≤ mostConstant → between ≡ ceilingRecord c → Between last between
 
-  record-same-bytes :
-      recordLength s ≤ length s → Allowed last r (kindOf s) (bodyLength s) (bodyOf s)
-      → ruleBytes (ruleAfter r s) ++ bytesAfter s ≡ ruleBytes r ++ s
-  unfolding withRecord
-  record-same-bytes whole (sizes e a) = absurd (sizes-once last r was (bodyLength s) (bodyOf s) a)
-  record-same-bytes whole (initial e a) =
-      let x : ℕ = numberAt 0 (bodyOf s) in
-      adds (withInitial r x) (numbers (2 ∷ 2 ∷ x ∷ [])) (after-kind r s 2 e)
-      (writes-initial r x (was .no-final (a .no-fall)) (was .no-ceiling (omega (arith, a .no-fall)))
-      (was .no-edges (omega (arith, a .no-fall))))
-      (one-number s 2 b whole (a .length-is) e)
-  record-same-bytes whole (final e a) =
-      let x : ℕ = numberAt 0 (bodyOf s) in
-      adds (withFinal r x) (numbers (2 ∷ 3 ∷ x ∷ [])) (after-kind r s 3 e)
-      (writes-final r x (was .no-ceiling (a .no-fall)) (was .no-edges (omega (arith, a .no-fall))))
-      (one-number s 3 b whole (a .length-is) e)
-  record-same-bytes whole (ceiling e a) =
-      let x : ℕ = numberAt 0 (bodyOf s) in
-      adds (withCeiling r x) (numbers (2 ∷ 4 ∷ x ∷ [])) (after-kind r s 4 e)
-      (writes-ceiling r x (a .none-yet) (was .no-edges (a .no-fall)))
-      (one-number s 4 b whole (a .length-is) e)
-  record-same-bytes whole (edge e a) =
-      let f : Edge = edgeFrom (bodyLength s) (bodyOf s) in
-      adds (withEdge r f) (edgeRecord f) (after-kind r s 5 e) (writes-edge r f) (edge-again last r s b whole e a)
+nothing-yet : (last : ℕ) (between : List ℕ) → Between last between → last ≤ 3 → between ≡ []
+nothing-yet last between (nothing e) h = e
+nothing-yet last between (one c seen most e) h = absurd (omega arith)
+
+still-between : (last kind : ℕ) (between : List ℕ) → 4 ≤ kind → Between last between → Between kind between
+still-between last kind between h (nothing e) = nothing e
+still-between last kind between h (one c seen most e) = one c h most e
+
+-- The file so far and the bytes left are, before and after a record, the same bytes.
+record Read-past (r : Rule) (between s : List ℕ) : Type 0 where
+  now-between : List ℕ
+  may-stand : Between (kindOf s) now-between
+  same : fileWith now-between (ruleAfter r s) ++ bytesAfter s ≡ fileWith between r ++ s
+
+-- a record past the sizes
+module _
+    (last : ℕ) (r : Rule) (was : So-far last r) (between : List ℕ) (stands : Between last between) (s : List ℕ)
+    (b : allBelow 256 s ≡ true)
+  where
+    adds :
+        (after : List ℕ) (q : Rule) (part : List ℕ) → ruleAfter r s ≡ q → fileWith after q ≡ fileWith between r ++ part
+        → part ++ bytesAfter s ≡ s
+        → fileWith after (ruleAfter r s) ++ bytesAfter s ≡ fileWith between r ++ s
+    adds after q part e p same =
+        joined (fileWith after (ruleAfter r s)) (fileWith between r) part (bytesAfter s) s (ap (fileWith after) e ∙ p)
+        same
+
+    record-read-past :
+        recordLength s ≤ length s → Allowed last r (kindOf s) (bodyLength s) (bodyOf s) → Read-past r between s
+    unfolding withRecord
+    record-read-past whole (sizes e a) = absurd (sizes-once last r was (bodyLength s) (bodyOf s) a)
+    record-read-past whole (initial e a) =
+        let x : ℕ = numberAt 0 (bodyOf s) in
+        let none : between ≡ [] = nothing-yet last between stands (omega (arith, a .no-fall)) in
+        record {
+          now-between = [];
+          may-stand = nothing refl;
+          same =
+              adds [] (withInitial r x) (numbers (2 ∷ 2 ∷ x ∷ [])) (after-kind r s 2 e)
+              (rw none (writes-initial r x (was .no-final (a .no-fall)) (was .no-edges (omega (arith, a .no-fall)))))
+              (one-number s 2 b whole (a .length-is) e);
+        }
+    record-read-past whole (final e a) =
+        let x : ℕ = numberAt 0 (bodyOf s) in
+        let none : between ≡ [] = nothing-yet last between stands (omega (arith, a .no-fall)) in
+        record {
+          now-between = [];
+          may-stand = nothing refl;
+          same =
+              adds [] (withFinal r x) (numbers (2 ∷ 3 ∷ x ∷ [])) (after-kind r s 3 e)
+              (rw none (writes-final r x (was .no-edges (omega (arith, a .no-fall)))))
+              (one-number s 3 b whole (a .length-is) e);
+        }
+    record-read-past whole (ceiling e a) =
+        let c : ℕ = numberAt 0 (bodyOf s) in
+        let none : between ≡ [] = nothing-yet last between stands (omega (arith, a .no-fall, a .none-yet)) in
+        record {
+          now-between = ceilingRecord c;
+          may-stand = one c (omega (arith, e)) (a .in-range) refl;
+          same =
+              adds (ceilingRecord c) r (ceilingRecord c) (after-kind r s 4 e)
+              (rw none (writes-ceiling r c (was .no-edges (a .no-fall))))
+              (one-number s 4 b whole (a .length-is) e);
+        }
+    record-read-past whole (edge e a) =
+        let f : Edge = edgeFrom (bodyLength s) (bodyOf s) in
+        record {
+          now-between = between;
+          may-stand = still-between last (kindOf s) between (omega (arith, e)) stands;
+          same =
+              adds between (withEdge r f) (edgeRecord f) (after-kind r s 5 e) (writes-edge r between f)
+              (edge-again last r s b whole e a);
+        }
 
 -- the sizes
 sizes-written :
     (body : List ℕ)
-    → ruleBytes (withSizes body) ≡ numbers (6 ∷ 1 ∷ numberAt 0 body ∷ numberAt 1 body ∷ numberAt 2 body ∷ [])
-unfolding ruleBytes edgeRecords
+    → fileWith [] (withSizes body) ≡ numbers (6 ∷ 1 ∷ numberAt 0 body ∷ numberAt 1 body ∷ numberAt 2 body ∷ [])
+unfolding fileWith edgeRecords
 sizes-written body = refl
 
 sizes-same-bytes :
     (r : Rule) (s : List ℕ) → allBelow 256 s ≡ true → recordLength s ≤ length s → kindOf s ≡ 1
     → Sizes-allowed r (bodyLength s) (bodyOf s)
-    → ruleBytes (ruleAfter r s) ++ bytesAfter s ≡ s
+    → fileWith [] (ruleAfter r s) ++ bytesAfter s ≡ s
 unfolding withRecord
 sizes-same-bytes r s b whole e a =
     let vs : List ℕ = numberAt 0 (bodyOf s) ∷ numberAt 1 (bodyOf s) ∷ numberAt 2 (bodyOf s) ∷ [] in
-    ap (λ (l : List ℕ). l ++ bytesAfter s) (ap ruleBytes (after-kind r s 1 e) ∙ sizes-written (bodyOf s))
+    ap (λ (l : List ℕ). l ++ bytesAfter s) (ap (fileWith []) (after-kind r s 1 e) ∙ sizes-written (bodyOf s))
     ∙ (ap (λ (n : ℕ). numbers (n ∷ 1 ∷ vs) ++ bytesAfter s) (sym (a .length-is))
     ∙ record-again s 3 1 vs b whole (a .length-is) e (three-numbers 0 (bodyOf s)))
 
@@ -151,14 +202,28 @@ valid-from (ended {r = r} e h few same) was = rw same (parts-valid r (was .parts
 valid-from (went-on {last = last} {r = r} {s = s} a rest) was =
     valid-from rest (record-so-far last r was (kindOf s) (bodyLength s) (bodyOf s) (a .allowed))
 
+-- the file of the whole rule, with what stands between its locations and its edges
+record File-of (whole : Rule) (file : List ℕ) : Type 0 where
+  between : List ℕ
+  stands : Between 5 between
+  same : fileWith between whole ≡ file
+
 bytes-from :
-    {whole : Rule} {last : ℕ} {r : Rule} {s : List ℕ} → Accepted whole last r s → So-far last r → allBelow 256 s ≡ true
-    → ruleBytes whole ≡ ruleBytes r ++ s
-bytes-from (ended {r = r} {s = s} e h few same) was b = ap ruleBytes same ∙ no-bytes (ruleBytes r) s e
-bytes-from (went-on {last = last} {r = r} {s = s} a rest) was b =
-    bytes-from rest (record-so-far last r was (kindOf s) (bodyLength s) (bodyOf s) (a .allowed))
-    (all-below-drop 256 (recordLength s) s b)
-    ∙ record-same-bytes last r was s b (a .whole) (a .allowed)
+    {whole : Rule} {last : ℕ} {r : Rule} {s : List ℕ} → Accepted whole last r s → So-far last r → (between : List ℕ)
+    → Between last between
+    → allBelow 256 s ≡ true
+    → File-of whole (fileWith between r ++ s)
+bytes-from (ended {last = last} {r = r} {s = s} e h few same) was between stands b = record {
+  between = between;
+  stands = still-between last 5 between (omega arith) stands;
+  same = ap (fileWith between) same ∙ no-bytes (fileWith between r) s e;
+}
+bytes-from (went-on {last = last} {r = r} {s = s} a rest) was between stands b =
+    let past : Read-past r between s = record-read-past last r was between stands s b (a .whole) (a .allowed) in
+    rw (past .same)
+    at (bytes-from rest (record-so-far last r was (kindOf s) (bodyLength s) (bodyOf s) (a .allowed))
+    (past .now-between) (past .may-stand)
+    (all-below-drop 256 (recordLength s) s b))
 
 -- from the start on: the first record has the sizes
 first-is-sizes :
@@ -186,13 +251,13 @@ valid-whole (went-on {last = last} {r = r} {s = s} a rest) none =
 bytes-whole :
     {whole : Rule} {last : ℕ} {r : Rule} {s : List ℕ} → Accepted whole last r s → r .locations ≡ 0
     → allBelow 256 s ≡ true
-    → ruleBytes whole ≡ s
+    → File-of whole s
 bytes-whole (ended e h few same) none b = absurd (omega arith)
 bytes-whole (went-on {last = last} {r = r} {s = s} a rest) none b =
     let first = first-is-sizes last r (kindOf s) (bodyLength s) (bodyOf s) none (a .allowed) in
-    bytes-from rest (first-so-far r (kindOf s) (bodyLength s) (bodyOf s) (first .0) (first .1))
-    (all-below-drop 256 (recordLength s) s b)
-    ∙ sizes-same-bytes r s b (a .whole) (first .0) (first .1)
+    rw (sizes-same-bytes r s b (a .whole) (first .0) (first .1))
+    at (bytes-from rest (first-so-far r (kindOf s) (bodyLength s) (bodyOf s) (first .0) (first .1)) [] (nothing refl)
+    (all-below-drop 256 (recordLength s) s b))
 
 file-accepted : (file : List ℕ) → readRule file .refused ≡ fine → Accepted (readRule file .rule-is) 0 noRule file
 file-accepted file h =
@@ -201,5 +266,34 @@ file-accepted file h =
 pub spells-valid : Spells-valid
 spells-valid file h = valid-whole (file-accepted file h) refl
 
+-- what it is by its bytes, and less its ceiling
+is-writing :
+    (r : Rule) (file between : List ℕ) → Between 5 between → fileWith between r ≡ file → Writing r file
+unfolding ruleBytes ceilingBytes
+is-writing r file between (nothing e) same =
+    let f : file ≡ ruleBytes r = sym same ∙ rw e in
+    plain (ap hasCeiling f ∙ plain-has-none r) f
+is-writing r file between (one c seen most e) same =
+    let f : file ≡ ceilingBytes c r = sym same ∙ rw e in
+    ceiled c (le-leb c mostConstant most) (ap hasCeiling f ∙ ceiled-has-one c r) f
+
+pub only-written : Only-written
+only-written file b h =
+    let whole : File-of (readRule file .rule-is) file = bytes-whole (file-accepted file h) refl b in
+    is-writing (readRule file .rule-is) file (whole .between) (whole .stands) (whole .same)
+
+less-writing : (r : Rule) (file : List ℕ) → Writing r file → ruleBytes r ≡ lessCeiling file
+less-writing r file (plain none f) = sym (less-plain r) ∙ ap lessCeiling (sym f)
+less-writing r file (ceiled c most has f) = sym (less-ceiled c r) ∙ ap lessCeiling (sym f)
+
+pub less-bytes :
+    (file : List ℕ) → allBelow 256 file ≡ true → readRule file .refused ≡ fine
+    → ruleBytes (readRule file .rule-is) ≡ lessCeiling file
+less-bytes file b h = less-writing (readRule file .rule-is) file (only-written file b h)
+
+same-writing : (r : Rule) (file : List ℕ) → Writing r file → hasCeiling file ≡ false → ruleBytes r ≡ file
+same-writing r file (plain none f) h = sym f
+same-writing r file (ceiled c most has f) h = no-way (sym h ∙ has)
+
 pub same-bytes : Same-bytes
-same-bytes file b h = bytes-whole (file-accepted file h) refl b
+same-bytes file b h none = same-writing (readRule file .rule-is) file (only-written file b h) none

@@ -10,8 +10,8 @@ use lib.Seq.{drop-drop}
 use Rattle.model.specs.Basics.{allBelow}
 use Rattle.model.specs.Rules.{Edge, Rule}
 use Rattle.model.specs.Files.{numberAt, recordHead, bodyLength, kindOf, bodyOf, atomsFrom, withInitial}
-use Rattle.model.specs.Files.{withFinal, withCeiling, withEdge, numbers, sizesRecord, locationRecords}
-use Rattle.model.specs.Files.{ceilingRecord, atomNumbers, edgeRecord, edgeRecords, ruleBytes}
+use Rattle.model.specs.Files.{withFinal, withEdge, numbers, sizesRecord, locationRecords, ceilingRecord}
+use Rattle.model.specs.Files.{atomNumbers, edgeRecord, edgeRecords, fileWith}
 use Rattle.model.proofs.Bytes.{number-later, numbersOf, numbers-back}
 
 -- records one after another
@@ -43,36 +43,35 @@ after-five a b c d e k = simp (append-nil, append-assoc)
 -- one record more, where nothing that stands behind it has been read
 module _ (r : Rule) where
   pub writes-initial :
-      (x : ℕ) → r .final ≡ [] → r .ceiling ≡ 0 → r .edges ≡ []
-      → ruleBytes (withInitial r x) ≡ ruleBytes r ++ numbers (2 ∷ 2 ∷ x ∷ [])
-  unfolding ruleBytes edgeRecords
-  writes-initial x f c e =
-      rw (f, c, e, locations-append 2 (r .initial) (x ∷ []))
+      (x : ℕ) → r .final ≡ [] → r .edges ≡ []
+      → fileWith [] (withInitial r x) ≡ fileWith [] r ++ numbers (2 ∷ 2 ∷ x ∷ [])
+  unfolding fileWith edgeRecords
+  writes-initial x f e =
+      rw (f, e, locations-append 2 (r .initial) (x ∷ []))
       (in-two (sizesRecord r) (locationRecords 2 (r .initial)) (numbers (2 ∷ 2 ∷ x ∷ [])))
 
   pub writes-final :
-      (x : ℕ) → r .ceiling ≡ 0 → r .edges ≡ []
-      → ruleBytes (withFinal r x) ≡ ruleBytes r ++ numbers (2 ∷ 3 ∷ x ∷ [])
-  unfolding ruleBytes edgeRecords
-  writes-final x c e =
+      (x : ℕ) → r .edges ≡ []
+      → fileWith [] (withFinal r x) ≡ fileWith [] r ++ numbers (2 ∷ 3 ∷ x ∷ [])
+  unfolding fileWith edgeRecords
+  writes-final x e =
       let k : List ℕ = numbers (2 ∷ 3 ∷ x ∷ []) in
-      rw (c, e, locations-append 3 (r .final) (x ∷ []))
+      rw (e, locations-append 3 (r .final) (x ∷ []))
       (in-three (sizesRecord r) (locationRecords 2 (r .initial)) (locationRecords 3 (r .final)) k)
 
-  pub writes-ceiling :
-      (x : ℕ) → r .ceiling ≡ 0 → r .edges ≡ []
-      → ruleBytes (withCeiling r x) ≡ ruleBytes r ++ numbers (2 ∷ 4 ∷ x ∷ [])
-  unfolding ruleBytes edgeRecords
-  writes-ceiling x c e =
-      let k : List ℕ = numbers (2 ∷ 4 ∷ x ∷ []) in
-      rw (c, e) (after-three (sizesRecord r) (locationRecords 2 (r .initial)) (locationRecords 3 (r .final)) k)
+  pub writes-ceiling : (c : ℕ) → r .edges ≡ [] → fileWith (ceilingRecord c) r ≡ fileWith [] r ++ ceilingRecord c
+  unfolding fileWith edgeRecords
+  writes-ceiling c e =
+      rw e
+      (after-three (sizesRecord r) (locationRecords 2 (r .initial)) (locationRecords 3 (r .final)) (ceilingRecord c))
 
-  pub writes-edge : (e : Edge) → ruleBytes (withEdge r e) ≡ ruleBytes r ++ edgeRecord e
-  unfolding ruleBytes edgeRecords
-  writes-edge e =
+  pub writes-edge :
+      (between : List ℕ) (e : Edge) → fileWith between (withEdge r e) ≡ fileWith between r ++ edgeRecord e
+  unfolding fileWith edgeRecords
+  writes-edge between e =
       rw (edges-append (r .edges) (e ∷ []))
-      (after-five (sizesRecord r) (locationRecords 2 (r .initial)) (locationRecords 3 (r .final))
-      (ceilingRecord (r .ceiling)) (edgeRecords (r .edges)) (edgeRecord e))
+      (after-five (sizesRecord r) (locationRecords 2 (r .initial)) (locationRecords 3 (r .final)) between
+      (edgeRecords (r .edges)) (edgeRecord e))
 
 -- the numbers of a record that was read
 pub head-numbers :

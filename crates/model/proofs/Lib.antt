@@ -77,6 +77,7 @@ pub mod FileChecks
 pub mod FileRead
 pub mod FileWrites
 pub mod FileSoFar
+pub mod FileLess
 pub mod FileSpelt
 pub mod FileBytes
 pub mod FileLengths

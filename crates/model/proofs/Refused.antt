@@ -12,7 +12,7 @@ use Rattle.model.specs.Files.{recordRefusal, withRecord, atEnd, readFrom
 use Rattle.model.specs.Construction.{codeOf, locationOf, basesOf, startRow, allows, rowResets, targetOf}
 use Rattle.model.specs.Construction.{nextRow, byIntervals, bySymbols, rowsFrom, rowsOf}
 use Rattle.model.specs.Tables.{rowRoom, fitRefusal, tableRefusal}
-use Rattle.model.proofs.Examples.{worked-file, worked, second-file, second}
+use Rattle.model.proofs.Examples.{worked-file, worked, second-locations, second-records, second-file, second}
 use Rattle.model.proofs.Cases.{Case, case, allMet, free-edge, forks}
 
 -- 30 to 33: D, the two counts, the most events; then by event, 32 before 33, the earliest bad event
@@ -67,7 +67,7 @@ rooms =
 rooms-met : allMet rooms ≡ true
 unfolding cm pairCount recordRefusal withRecord atEnd readFrom readRule codeOf locationOf basesOf startRow allows
     rowResets targetOf nextRow byIntervals bySymbols rowsFrom rowsOf rowRoom fitRefusal tableRefusal worked-file worked
-    second-file second allMet rooms
+    second-locations second-records second-file second allMet rooms
 rooms-met = refl
 
 -- room for rows: 4,096, half the row table, or the cells over S · W, both rounded down; row 4,096 does not fit
@@ -105,5 +105,5 @@ fulls =
 
 fulls-met : allMet fulls ≡ true
 unfolding cm pairCount recordRefusal withRecord atEnd readFrom readRule byEdges byConfigs roomRefusalFrom roomRefusal
-    worked-file worked second-file second free-edge forks allMet fulls
+    worked-file worked second-locations second-records second-file second free-edge forks allMet fulls
 fulls-met = refl

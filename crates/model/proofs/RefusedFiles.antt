@@ -53,6 +53,8 @@ cuts =
     ∷ case (reads (sizes ++ numbers (4 ∷ 2 ∷ 1 ∷ 1 ∷ []))) (refusal 2 10)
     ∷ case (reads (sizes ++ numbers (0 ∷ 3 ∷ []))) (refusal 2 10)
     ∷ case (reads (sizes ++ numbers (4 ∷ 4 ∷ 1 ∷ 1 ∷ []))) (refusal 2 10)
+    ∷ case (reads (sizes ++ numbers (0 ∷ 4 ∷ []))) (refusal 2 10)
+    ∷ case (reads (sizes ++ (2 ∷ 0 ∷ 4 ∷ 0 ∷ 0 ∷ []))) (refusal 1 10)
     ∷ case (reads (sizes ++ numbers (6 ∷ 5 ∷ 0 ∷ 1 ∷ 0 ∷ []))) (refusal 2 10)
     ∷ case (reads (sizes ++ edge 10 0 (0 ∷ []))) (refusal 2 10)
     ∷ case (reads (sizes ++ edge 12 0 (0 ∷ 0 ∷ []))) (refusal 2 10)
@@ -83,9 +85,18 @@ orders =
     ∷ case (reads (sizes ++ (location 3 0 ++ location 3 1))) fine
     ∷ case (reads (sizes ++ (location 2 1 ++ location 3 0))) fine
     ∷ case (reads (sizes ++ (location 3 0 ++ location 2 0))) (refusal 3 16)
+    ∷ case (reads (location 4 0)) (refusal 3 0)
+    ∷ case (reads (sizes ++ (location 4 0 ++ sizes))) (refusal 3 16)
+    ∷ case (reads (sizes ++ (location 4 0 ++ location 2 0))) (refusal 3 16)
     ∷ case (reads (sizes ++ (location 4 0 ++ location 3 0))) (refusal 3 16)
+    ∷ case (reads (sizes ++ (location 2 0 ++ location 4 0))) fine
+    ∷ case (reads (sizes ++ (location 3 0 ++ location 4 0))) fine
+    ∷ case (reads (sizes ++ (location 4 0 ++ edge 8 0 []))) fine
     ∷ case (reads (sizes ++ (edge 8 0 [] ++ location 4 0))) (refusal 3 22)
+    ∷ case (reads (sizes ++ (location 4 0 ++ (edge 8 0 [] ++ location 4 0)))) (refusal 3 28)
     ∷ case (reads (sizes ++ (location 4 5 ++ location 4 5))) (refusal 3 16)
+    ∷ case (reads (sizes ++ (location 4 5 ++ location 4 6))) (refusal 3 16)
+    ∷ case (reads (sizes ++ (location 4 0 ++ location 4 0))) (refusal 3 16)
     ∷ case (reads (sizes ++ (location 4 0 ++ location 4 31))) (refusal 3 16)
     ∷ case (reads (sizes ++ times 256 (edge 8 0 []))) fine
     ∷ case (reads (sizes ++ times 257 (edge 8 0 []))) (refusal 4 3082)
@@ -98,7 +109,7 @@ unfolding cm pairCount recordRefusal withRecord atEnd readFrom readRule allMet r
     times orders
 orders-met = refl
 
--- 5 and 6: each number on both sides of its range; 7; 8 at the file's length
+-- 5 and 6: each number on both sides of its range; 7; 8 at the file's length, for which a ceiling counts for nothing
 ranges : List Case
 ranges =
     case (reads (sized 32 16 4)) fine
@@ -113,8 +124,10 @@ ranges =
     ∷ case (reads (sizes ++ location 2 2)) (refusal 6 10)
     ∷ case (reads (sizes ++ location 3 1)) fine
     ∷ case (reads (sizes ++ location 3 2)) (refusal 6 10)
+    ∷ case (reads (sizes ++ location 4 0)) fine
     ∷ case (reads (sizes ++ location 4 30)) fine
     ∷ case (reads (sizes ++ location 4 31)) (refusal 6 10)
+    ∷ case (reads (sizes ++ location 4 256)) (refusal 6 10)
     ∷ case (reads (sizes ++ bare 1 1 1 0)) fine
     ∷ case (reads (sizes ++ bare 2 1 1 0)) (refusal 6 10)
     ∷ case (reads (sizes ++ bare 1 2 1 0)) (refusal 6 10)
@@ -133,12 +146,16 @@ ranges =
     ∷ case (reads (sizes ++ edge 20 1 (0 ∷ 3 ∷ 3 ∷ 0 ∷ 1 ∷ 3 ∷ []))) (refusal 7 10)
     ∷ case (reads (sizes ++ edge 20 1 (0 ∷ 3 ∷ 3 ∷ 0 ∷ 2 ∷ 3 ∷ []))) fine
     ∷ case (reads (sizes ++ edge 20 0 (0 ∷ 3 ∷ 3 ∷ 0 ∷ 1 ∷ 3 ∷ []))) fine
-    ∷ case (reads (sized 16 1 3 ++ location 4 14)) fine
-    ∷ case (reads (sized 17 1 3 ++ location 4 14)) (refusal 8 16)
-    ∷ case (reads (sized 9 1 4 ++ location 4 7)) fine
-    ∷ case (reads (sized 10 1 4 ++ location 4 7)) (refusal 8 16)
-    ∷ case (reads (sized 2 1 3 ++ location 4 30)) fine
-    ∷ case (reads (sized 3 1 3 ++ location 4 30)) (refusal 8 16)
+    ∷ case (reads (sized 16 1 3 ++ edge 14 0 (0 ∷ 1 ∷ 14 ∷ []))) fine
+    ∷ case (reads (sized 17 1 3 ++ edge 14 0 (0 ∷ 1 ∷ 14 ∷ []))) (refusal 8 28)
+    ∷ case (reads (sized 9 1 4 ++ edge 14 0 (0 ∷ 1 ∷ 7 ∷ []))) fine
+    ∷ case (reads (sized 10 1 4 ++ edge 14 0 (0 ∷ 1 ∷ 7 ∷ []))) (refusal 8 28)
+    ∷ case (reads (sized 2 1 3 ++ edge 14 0 (0 ∷ 1 ∷ 30 ∷ []))) fine
+    ∷ case (reads (sized 3 1 3 ++ edge 14 0 (0 ∷ 1 ∷ 30 ∷ []))) (refusal 8 28)
+    ∷ case (reads (sized 17 1 3 ++ location 4 14)) fine
+    ∷ case (reads (sized 32 16 4 ++ location 4 30)) fine
+    ∷ case (reads (sized 16 1 3 ++ (location 4 15 ++ edge 14 0 (0 ∷ 1 ∷ 14 ∷ [])))) fine
+    ∷ case (reads (sized 17 1 3 ++ (location 4 0 ++ edge 14 0 (0 ∷ 1 ∷ 14 ∷ [])))) (refusal 8 34)
     ∷ case (reads (sized 2 1 4 ++ edge 14 0 (3 ∷ 0 ∷ 11 ∷ []))) fine
     ∷ case (reads (sized 2 1 4 ++ edge 14 0 (3 ∷ 0 ∷ 12 ∷ []))) (refusal 8 28)
     ∷ case (reads (sized 2 1 4 ++ edge 20 0 (3 ∷ 0 ∷ 11 ∷ 3 ∷ 0 ∷ 12 ∷ []))) (refusal 8 34)

@@ -43,7 +43,7 @@ runs-are = (refl, refl, refl, refl, refl, refl, refl, refl, refl, refl)
 
 -- two starts: with no event only location 1 serves; by the first event 0 by edge 1 comes before 1 by edge 0
 two-starts : Rule
-two-starts = rule 2 1 1 (0 ∷ 1 ∷ []) (1 ∷ []) 0 (free-edge 1 1 0 ∷ free-edge 0 1 0 ∷ free-edge 0 1 0 ∷ [])
+two-starts = rule 2 1 1 (0 ∷ 1 ∷ []) (1 ∷ []) (free-edge 1 1 0 ∷ free-edge 0 1 0 ∷ free-edge 0 1 0 ∷ [])
 
 leasts : Type 0
 leasts =
@@ -85,7 +85,7 @@ edge-from source symbol atoms =
 
 waits : List ℕ → Rule
 waits final =
-    rule 3 3 2 (1 ∷ 2 ∷ []) final 0
+    rule 3 3 2 (1 ∷ 2 ∷ []) final
     (edge-from 0 0 (atom 0 2 9 ∷ [])
     ∷ edge-from 1 1 (atom 0 3 0 ∷ atom 1 0 0 ∷ [])
     ∷ edge-from 2 0 bounds
@@ -113,7 +113,7 @@ helds-are = (refl, refl, refl, refl, refl, refl, refl, refl, refl, refl, refl)
 -- an edge back to 0, and one to 1 at age 1 that resets the clock
 stays-or-resets : Rule
 stays-or-resets =
-    rule 2 1 1 (0 ∷ []) [] 0
+    rule 2 1 1 (0 ∷ []) []
     (free-edge 0 0 0
     ∷ record {
       source = 0;

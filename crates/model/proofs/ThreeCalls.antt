@@ -119,7 +119,7 @@ three-calls file edges edges′ scratch scratch′ cells cells′ rows rows′ p
 pub three-calls-written : Three-calls-written
 three-calls-written r edges edges′ scratch scratch′ cells cells′ rows rows′ pool pool′ d symbols stamps reading
     building answer v p q u b c e =
-    let k : Read-back r = valid-is-spelt r v in
+    let k : Read-back r (ruleBytes r) = valid-is-spelt r v in
     let claim =
     three-calls (ruleBytes r) edges edges′ scratch scratch′ cells cells′ rows rows′ pool pool′ d symbols stamps
     reading building answer p q u (not-refused r edges edges′ reading (k .accepted) p) b c e in

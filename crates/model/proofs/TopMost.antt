@@ -2,10 +2,8 @@
 use mathlib.Core.Path.{_≡_}
 use mathlib.Core.Bool.{true}
 use mathlib.Core.List.{List}
-use Prim.Native.Nat.{_-_, _≤_}
-use native.Mathlib.Omega.{arith}
+use Prim.Native.Nat.{_≤_}
 use Rattle.model.specs.Rules.{Edge, Rule, largestOf, cm, edgesOk}
-use Rattle.model.proofs.Logic.{larger-most}
 use Rattle.model.proofs.Valid.{Parts, edges-of, atoms-largest, edges-largest}
 
 pub edges-top : (r : Rule) (es : List Edge) → edgesOk r es ≡ true → largestOf es ≤ 30
@@ -14,6 +12,4 @@ edges-top r es q =
 
 pub parts-top : (r : Rule) → Parts r → cm r ≤ 30
 unfolding cm
-parts-top r p =
-    larger-most (largestOf (r .edges)) (r .ceiling - 1) 30 (edges-top r (r .edges) (p .edges-ok))
-    (omega (arith, p .ceiling-most))
+parts-top r p = edges-top r (r .edges) (p .edges-ok)

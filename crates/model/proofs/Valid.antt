@@ -3,7 +3,7 @@ use mathlib.Core.Path.{_≡_, refl}
 use mathlib.Core.Bool.{Bool, true, _&&_}
 use mathlib.Core.List.{List, [], _∷_}
 use mathlib.Core.Logic.{inl, inr}
-use Prim.Native.Nat.{ℕ, _-_, _^_, _≤_, _<_}
+use Prim.Native.Nat.{ℕ, _^_, _≤_, _<_}
 use native.Mathlib.Omega.{arith}
 use lib.Dec.{eqb, ltb, leb}
 use lib.ListN.{length}
@@ -109,7 +109,6 @@ pub record Parts (r : Rule) : Type 0 where
   pub sizes : sizesOk (r .locations) (r .symbols) (r .clocks) ≡ true
   pub initial-rises : rising 0 (r .locations) (r .initial) ≡ true
   pub final-rises : rising 0 (r .locations) (r .final) ≡ true
-  pub ceiling-most : r .ceiling ≤ 31
   pub edges-most : length (r .edges) ≤ mostEdges
   pub edges-ok : edgesOk r (r .edges) ≡ true
 
@@ -119,22 +118,19 @@ valid-parts r h =
     let a : Bool = sizesOk (r .locations) (r .symbols) (r .clocks) in
     let b : Bool = rising 0 (r .locations) (r .initial) in
     let c : Bool = rising 0 (r .locations) (r .final) in
-    let d : Bool = leb (r .ceiling) 31 in
     let e : Bool = leb (length (r .edges)) mostEdges in
     let f : Bool = edgesOk r (r .edges) in
     let g : Bool = leb (pairCount r) mostPairs in
-    let h6 : (a && b && c && d && e && f) ≡ true = and-left (a && b && c && d && e && f) g h in
-    let h5 : (a && b && c && d && e) ≡ true = and-left (a && b && c && d && e) f h6 in
-    let h4 : (a && b && c && d) ≡ true = and-left (a && b && c && d) e h5 in
-    let h3 : (a && b && c) ≡ true = and-left (a && b && c) d h4 in
+    let h5 : (a && b && c && e && f) ≡ true = and-left (a && b && c && e && f) g h in
+    let h4 : (a && b && c && e) ≡ true = and-left (a && b && c && e) f h5 in
+    let h3 : (a && b && c) ≡ true = and-left (a && b && c) e h4 in
     let h2 : (a && b) ≡ true = and-left (a && b) c h3 in
     record {
       sizes = and-left a b h2;
       initial-rises = and-right a b h2;
       final-rises = and-right (a && b) c h3;
-      ceiling-most = leb-true (r .ceiling) 31 (and-right (a && b && c) d h4);
-      edges-most = leb-true (length (r .edges)) mostEdges (and-right (a && b && c && d) e h5);
-      edges-ok = and-right (a && b && c && d && e) f h6;
+      edges-most = leb-true (length (r .edges)) mostEdges (and-right (a && b && c) e h4);
+      edges-ok = and-right (a && b && c && e) f h5;
     }
 
 pub valid-pairs : (r : Rule) → validRule r ≡ true → pairCount r ≤ mostPairs
@@ -144,7 +140,6 @@ valid-pairs r h =
     (and-right
     (sizesOk (r .locations) (r .symbols) (r .clocks) && rising 0 (r .locations) (r .initial)
     && rising 0 (r .locations) (r .final)
-    && leb (r .ceiling) 31
     && leb (length (r .edges)) mostEdges
     && edgesOk r (r .edges))
     (leb (pairCount r) mostPairs)
@@ -155,7 +150,6 @@ pub record Valid (r : Rule) : Type 0 where
   pub sizes : Sizes (r .locations) (r .symbols) (r .clocks)
   pub initial-rises : rising 0 (r .locations) (r .initial) ≡ true
   pub final-rises : rising 0 (r .locations) (r .final) ≡ true
-  pub ceiling-most : r .ceiling ≤ 31
   pub edges-most : length (r .edges) ≤ mostEdges
   pub edges-in : (e : Edge) → In e (r .edges) → EdgeIn r e
   pub pairs-most : pairCount r ≤ mostPairs
@@ -167,7 +161,6 @@ valid-of r h =
       sizes = sizes-of (r .locations) (r .symbols) (r .clocks) (p .sizes);
       initial-rises = p .initial-rises;
       final-rises = p .final-rises;
-      ceiling-most = p .ceiling-most;
       edges-most = p .edges-most;
       edges-in = edges-of r (r .edges) (p .edges-ok);
       pairs-most = valid-pairs r h;
@@ -187,12 +180,7 @@ edge-largest e (f ∷ es) (there h) =
 pub constant-below : (r : Rule) (e : Edge) (a : Atom) → In e (r .edges) → In a (e .atoms) → a .constant ≤ cm r
 unfolding cm
 constant-below r e a i j =
-    omega (
-      arith,
-      constant-largest a (e .atoms) j,
-      edge-largest e (r .edges) i,
-      larger-left (largestOf (r .edges)) (r .ceiling - 1),
-    )
+    omega (arith, constant-largest a (e .atoms) j, edge-largest e (r .edges) i)
 
 pub atoms-largest : (xs : List Atom) (m : ℕ) → ((a : Atom) → In a xs → a .constant ≤ m) → largestConstant xs ≤ m
 atoms-largest [] m h = omega arith
@@ -209,10 +197,8 @@ edges-largest (x ∷ xs) m h =
 pub cm-most : (r : Rule) → Valid r → cm r ≤ 30
 unfolding cm
 cm-most r v =
-    larger-most (largestOf (r .edges)) (r .ceiling - 1) 30
-    (edges-largest (r .edges) 30 (λ e i. atoms-largest (e .atoms) 30
-    (λ a j. v .edges-in e i .atoms-in a j .constant-most)))
-    (omega (arith, v .ceiling-most))
+    edges-largest (r .edges) 30
+    (λ e i. atoms-largest (e .atoms) 30 (λ a j. v .edges-in e i .atoms-in a j .constant-most))
 
 -- an edge that resets a clock has an equality
 pub has-equal : (e : Edge) → integerReset e ≡ true → 1 ≤ e .resets → hasEqual (e .atoms) ≡ true

@@ -22,7 +22,6 @@ parts-valid r q h =
       q .sizes,
       q .initial-rises,
       q .final-rises,
-      le-leb (r .ceiling) 31 (q .ceiling-most),
       le-leb (length (r .edges)) mostEdges (q .edges-most),
       q .edges-ok,
       le-leb (pairCount r) mostPairs h,

@@ -10,22 +10,23 @@ use Rattle.model.specs.declared.Reading.{Reading}
 use Rattle.model.specs.Basics.{maskOf, bitsFrom}
 use Rattle.model.specs.Rules.{cm, pairCount, validRule}
 use Rattle.model.specs.Files.{numbers, recordRefusal, withRecord, atEnd, readFrom, readRule, edgeRecords}
-use Rattle.model.specs.Files.{ruleBytes}
+use Rattle.model.specs.Files.{fileWith, ruleBytes}
 use Rattle.model.specs.Layout.{edgesNumbers, edgeTable, ruleIn, isReadable, ruleRefusal}
 use Rattle.model.specs.Promises.{ChecksRule, readRefusal, ReadsRule, writeRefusal, WritesRule}
-use Rattle.model.proofs.Examples.{worked-file, second-file}
+use Rattle.model.proofs.Examples.{worked-file, second-locations, second-records, second-file, second-less}
 use Rattle.model.proofs.Cases.{worked-head, worked-edges, zero-head}
 
 -- the head record and the edge table of the second rule
 second-head : Head
-second-head = record { locations = 3; symbols = 2; clocks = 2; starts = 3; ends = 4; ceiling = 3; count = 4 }
+second-head = record { locations = 3; symbols = 2; clocks = 2; starts = 3; ends = 4; count = 5 }
 
 second-edges : List ℕ
 second-edges =
     (0 ∷ 1 ∷ 1 ∷ 2 ∷ 2 ∷ 0 ∷ 2 ∷ 1 ∷ 1 ∷ 1 ∷ 1 ∷ replicate 18 0)
     ++ ((1 ∷ 2 ∷ 0 ∷ 0 ∷ 2 ∷ 1 ∷ 0 ∷ 1 ∷ 0 ∷ 3 ∷ 1 ∷ replicate 18 0)
     ++ ((1 ∷ 0 ∷ 0 ∷ 1 ∷ 1 ∷ 0 ∷ 2 ∷ 1 ∷ replicate 21 0)
-    ++ ((2 ∷ 2 ∷ 1 ∷ 0 ∷ 2 ∷ 1 ∷ 4 ∷ 1 ∷ 0 ∷ 4 ∷ 0 ∷ replicate 18 0) ++ replicate 7310 0)))
+    ++ ((2 ∷ 2 ∷ 1 ∷ 0 ∷ 2 ∷ 1 ∷ 4 ∷ 1 ∷ 0 ∷ 4 ∷ 0 ∷ replicate 18 0)
+    ++ ((2 ∷ 0 ∷ 0 ∷ 0 ∷ 2 ∷ 0 ∷ 0 ∷ 0 ∷ 0 ∷ 1 ∷ 2 ∷ replicate 18 0) ++ replicate 7281 0))))
 
 -- the widest rule: 32 locations, 16 symbols, 4 clocks, an edge with eight atoms; the last location in both sets
 eight-atoms : List ℕ
@@ -33,16 +34,19 @@ eight-atoms =
     (3 ∷ 2 ∷ 4 ∷ 2 ∷ 1 ∷ 3 ∷ 1 ∷ 0 ∷ 2 ∷ 0 ∷ 3 ∷ 1 ∷ [])
     ++ (3 ∷ 4 ∷ 0 ∷ 2 ∷ 2 ∷ 4 ∷ 1 ∷ 1 ∷ 3 ∷ 0 ∷ 0 ∷ 2 ∷ [])
 
-widest-file : List ℕ
-widest-file =
+widest-with : List ℕ → List ℕ
+widest-with between =
     numbers
     ((6 ∷ 1 ∷ 32 ∷ 16 ∷ 4 ∷ [])
     ++ ((2 ∷ 2 ∷ 0 ∷ 2 ∷ 2 ∷ 31 ∷ [])
-    ++ ((2 ∷ 3 ∷ 31 ∷ []) ++ ((2 ∷ 4 ∷ 0 ∷ []) ++ ((56 ∷ 5 ∷ 31 ∷ 30 ∷ 15 ∷ 14 ∷ []) ++ eight-atoms)))))
+    ++ ((2 ∷ 3 ∷ 31 ∷ []) ++ (between ++ ((56 ∷ 5 ∷ 31 ∷ 30 ∷ 15 ∷ 14 ∷ []) ++ eight-atoms)))))
+
+widest-file : List ℕ
+widest-file = widest-with []
 
 widest-head : Head
 widest-head =
-    record { locations = 32; symbols = 16; clocks = 4; starts = 2147483649; ends = 2147483648; ceiling = 1; count = 1 }
+    record { locations = 32; symbols = 16; clocks = 4; starts = 2147483649; ends = 2147483648; count = 1 }
 
 widest-edges : List ℕ
 widest-edges = (31 ∷ 30 ∷ 15 ∷ 14 ∷ 8 ∷ []) ++ (eight-atoms ++ replicate 7396 0)
@@ -70,17 +74,21 @@ reads-zeroed =
     ReadsRule (0 ∷ []) (replicate 7424 5) (replicate 7424 0) (reading 1 0 zero-head)
     × ReadsRule (worked-file ++ numbers (2 ∷ 6 ∷ 0 ∷ [])) (replicate 7424 5) (replicate 7424 0) (reading 2 58 zero-head)
     × ReadsRule [] (replicate 7425 5) (replicate 7425 0) (reading 3 0 zero-head)
+    × ReadsRule (widest-with (2 ∷ 4 ∷ 0 ∷ 2 ∷ 4 ∷ 1 ∷ [])) (replicate 7424 5) (replicate 7424 0)
+    (reading 3 34 zero-head)
+    × ReadsRule (widest-with (2 ∷ 4 ∷ 31 ∷ [])) (replicate 7424 5) (replicate 7424 0) (reading 6 28 zero-head)
     × ReadsRule (numbers (6 ∷ 1 ∷ 0 ∷ 1 ∷ 1 ∷ [])) (replicate 7424 5) (replicate 7424 0) (reading 5 0 zero-head)
     × ReadsRule (worked-file ++ numbers (8 ∷ 5 ∷ 0 ∷ 0 ∷ 2 ∷ 0 ∷ [])) (replicate 7424 5) (replicate 7424 0)
     (reading 6 58 zero-head)
     × ReadsRule (worked-file ++ numbers (8 ∷ 5 ∷ 0 ∷ 0 ∷ 0 ∷ 1 ∷ [])) (replicate 7424 5) (replicate 7424 0)
     (reading 7 58 zero-head)
-    × ReadsRule (numbers (6 ∷ 1 ∷ 17 ∷ 1 ∷ 3 ∷ 2 ∷ 4 ∷ 14 ∷ [])) (replicate 7424 5) (replicate 7424 0)
-    (reading 8 16 zero-head)
+    × ReadsRule (numbers (6 ∷ 1 ∷ 17 ∷ 1 ∷ 3 ∷ 14 ∷ 5 ∷ 0 ∷ 0 ∷ 0 ∷ 0 ∷ 0 ∷ 1 ∷ 14 ∷ [])) (replicate 7424 5)
+    (replicate 7424 0)
+    (reading 8 28 zero-head)
 
 reads-zeroed-are : reads-zeroed
 unfolding maskOf cm pairCount recordRefusal withRecord atEnd readFrom readRule edgesNumbers edgeTable readRefusal
-    worked-file reading reads-zeroed
+    worked-file eight-atoms widest-with reading reads-zeroed
 reads-zeroed-are = (
   record { answer-is = refl; edges-are = refl },
   record { answer-is = refl; edges-are = refl },
@@ -89,29 +97,35 @@ reads-zeroed-are = (
   record { answer-is = refl; edges-are = refl },
   record { answer-is = refl; edges-are = refl },
   record { answer-is = refl; edges-are = refl },
+  record { answer-is = refl; edges-are = refl },
+  record { answer-is = refl; edges-are = refl },
 )
 
--- an accepted file: the head record, the edges, and zero in every place past them
+-- an accepted file: the head record, the edges, and zero in every place past them; with a ceiling, the same
 reads-filled : Type 0
 reads-filled =
     ReadsRule worked-file (replicate 7424 5) (worked-edges 7366) (reading 0 0 worked-head)
     × ReadsRule second-file (replicate 7426 5) second-edges (reading 0 0 second-head)
+    × ReadsRule second-less (replicate 7426 5) second-edges (reading 0 0 second-head)
     × ReadsRule widest-file (replicate 7425 5) widest-edges (reading 0 0 widest-head)
+    × ReadsRule (widest-with (2 ∷ 4 ∷ 30 ∷ [])) (replicate 7425 5) widest-edges (reading 0 0 widest-head)
 
 reads-filled-are : reads-filled
 unfolding maskOf cm pairCount recordRefusal withRecord atEnd readFrom readRule edgesNumbers edgeTable readRefusal
-    worked-file second-file second-head second-edges eight-atoms widest-file widest-head widest-edges reading
-    reads-filled
+    worked-file second-locations second-records second-file second-less second-head second-edges eight-atoms
+    widest-with widest-file widest-head widest-edges reading reads-filled
 reads-filled-are = (
+  record { answer-is = refl; edges-are = refl },
+  record { answer-is = refl; edges-are = refl },
   record { answer-is = refl; edges-are = refl },
   record { answer-is = refl; edges-are = refl },
   record { answer-is = refl; edges-are = refl },
 )
 
 -- a head record or an edge table that no reading leaves: each has one number changed
-other-head : ℕ → ℕ → ℕ → ℕ → Head
-other-head starts ends ceiling count =
-    record { locations = 2; symbols = 2; clocks = 1; starts = starts; ends = ends; ceiling = ceiling; count = count }
+other-head : ℕ → ℕ → ℕ → Head
+other-head starts ends count =
+    record { locations = 2; symbols = 2; clocks = 1; starts = starts; ends = ends; count = count }
 
 checks : Type 0
 checks =
@@ -119,14 +133,13 @@ checks =
     × ChecksRule worked-head (worked-edges 7366) (answer 0 0)
     × ChecksRule worked-head (worked-edges 7400) (answer 0 0)
     × ChecksRule zero-head (replicate 7424 0) (answer 21 0)
-    × ChecksRule (other-head 3 0 31 2) (worked-edges 7366) (answer 0 0)
-    × ChecksRule (other-head 4 1 0 2) (worked-edges 7366) (answer 21 0)
-    × ChecksRule (other-head 1 4 0 2) (worked-edges 7366) (answer 21 0)
-    × ChecksRule (other-head 4294967297 1 0 2) (worked-edges 7366) (answer 21 0)
-    × ChecksRule (other-head 1 4294967297 0 2) (worked-edges 7366) (answer 21 0)
-    × ChecksRule (other-head 1 1 32 2) (worked-edges 7366) (answer 21 0)
-    × ChecksRule (other-head 1 1 0 1) (worked-edges 7366) (answer 21 0)
-    × ChecksRule (other-head 1 1 0 3) (worked-edges 7366) (answer 0 0)
+    × ChecksRule (other-head 3 0 2) (worked-edges 7366) (answer 0 0)
+    × ChecksRule (other-head 4 1 2) (worked-edges 7366) (answer 21 0)
+    × ChecksRule (other-head 1 4 2) (worked-edges 7366) (answer 21 0)
+    × ChecksRule (other-head 4294967297 1 2) (worked-edges 7366) (answer 21 0)
+    × ChecksRule (other-head 1 4294967297 2) (worked-edges 7366) (answer 21 0)
+    × ChecksRule (other-head 1 1 1) (worked-edges 7366) (answer 21 0)
+    × ChecksRule (other-head 1 1 3) (worked-edges 7366) (answer 0 0)
     × ChecksRule worked-head (2 ∷ drop 1 (worked-edges 7366)) (answer 21 0)
     × ChecksRule worked-head (worked-edges 7366 ++ (1 ∷ [])) (answer 21 0)
 
@@ -134,7 +147,6 @@ checks-are : checks
 unfolding maskOf bitsFrom cm pairCount validRule edgesNumbers edgeTable ruleIn isReadable ruleRefusal other-head
     answer checks
 checks-are = (
-  record { answer-is = refl },
   record { answer-is = refl },
   record { answer-is = refl },
   record { answer-is = refl },
@@ -161,15 +173,19 @@ writes =
     × WritesRule worked-head (worked-edges 7366) (replicate 57 9) (replicate 57 9) (answer 27 0)
     × WritesRule worked-head (worked-edges 7366) (replicate 58 9) worked-file (answer 0 58)
     × WritesRule worked-head (worked-edges 7366) (replicate 60 9) (worked-file ++ (9 ∷ 9 ∷ [])) (answer 0 58)
-    × WritesRule second-head second-edges (replicate 125 9) (second-file ++ (9 ∷ [])) (answer 0 124)
-    × WritesRule widest-head widest-edges (replicate 93 9) (replicate 93 9) (answer 27 0)
-    × WritesRule widest-head widest-edges (replicate 94 9) widest-file (answer 0 94)
+    × WritesRule second-head second-edges (replicate 141 9) (replicate 141 9) (answer 27 0)
+    × WritesRule second-head second-edges (replicate 142 9) second-less (answer 0 142)
+    × WritesRule second-head second-edges (replicate 143 9) (second-less ++ (9 ∷ [])) (answer 0 142)
+    × WritesRule widest-head widest-edges (replicate 87 9) (replicate 87 9) (answer 27 0)
+    × WritesRule widest-head widest-edges (replicate 88 9) widest-file (answer 0 88)
 
 writes-are : writes
 unfolding maskOf bitsFrom cm pairCount validRule edgesNumbers edgeTable ruleIn isReadable ruleRefusal edgeRecords
-    ruleBytes writeRefusal worked-file second-file second-head second-edges eight-atoms widest-file widest-head
-    widest-edges answer writes
+    fileWith ruleBytes writeRefusal worked-file second-locations second-records second-less second-head second-edges
+    eight-atoms widest-with widest-file widest-head widest-edges answer writes
 writes-are = (
+  record { answer-is = refl; out-is = refl },
+  record { answer-is = refl; out-is = refl },
   record { answer-is = refl; out-is = refl },
   record { answer-is = refl; out-is = refl },
   record { answer-is = refl; out-is = refl },

@@ -92,8 +92,7 @@ impl Stamp {
     }
 }
 
-// The head record of a rule: sizes, initial and final locations as masks, the ceiling as 0 for none or its number + 1,
-// the edge count.
+// The head record of a rule: sizes, initial and final locations as masks, the edge count.
 #[repr(C)]
 pub struct Head {
     pub locations: u32,
@@ -101,7 +100,6 @@ pub struct Head {
     pub clocks: u32,
     pub starts: u32,
     pub ends: u32,
-    pub ceiling: u32,
     pub count: u32,
 }
 
