@@ -14,7 +14,7 @@ use Rattle.model.specs.Basics.{larger}
 use Rattle.model.specs.Rules.{largestConstant, largestOf, cm, mostClocks, mostPairs}
 use Rattle.model.specs.Layout.{edgeFields, atomWidth, edgeWidth, atomsIn, edgeAt, edgesIn, ruleIn}
 use Rattle.edges.specs.Powers.{smallPower}
-use Rattle.model.proofs.Logic.{by-test, larger-left, larger-right, larger-most, larger-three, larger-none}
+use Rattle.model.proofs.Logic.{by-test, larger-three, larger-none}
 use Rattle.model.proofs.EdgeTable.{edges-rest, atoms-rest, atoms-length}
 
 pub power-fits : (base k : ℕ) → base < mostPairs → k < mostClocks → base ^ k * base ≤ 65535 ^ mostClocks
@@ -79,22 +79,11 @@ module _ {least count e most : ℕ} {t : List ℕ} (inv : LargestEdge least coun
   pub edges-end : count ≤ e → most ≡ larger least (largestOf (edgesIn count t))
   edges-end h = let z : count - e ≡ 0 = omega arith in sym (larger-none most) ∙ (rw z at (inv .rest-is))
 
--- cm from the ceiling and the edges, in the loop's order
-larger-swap : (a b : ℕ) → larger a b ≡ larger b a
-larger-swap a b =
-    omega (
-      arith,
-      larger-most a b (larger b a) (larger-right b a) (larger-left b a),
-      larger-most b a (larger a b) (larger-right a b) (larger-left a b),
-    )
-
+-- cm from all edges
 pub cm-found :
-    (h : Head) (t : List ℕ) (most ceiling first : ℕ) → ceiling ≡ h .ceiling → first ≡ ceiling - 1
-    → most ≡ larger first (largestOf (edgesIn (h .count) t))
-    → most ≡ cm (ruleIn h t)
+    (h : Head) (t : List ℕ) (most : ℕ) → most ≡ larger 0 (largestOf (edgesIn (h .count) t)) → most ≡ cm (ruleIn h t)
 unfolding cm ruleIn
-cm-found h t most ceiling first c f e =
-    e ∙ (rw (f, c) (larger-swap (h .ceiling - 1) (largestOf (edgesIn (h .count) t))))
+cm-found h t most e = e ∙ rw (le-leb 0 (largestOf (edgesIn (h .count) t)) (omega arith))
 
 -- the constant of atom j
 pub atom-constant :

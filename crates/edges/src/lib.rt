@@ -67,15 +67,11 @@ pub(crate) fn largest_in(edges: &[u16], e: u32, least: usize) -> usize
     most
 }
 
-// cm: the largest constant in any atom, or the ceiling if that is larger.
+// cm: the largest constant in any atom, 0 if there is none.
 pub fn top_of(head: Head, edges: &[u16]) -> usize
     ensures { λ r. ⌜ r ≡ cm (ruleIn head (now (edges .entry))) ⌝ }
 {
-    let ceiling = wide32(head.ceiling);
     let mut most: usize = 0;
-    if 0 < ceiling {
-        most = ceiling - 1;
-    }
     let mut e: u32 = 0;
     while e < head.count {
         most = largest_in(edges, e, most);

@@ -2,19 +2,19 @@
 use mathlib.Core.Path.{_≡_, refl, _∙_}
 use mathlib.Core.Bool.{Bool, true, false, _&&_}
 use mathlib.Core.List.{List}
-use Prim.Native.Nat.{ℕ, _+_, _-_, _^_, _≤_, _<_}
+use Prim.Native.Nat.{ℕ, _^_, _≤_, _<_}
 use native.Mathlib.Omega.{arith}
 use lib.Dec.{ltb, leb}
 use lib.ListN.{length}
 use borrow.Author.Tests.{le-leb, leb-true, ltb-true, eq-eqb, lt-ltb, le-ltb}
 use Rattle.model.specs.declared.Head.{Head}
 use Rattle.model.specs.Basics.{filled, same, maskOf}
-use Rattle.model.specs.Rules.{Edge, rule, Rule, largestOf, cm, pairCount, mostPairs, mostEdges, sizesOk, rising}
+use Rattle.model.specs.Rules.{Edge, rule, Rule, cm, pairCount, mostPairs, mostEdges, sizesOk, rising}
 use Rattle.model.specs.Rules.{mostClocks, mostConstant, mostLocations, edgesOk, validRule}
 use Rattle.model.specs.Layout.{edgesNumbers, edgeNeed, edgeTable, edgesIn, locationsIn, ruleIn}
 use Rattle.model.specs.Layout.{isReadable, ruleRefusal}
 use Rattle.model.specs.Promises.{ChecksRule}
-use Rattle.model.proofs.Logic.{same-truth, and-left, and-right, larger-most}
+use Rattle.model.proofs.Logic.{same-truth, and-left, and-right}
 use Rattle.model.proofs.Valid.{Sizes, sizes-of}
 use Rattle.model.proofs.TopMost.{edges-top}
 use Rattle.model.proofs.MaskSets.{mask-below, bits-rise, mask-again}
@@ -26,7 +26,6 @@ use Rattle.rule.proofs.Unused.{edges-same}
 -- a good head record, as plain facts
 pub record Good-head (h : Head) : Type 0 where
   pub sizes : Sizes (h .locations) (h .symbols) (h .clocks)
-  pub ceiling-most : h .ceiling ≤ mostConstant + 1
   pub count-most : h .count ≤ mostEdges
 
 pub good-head : (h : Head) → headGood h ≡ true → Good-head h
@@ -35,14 +34,11 @@ good-head h q =
     let a : Bool = sizesOk (h .locations) (h .symbols) (h .clocks) in
     let b : Bool = ltb (h .starts) (2 ^ h .locations) in
     let c : Bool = ltb (h .ends) (2 ^ h .locations) in
-    let d : Bool = leb (h .ceiling) (mostConstant + 1) in
-    let e : Bool = leb (h .count) mostEdges in
-    let q4 : (a && b && c && d) ≡ true = and-left (a && b && c && d) e q in
-    let q3 : (a && b && c) ≡ true = and-left (a && b && c) d q4 in
+    let d : Bool = leb (h .count) mostEdges in
+    let q3 : (a && b && c) ≡ true = and-left (a && b && c) d q in
     record {
       sizes = sizes-of (h .locations) (h .symbols) (h .clocks) (and-left a b (and-left (a && b) c q3));
-      ceiling-most = leb-true (h .ceiling) (mostConstant + 1) (and-right (a && b && c) d q4);
-      count-most = leb-true (h .count) mostEdges (and-right (a && b && c && d) e q);
+      count-most = leb-true (h .count) mostEdges (and-right (a && b && c) d q);
     }
 
 -- the test of a mask: its bits rise below l exactly if it is below 2 ^ l
@@ -71,8 +67,7 @@ unfolding headGood ruleIn validRule edgeTable isReadable
 readable-is h t p q long =
     let x : Bool =
     sizesOk (h .locations) (h .symbols) (h .clocks) && ltb (h .starts) (2 ^ h .locations)
-    && ltb (h .ends) (2 ^ h .locations)
-    && leb (h .ceiling) (mostConstant + 1) in
+    && ltb (h .ends) (2 ^ h .locations) in
     rw (
       mask-rises (h .locations) (h .starts) p,
       mask-rises (h .locations) (h .ends) q,
@@ -84,7 +79,7 @@ readable-is h t p q long =
     (leb (pairCount (ruleIn h t)) mostPairs) (same (edgeTable (length t) (ruleIn h t)) t)
     (edgesGood h (h .count) t)
     (λ e. let few : h .count ≤ mostEdges = leb-true (h .count) mostEdges (and-right x (leb (h .count) mostEdges) e) in
-    edges-same h (locationsIn (h .starts)) (locationsIn (h .ends)) (h .ceiling) (edgesIn (h .count) t) (h .count) t
+    edges-same h (locationsIn (h .starts)) (locationsIn (h .ends)) (edgesIn (h .count) t) (h .count) t
     (omega arith)))
 
 -- N, where head record and edge table are good: sizes in range, and cm at most the largest constant
@@ -96,11 +91,9 @@ good-top h t good long q =
     let i : List ℕ = locationsIn (h .starts) in
     let f : List ℕ = locationsIn (h .ends) in
     let es : List Edge = edgesIn (h .count) t in
-    let r : Rule = rule (h .locations) (h .symbols) (h .clocks) i f (h .ceiling) es in
-    let both = edges-same h i f (h .ceiling) es (h .count) t (omega (arith, good .count-most)) ∙ q in
-    larger-most (largestOf es) (h .ceiling - 1) mostConstant
-    (edges-top r es (and-left (edgesOk r es) (same (filled (length t) (edgesNumbers es)) t) both))
-    (omega (arith, good .ceiling-most))
+    let r : Rule = rule (h .locations) (h .symbols) (h .clocks) i f es in
+    let both = edges-same h i f es (h .count) t (omega (arith, good .count-most)) ∙ q in
+    edges-top r es (and-left (edgesOk r es) (same (filled (length t) (edgesNumbers es)) t) both)
 
 pub pairs-good :
     (h : Head) (t : List ℕ) (p : ℕ) → headGood h ≡ true → edgeNeed ≤ length t → edgesGood h (h .count) t ≡ true

@@ -130,13 +130,13 @@ regroup true true true true q s w g z split e = rw (split refl, ← e) (swapped 
 
 -- all edges, then the places past them
 pub edges-same :
-    (h : Head) (i f : List ℕ) (c : ℕ) (es : List Edge) (n : ℕ) (t : List ℕ) → edgeWidth * n ≤ length t
-    → (edgesOk (rule (h .locations) (h .symbols) (h .clocks) i f c es) (edgesIn n t)
+    (h : Head) (i f : List ℕ) (es : List Edge) (n : ℕ) (t : List ℕ) → edgeWidth * n ≤ length t
+    → (edgesOk (rule (h .locations) (h .symbols) (h .clocks) i f es) (edgesIn n t)
     && same (filled (length t) (edgesNumbers (edgesIn n t))) t)
     ≡ edgesGood h n t
 unfolding edgesNumbers edgeGood edgesGood
-edges-same h i f c es zero t b = let z : length t - 0 ≡ length t = omega arith in rw z (same-zeros t)
-edges-same h i f c es (suc n) t b =
+edges-same h i f es zero t b = let z : length t - 0 ≡ length t = omega arith in rw z (same-zeros t)
+edges-same h i f es (suc n) t b =
     let e : Edge = edgeIn t in
     let few : leb (length (e .atoms)) mostAtoms ≡ leb (getD t 4 0) mostAtoms =
     ap (λ (k : ℕ). leb k mostAtoms) (atoms-length (getD t 4 0) (drop edgeFields t)) in
@@ -144,7 +144,7 @@ edges-same h i f c es (suc n) t b =
     let atoms : Bool = atomsOk (h .clocks) (e .atoms) in
     let unused : Bool = unusedZero t in
     let rest : List Edge = edgesIn n (drop edgeWidth t) in
-    let rest-good : Bool = edgesOk (rule (h .locations) (h .symbols) (h .clocks) i f c es) rest in
+    let rest-good : Bool = edgesOk (rule (h .locations) (h .symbols) (h .clocks) i f es) rest in
     let rest-same : Bool = same (filled (length (drop edgeWidth t)) (edgesNumbers rest)) (drop edgeWidth t) in
     regroup fields atoms (integerReset e) (leb (length (e .atoms)) mostAtoms) rest-good unused rest-same
     (edgesGood h n (drop edgeWidth t)) (same (filled (length t) (edgeNumbers e ++ edgesNumbers rest)) t)
@@ -152,6 +152,6 @@ edges-same h i f c es (suc n) t b =
     let m : length (e .atoms) ≤ mostAtoms = leb-true (length (e .atoms)) mostAtoms q in
     table-parts (edgeNumbers e) (edgesNumbers rest) t (edge-numbers-length e m) (omega arith)
     ∙ ap (λ (x : Bool). x && rest-same) (edge-same t (omega arith) (leb-true (getD t 4 0) mostAtoms (sym few ∙ q))))
-    (edges-same h i f c es n (drop edgeWidth t) (rw (length-drop edgeWidth t) (omega arith)))
+    (edges-same h i f es n (drop edgeWidth t) (rw (length-drop edgeWidth t) (omega arith)))
     ∙ ap (λ (x : Bool). (fields && x && atoms && integerReset e && unused) && edgesGood h n (drop edgeWidth t))
     few

@@ -5,7 +5,7 @@ use Prim.Native.Nat.{ℕ, zero, suc, _+_, _-_, _*_, _^_}
 use lib.Dec.{eqb, ltb, leb}
 use lib.ListN.{getD, take, drop}
 use Rattle.model.specs.declared.Head.{Head}
-use Rattle.model.specs.Rules.{pairCount, mostPairs, mostEdges, mostAtoms, mostConstant, sizesOk, atomsOk, integerReset}
+use Rattle.model.specs.Rules.{pairCount, mostPairs, mostEdges, mostAtoms, sizesOk, atomsOk, integerReset}
 use Rattle.model.specs.Layout.{edgeFields, atomWidth, edgeWidth, edgeIn, ruleIn}
 use Rattle.edges.specs.Checks.{fieldsOk}
 
@@ -13,12 +13,11 @@ abbrev pub allZero : List ℕ → Bool
 allZero [] = true
 allZero (x ∷ xs) = eqb x 0 && allZero xs
 
--- the head record: sizes in range, no location at or past L in either set, ceiling and edge count in range
+-- the head record: sizes in range, no location at or past L in either set, edge count in range
 unfoldable pub headGood : Head → Bool
 headGood h =
     sizesOk (h .locations) (h .symbols) (h .clocks) && ltb (h .starts) (2 ^ h .locations)
     && ltb (h .ends) (2 ^ h .locations)
-    && leb (h .ceiling) (mostConstant + 1)
     && leb (h .count) mostEdges
 
 -- the places of the atoms that the edge at the front of a table does not have

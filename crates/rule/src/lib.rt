@@ -78,9 +78,6 @@ pub(crate) fn head_ok(head: Head) -> bool
     if !mask_ok(wide32(head.ends), locations) {
         return false;
     }
-    if MOST_CONSTANT + 1 < wide32(head.ceiling) {
-        return false;
-    }
     wide32(head.count) <= MOST_EDGES
 }
 

@@ -1,11 +1,9 @@
 -- `rule::head_ok` meets its contract: its tests in the definition's order.
 use mathlib.Core.Path.{_≡_, ap}
-use Prim.Native.Nat.{ℕ, _+_, _^_}
-use native.Mathlib.Omega.{arith}
+use Prim.Native.Nat.{ℕ, _^_}
 use lib.Dec.{ltb, leb}
-use borrow.Author.Tests.{le-leb, lt-leb}
 use borrow.Author.Needs.{needs}
-use Rattle.model.specs.Rules.{mostConstant, mostEdges, sizesOk}
+use Rattle.model.specs.Rules.{mostEdges, sizesOk}
 use Rattle.numbers.proofs.Answers.{failed, passed}
 use Rattle.rule.specs.Checks.{headGood}
 use Rattle.rule.proofs.Laws.{sizes-known, mask-known}
@@ -91,44 +89,21 @@ returns-3 c =
       failed (ends-at ends) (c .if3 .taken),
     )
 
-add-if4 : tie.Need-add-if4
-add-if4 c = search needs
-
 wide32-requires-6 : tie.Need-wide32-requires-6
 wide32-requires-6 c κs = search needs
 
 returns-4 : tie.Need-returns-4
 unfolding headGood
 returns-4 c =
-    let ends = c .before .before .before in
+    let ends = c .before .before in
     let starts = ends .before .before .before in
     let sizes = starts .before .before .before in
-    let h = sizes .before .before .before .before .args .head in
     rw (
       passed (sizes-at sizes) (starts .before .before .if1 .left),
       passed (starts-at starts) (ends .before .before .if2 .left),
-      passed (ends-at ends) (c .before .before .if3 .left),
-      lt-leb (h .ceiling) (mostConstant + 1) (omega arith),
+      passed (ends-at ends) (c .before .if3 .left),
     )
-
-wide32-requires-7 : tie.Need-wide32-requires-7
-wide32-requires-7 c κs = search needs
-
-returns-5 : tie.Need-returns-5
-unfolding headGood
-returns-5 c =
-    let ceiling = c .before in
-    let ends = ceiling .before .before .before in
-    let starts = ends .before .before .before in
-    let sizes = starts .before .before .before in
-    let h = sizes .before .before .before .before .args .head in
-    rw (
-      passed (sizes-at sizes) (starts .before .before .if1 .left),
-      passed (starts-at starts) (ends .before .before .if2 .left),
-      passed (ends-at ends) (ceiling .before .before .if3 .left),
-      le-leb (h .ceiling) (mostConstant + 1) (omega arith),
-    )
-    (ap (λ (n : ℕ). leb n mostEdges) (c .wide327 .ensures .0))
+    (ap (λ (n : ℕ). leb n mostEdges) (c .wide326 .ensures .0))
 
 pub head-ok-spec : {M : Type 1} → statement M
 head-ok-spec =
@@ -145,8 +120,5 @@ head-ok-spec =
     wide32-requires-5
     mask-ok-requires-2
     returns-3
-    add-if4
     wide32-requires-6
-    returns-4
-    wide32-requires-7
-    returns-5)
+    returns-4)
