@@ -17,8 +17,7 @@ use Rattle.model.proofs.ValidParts.{rising-last}
 use Rattle.model.proofs.MaskSets.{mask-last, mask-below}
 use Rattle.model.proofs.EdgesWritten.{edges-numbers-length}
 use Rattle.model.proofs.Readable.{table-length}
-use Rattle.model.proofs.FileRecords.{Location-allowed, Ceiling-allowed, Allowed, sizes, initial, final}
-use Rattle.model.proofs.FileRecords.{ceiling, edge}
+use Rattle.model.proofs.FileRecords.{Location-allowed, Allowed, sizes, initial, final, ceiling, edge}
 use Rattle.model.proofs.FileSoFar.{So-far, sizes-so-far, record-so-far}
 use Rattle.reader.specs.declared.Cursor.{Cursor}
 use Rattle.reader.specs.State.{tableWith, Body, Room, Takes, Stage, none, some, State}
@@ -54,13 +53,6 @@ module _ {last : ℕ} {r : Rule} {kind n : ℕ} {body : List ℕ} where
   is-final (final e a) k = a
   is-final (ceiling e a) k = absurd (omega arith)
   is-final (edge e a) k = absurd (omega arith)
-
-  is-ceiling : Allowed last r kind n body → kind ≡ 4 → Ceiling-allowed last r n body
-  is-ceiling (sizes e a) k = absurd (omega arith)
-  is-ceiling (initial e a) k = absurd (omega arith)
-  is-ceiling (final e a) k = absurd (omega arith)
-  is-ceiling (ceiling e a) k = a
-  is-ceiling (edge e a) k = absurd (omega arith)
 
 -- nothing is read yet where no sizes were seen
 unseen : (last : ℕ) (r : Rule) → Stage last r → r .locations ≡ 0 → r ≡ noRule
@@ -129,7 +121,6 @@ module _ {r : Rule} {c : Cursor} {t : List ℕ} (state : State r c t) {kind n : 
         location-fits (r .locations) (r .final) (numberAt 0 body) (c .head .ends) (locations-most (a .sizes-seen))
         (seen (c .last) r (state .stage) (a .sizes-seen) .parts .final-rises) (a .rises) (a .in-range)
         (ap (λ (h : Head). h .ends) (state .holds .head-is));
-    ceiling = λ k. is-ceiling allowed k .in-range;
   }
 
 -- an edge's places are zero before it is stored

@@ -72,9 +72,8 @@ module _ (c : Cursor) (r : Rule) (h : Holds r c) (kind : ℕ) (body : List ℕ) 
             (x : ℕ) → kind ≡ 3 → x ≡ numberAt 0 body → ltb x (c .end) ≡ outOfOrder (c .last) r kind body
         order-final x e q = rw (ne-eqb kind 1 other, seen, rises, e) (ap₂ ltb q (h .end-is))
 
-        pub order-ceiling : kind ≡ 4 → leb 1 (c .head .ceiling) ≡ outOfOrder (c .last) r kind body
-        order-ceiling e =
-            rw (ne-eqb kind 1 other, seen, rises, e, h .head-is) (or-none _ ∙ or-none _)
+        pub order-ceiling : kind ≡ 4 → eqb (c .last) 4 ≡ outOfOrder (c .last) r kind body
+        order-ceiling e = rw (ne-eqb kind 1 other, seen, rises, e) (or-none _ ∙ or-none _)
 
         pub order-other :
             (kind ≡ 2 → ⊥) → (kind ≡ 3 → ⊥) → (kind ≡ 4 → ⊥) → false ≡ outOfOrder (c .last) r kind body

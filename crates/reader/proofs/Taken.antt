@@ -10,8 +10,8 @@ use borrow.Rule.Slice.PartMut.{putMid}
 use Rattle.model.specs.declared.Head.{Head}
 use Rattle.model.specs.Basics.{zeros, maskOf}
 use Rattle.model.specs.Rules.{Edge, Rule, mostAtoms}
-use Rattle.model.specs.Files.{numberAt, recordHead, edgeFrom, withSizes, withInitial, withFinal, withCeiling}
-use Rattle.model.specs.Files.{withEdge, withRecord}
+use Rattle.model.specs.Files.{numberAt, recordHead, edgeFrom, withSizes, withInitial, withFinal, withEdge}
+use Rattle.model.specs.Files.{withRecord}
 use Rattle.model.specs.Layout.{edgeWidth, edgeNumbers, edgeIn}
 use Rattle.model.proofs.ValidParts.{past-last}
 use Rattle.model.proofs.MaskSets.{mask-last}
@@ -29,11 +29,11 @@ pub sizes-held :
     (c : Cursor) (body : List ℕ) (l s k : ℕ) → l ≡ numberAt 0 body → s ≡ numberAt 1 body → k ≡ numberAt 2 body
     → Holds (withSizes body)
     (cursor (c .at) (c .last) 0 0
-    (record { locations = l; symbols = s; clocks = k; starts = 0; ends = 0; ceiling = 0; count = 0 }))
+    (record { locations = l; symbols = s; clocks = k; starts = 0; ends = 0; count = 0 }))
 unfolding maskOf
 sizes-held c body l s k p q r = record { head-is = rw (p, q, r); start-is = refl; end-is = refl }
 
--- a location more, a ceiling, an edge more
+-- a location more, an edge more
 module _ (c : Cursor) (r : Rule) (h : Holds r c) where
   pub initial-held :
       (x m : ℕ) → m ≡ 2 ^ x
@@ -45,7 +45,6 @@ module _ (c : Cursor) (r : Rule) (h : Holds r c) where
         clocks = c .head .clocks;
         starts = c .head .starts + m;
         ends = c .head .ends;
-        ceiling = c .head .ceiling;
         count = c .head .count;
       }))
   initial-held x m e = record {
@@ -64,32 +63,12 @@ module _ (c : Cursor) (r : Rule) (h : Holds r c) where
         clocks = c .head .clocks;
         starts = c .head .starts;
         ends = c .head .ends + m;
-        ceiling = c .head .ceiling;
         count = c .head .count;
       }))
   final-held x m e = record {
     head-is = rw (h .head-is, e, mask-last (r .final) x);
     start-is = h .start-is;
     end-is = add-one x ∙ sym (past-last (r .final) x);
-  }
-
-  pub ceiling-held :
-      (x m : ℕ) → m ≡ x + 1
-      → Holds (withCeiling r x)
-      (cursor (c .at) (c .last) (c .start) (c .end)
-      (record {
-        locations = c .head .locations;
-        symbols = c .head .symbols;
-        clocks = c .head .clocks;
-        starts = c .head .starts;
-        ends = c .head .ends;
-        ceiling = m;
-        count = c .head .count;
-      }))
-  ceiling-held x m e = record {
-    head-is = rw (h .head-is, e, add-one x);
-    start-is = h .start-is;
-    end-is = h .end-is;
   }
 
   edge-held :
@@ -102,7 +81,6 @@ module _ (c : Cursor) (r : Rule) (h : Holds r c) where
         clocks = c .head .clocks;
         starts = c .head .starts;
         ends = c .head .ends;
-        ceiling = c .head .ceiling;
         count = c .head .count + 1;
       }))
   edge-held at last e = record {
@@ -180,7 +158,6 @@ module _ {c : Cursor} {size : ℕ} {body t : List ℕ} (room : EdgeRoom c size b
               clocks = c .head .clocks;
               starts = c .head .starts;
               ends = c .head .ends;
-              ceiling = c .head .ceiling;
               count = c .head .count + 1;
             }))
         unfolding withRecord
@@ -238,14 +215,13 @@ module _ (c : Cursor) (kind size : ℕ) (body t : List ℕ) (d : Cursor) (stays 
     table-is = rw e;
   }
 
-  pub takes-ceiling :
-      (x : ℕ) → kind ≡ 4 → x ≡ numberAt 0 body
-      → ((r : Rule) → Holds r (past c kind size) → Holds (withCeiling r x) d)
-      → Takes c kind size body t t d
-  unfolding withRecord
-  takes-ceiling x e x-is h = record {
-    at-is = place-is;
-    last-is = stays .last-is;
-    holds = λ r q. rw (e, ← x-is) (h r (past-holds c kind size r q));
-    table-is = rw e;
-  }
+-- a ceiling is dropped
+pub takes-ceiling :
+    (c : Cursor) (kind size : ℕ) (body t : List ℕ) → kind ≡ 4 → Takes c kind size body t t (past c kind size)
+unfolding withRecord
+takes-ceiling c kind size body t e = record {
+  at-is = omega arith;
+  last-is = refl;
+  holds = λ r q. rw e (past-holds c 4 size r q);
+  table-is = rw e;
+}

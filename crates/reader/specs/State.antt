@@ -7,7 +7,7 @@ use lib.Dec.{eqb}
 use lib.ListN.{length, getD, take, drop}
 use Rattle.model.specs.declared.Reading.{Reading}
 use Rattle.model.specs.Basics.{pick, zeros, Refusal, refusal, refuse, _⨾_}
-use Rattle.model.specs.Rules.{Edge, Rule, mostAtoms, mostConstant, mostEdges, mostLocations, edgeOk, integerReset}
+use Rattle.model.specs.Rules.{Edge, Rule, mostAtoms, mostEdges, mostLocations, edgeOk, integerReset}
 use Rattle.model.specs.Files.{numberAt, recordHead, kindOf, edgeFrom, noRule, pastLast, outOfOrder, oneTooMany}
 use Rattle.model.specs.Files.{badSizes, outOfRange, notPinned, recordRefusal, withRecord, atEnd, readRule}
 use Rattle.model.specs.Layout.{edgeNeed, edgeWidth, headOf, noHead, edgeNumbers, edgeTable}
@@ -80,7 +80,6 @@ pub record Room (c : Cursor) (kind size : ℕ) (body : List ℕ) : Type 0 where
   pub sizes : kind ≡ 1 → sizesBody ≤ length body
   pub initial : kind ≡ 2 → (numberAt 0 body < mostLocations) × (c .head .starts + 2 ^ numberAt 0 body < 2 ^ 32)
   pub final : kind ≡ 3 → (numberAt 0 body < mostLocations) × (c .head .ends + 2 ^ numberAt 0 body < 2 ^ 32)
-  pub ceiling : kind ≡ 4 → numberAt 0 body ≤ mostConstant
 
 pub record Takes (c : Cursor) (kind size : ℕ) (body t t′ : List ℕ) (d : Cursor) : Type 0 where
   pub at-is : d .at ≡ c .at + (recordHead + size)

@@ -74,7 +74,7 @@ pub(crate) fn out_of_order(cursor: Cursor, kind: usize, body: &[u8]) -> bool
     match kind {
         2 => number_at(body, 0) < cursor.start,
         3 => number_at(body, 0) < cursor.end,
-        4 => 1 <= head.ceiling,
+        4 => cursor.last == 4,
         _ => false,
     }
 }

@@ -42,7 +42,6 @@ pub(crate) fn no_head() -> Head
         clocks: 0,
         starts: 0,
         ends: 0,
-        ceiling: 0,
         count: 0,
     }
 }

@@ -2,9 +2,8 @@
 ghost use mathlib.Core.List.{List};
 ghost use Prim.Native.Nat.{ℕ, _+_, _^_, _≤_, _<_};
 ghost use lib.ListN.{length};
-ghost use Rattle.model.specs.Rules.{Rule, mostConstant, mostLocations};
-ghost use Rattle.model.specs.Files.{withSizes, withInitial, withFinal, withCeiling};
-ghost use Rattle.model.specs.Files.{sizesBody};
+ghost use Rattle.model.specs.Rules.{Rule, mostLocations};
+ghost use Rattle.model.specs.Files.{sizesBody, withSizes, withInitial, withFinal};
 ghost use Rattle.reader.specs.State.{Holds, Stays, Room, Takes, EdgeRoom, EdgeIs, State, Under-way, StepIs};
 use crate::Cursor;
 use crate::Step;
@@ -38,7 +37,6 @@ impl Cursor {
                 clocks: narrow32(number_at(body, 2)),
                 starts: 0,
                 ends: 0,
-                ceiling: 0,
                 count: 0,
             },
         }
@@ -76,18 +74,7 @@ impl Cursor {
         }
     }
 
-    pub(crate) fn with_ceiling(self, number: usize) -> Cursor
-        requires { ⌜ number ≤ mostConstant ⌝ }
-        ensures { λ d. ⌜ Stays self d × ((r : Rule) → Holds r self → Holds (withCeiling r number) d) ⌝ }
-    {
-        let mut head = self.head;
-        head.ceiling = narrow32(number + 1);
-        let mut next = self;
-        next.head = head;
-        next
-    }
-
-    // The cursor past a record that is not refused, of any kind but an edge.
+    // The cursor past a record that is not refused, of any kind but an edge. A ceiling is dropped.
     pub(crate) fn taken(self, kind: usize, size: usize, body: &[u8]) -> Cursor
         requires { ⌜ Room self kind size (now body) ⌝ }
         ensures { λ d. ⌜ ((t : List ℕ) → Takes self kind size (now (body .entry)) t t d) ⌝ }
@@ -99,7 +86,7 @@ impl Cursor {
             1 => past.with_sizes(body),
             2 => past.with_initial(number_at(body, 0)),
             3 => past.with_final(number_at(body, 0)),
-            _ => past.with_ceiling(number_at(body, 0)),
+            _ => past,
         }
     }
 

@@ -37,13 +37,6 @@ with-final-requires c κs =
     let kind = c .before in
     rw (c .number-at2 .ensures .0) (kind .before .before .before .pre .final (kind .match .keys3))
 
-number-at-requires-3 : tie.Need-number-at-requires-3
-number-at-requires-3 c κs = search needs
-
-with-ceiling-requires : tie.Need-with-ceiling-requires
-with-ceiling-requires c κs =
-    rw (c .number-at3 .ensures .0) (c .before .before .before .before .pre .ceiling (is-ceiling (c .before)))
-
 returns : tie.Need-returns
 returns c =
     let kind = c .before in
@@ -67,10 +60,8 @@ returns-3 c =
 
 returns-4 : tie.Need-returns-4
 returns-4 c =
-    let kind = c .before .before in
-    let a = kind .before .before .before .args in
-    λ t. takes-ceiling (a .self) (a .kind) (a .size) (a .body .now) t _ (c .with-ceiling .ensures .0) _
-    (is-ceiling kind) (c .before .number-at3 .ensures .0) (c .with-ceiling .ensures .1)
+    let a = c .before .before .before .args in
+    λ t. takes-ceiling (a .self) (a .kind) (a .size) (a .body .now) t (is-ceiling c)
 
 pub taken-spec : {M : Type 1} → statement M
 taken-spec =
@@ -83,8 +74,6 @@ taken-spec =
     with-initial-requires
     number-at-requires-2
     with-final-requires
-    number-at-requires-3
-    with-ceiling-requires
     returns
     returns-2
     returns-3
