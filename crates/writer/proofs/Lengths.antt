@@ -8,7 +8,7 @@ use borrow.Author.Tests.{eqb-true, eqb-false}
 use Rattle.model.specs.declared.Head.{Head}
 use Rattle.model.specs.Basics.{pick, bit, bitsFrom}
 use Rattle.model.specs.Rules.{mostAtoms, mostLocations}
-use Rattle.model.specs.Files.{ceilingRecord, edgeRecord, edgeRecords, ruleBytes}
+use Rattle.model.specs.Files.{edgeRecord, edgeRecords, ruleBytes}
 use Rattle.model.specs.Layout.{edgeWidth, edgeAt, edgesIn, locationsIn, ruleIn}
 use Rattle.model.proofs.Logic.{by-test}
 use Rattle.model.proofs.FileLengths.{file-length}
@@ -88,16 +88,13 @@ table-known e table = rw e table
 
 -- the whole file
 pub whole-length :
-    (h : Head) (t : List ℕ) {starts ends ceiling i f c es : ℕ} → starts ≡ h .starts → ends ≡ h .ends
-    → ceiling ≡ h .ceiling
+    (h : Head) (t : List ℕ) {starts ends i f es : ℕ} → starts ≡ h .starts → ends ≡ h .ends
     → i ≡ length (locationsIn starts)
     → f ≡ length (locationsIn ends)
-    → c ≡ length (ceilingRecord ceiling)
     → es ≡ length (edgeRecords (edgesIn (h .count) t))
-    → sizesLength + singleLength * (i + f) + c + es ≡ length (ruleBytes (ruleIn h t))
+    → sizesLength + singleLength * (i + f) + es ≡ length (ruleBytes (ruleIn h t))
 unfolding ruleIn
-whole-length h t {starts} {ends} {ceiling} {i} {f} {c} {es} s-is e-is c-is a b d g =
+whole-length h t {starts} {ends} {i} {f} {es} s-is e-is a b g =
     let a′ : i ≡ length (locationsIn (h .starts)) = a ∙ ap (λ (m : ℕ). length (locationsIn m)) s-is in
     let b′ : f ≡ length (locationsIn (h .ends)) = b ∙ ap (λ (m : ℕ). length (locationsIn m)) e-is in
-    let d′ : c ≡ length (ceilingRecord (h .ceiling)) = d ∙ ap (λ (m : ℕ). length (ceilingRecord m)) c-is in
     omega (arith, file-length (ruleIn h t))

@@ -3,14 +3,14 @@
 use mathlib.Core.Path.{_≡_, refl, sym, _∙_, ap, subst}
 use mathlib.Core.Bool.{Bool, true, false}
 use mathlib.Core.List.{List, [], _∷_, _++_}
-use Prim.Native.Nat.{ℕ, zero, suc, _+_, _-_, _*_, _≤_, _<_}
+use Prim.Native.Nat.{ℕ, suc, _+_, _-_, _*_, _≤_, _<_}
 use native.Mathlib.Omega.{arith}
 use native.Mathlib.Numerals.{add-one}
 use lib.ListN.{length, getD, take, drop, length-drop, drop-of-length-le}
 use lib.Seq.{drop-cons, length-take-le}
 use Rattle.model.specs.Basics.{pick, bit, bitsFrom}
 use Rattle.model.specs.Rules.{Edge, mostAtoms, mostLocations}
-use Rattle.model.specs.Files.{two, numbers, locationRecords, ceilingRecord, atomNumbers, edgeRecord, edgeRecords}
+use Rattle.model.specs.Files.{two, numbers, locationRecords, atomNumbers, edgeRecord, edgeRecords}
 use Rattle.model.specs.Layout.{edgeFields, atomWidth, edgeWidth, edgeIn, edgesIn}
 use Rattle.model.proofs.Bytes.{numbers-length}
 use Rattle.model.proofs.EdgeTable.{edges-rest, atoms-length}
@@ -106,14 +106,6 @@ module _ (kind mask i : ℕ) {x : Bool} (x-is : x ≡ bit i mask) where
   location-out h =
       let unset : bit i mask ≡ false = sym x-is ∙ h in
       rw unset
-
--- a ceiling is stored plus 1
-pub ceiling-in : (c : ℕ) → (c ≡ 0 → ⊥) → ceilingRecord c ≡ numbers (numberBytes ∷ 4 ∷ (c - 1) ∷ [])
-ceiling-in zero h = absurd (h refl)
-ceiling-in (suc c) h = let e : suc c - 1 ≡ c = omega arith in rw e
-
-pub ceiling-out : (c : ℕ) → c ≡ 0 → ceilingRecord c ≡ []
-ceiling-out c h = rw h
 
 -- the edges of a table
 pub edge-records-rest :

@@ -5,7 +5,7 @@ use Prim.Native.Nat.{ℕ, _+_, _≤_}
 use native.Mathlib.Omega.{arith}
 use lib.ListN.{length}
 use Rattle.model.specs.declared.Head.{Head}
-use Rattle.model.specs.Files.{numbers, locationRecords, ceilingRecord, edgeRecords, ruleBytes}
+use Rattle.model.specs.Files.{numbers, locationRecords, edgeRecords, fileWith, ruleBytes}
 use Rattle.model.specs.Layout.{edgesIn, locationsIn, ruleIn}
 use Rattle.model.specs.Files.{sizesBody}
 use Rattle.writer.specs.Writing.{sizesLength, Puts, Fits}
@@ -34,82 +34,66 @@ module _ (h : Head) (t : List ℕ) where
   abbrev final : List ℕ
   final = locationRecords 3 (locationsIn (h .ends))
 
-  abbrev ceiling : List ℕ
-  ceiling = ceilingRecord (h .ceiling)
-
   abbrev edges : List ℕ
   edges = edgeRecords (edgesIn (h .count) t)
 
   abbrev all : List ℕ
   all = ruleBytes (ruleIn h t)
 
-  all-is : all ≡ sizes ++ (initial ++ (final ++ (ceiling ++ edges)))
-  unfolding ruleBytes ruleIn
+  all-is : all ≡ sizes ++ (initial ++ (final ++ edges))
+  unfolding fileWith ruleBytes ruleIn
   all-is = refl
 
   module _ (out : List ℕ) where
     -- the file is put up to one kind of record
     abbrev pub Sized : List ℕ → ℕ → Type 0
-    Sized out′ next = Putting all (initial ++ (final ++ (ceiling ++ edges))) out 0 out′ next
+    Sized out′ next = Putting all (initial ++ (final ++ edges)) out 0 out′ next
 
     abbrev pub Started : List ℕ → ℕ → Type 0
-    Started out′ next = Putting all (final ++ (ceiling ++ edges)) out 0 out′ next
+    Started out′ next = Putting all (final ++ edges) out 0 out′ next
 
     abbrev pub Ended : List ℕ → ℕ → Type 0
-    Ended out′ next = Putting all (ceiling ++ edges) out 0 out′ next
+    Ended out′ next = Putting all edges out 0 out′ next
 
-    abbrev pub Capped : List ℕ → ℕ → Type 0
-    Capped out′ next = Putting all edges out 0 out′ next
-
-    begun : Fits h t out → Putting all (sizes ++ (initial ++ (final ++ (ceiling ++ edges)))) out 0 out 0
+    begun : Fits h t out → Putting all (sizes ++ (initial ++ (final ++ edges))) out 0 out 0
     begun fits = rw (← all-is) (putting-start all out 0 (omega (arith, fits .room)))
 
     pub sizes-room : Fits h t out → sizesLength ≤ length out
-    sizes-room fits = putting-room (begun fits) sizes (initial ++ (final ++ (ceiling ++ edges))) refl
+    sizes-room fits = putting-room (begun fits) sizes (initial ++ (final ++ edges)) refl
 
     pub sizes-put :
         {l s k next : ℕ} {out′ : List ℕ} → Fits h t out → l ≡ h .locations → s ≡ h .symbols → k ≡ h .clocks
         → Puts (numbers (sizesBody ∷ 1 ∷ l ∷ s ∷ k ∷ [])) out 0 out′ next
         → Sized out′ next
-    sizes-put fits a b c p =
-        part-next sizes (initial ++ (final ++ (ceiling ++ edges))) (begun fits) (rw (a, b, c)) p
+    sizes-put fits a b c p = part-next sizes (initial ++ (final ++ edges)) (begun fits) (rw (a, b, c)) p
 
     module _ {out₁ : List ℕ} {n₁ m : ℕ} where
       pub starts-room :
           Sized out₁ n₁ → m ≡ h .starts → n₁ + length (locationRecords 2 (locationsIn m)) ≤ length out₁
-      starts-room inv e =
-          part-room initial (locationRecords 2 (locationsIn m)) (final ++ (ceiling ++ edges)) inv (rw e)
+      starts-room inv e = part-room initial (locationRecords 2 (locationsIn m)) (final ++ edges) inv (rw e)
 
       pub starts-put :
           {out₂ : List ℕ} {n₂ : ℕ} → Sized out₁ n₁ → m ≡ h .starts
           → Puts (locationRecords 2 (locationsIn m)) out₁ n₁ out₂ n₂
           → Started out₂ n₂
-      starts-put inv e p = part-next initial (final ++ (ceiling ++ edges)) inv (rw e) p
+      starts-put inv e p = part-next initial (final ++ edges) inv (rw e) p
 
       pub ends-room :
           Started out₁ n₁ → m ≡ h .ends → n₁ + length (locationRecords 3 (locationsIn m)) ≤ length out₁
-      ends-room inv e = part-room final (locationRecords 3 (locationsIn m)) (ceiling ++ edges) inv (rw e)
+      ends-room inv e = part-room final (locationRecords 3 (locationsIn m)) edges inv (rw e)
 
       pub ends-put :
           {out₂ : List ℕ} {n₂ : ℕ} → Started out₁ n₁ → m ≡ h .ends
           → Puts (locationRecords 3 (locationsIn m)) out₁ n₁ out₂ n₂
           → Ended out₂ n₂
-      ends-put inv e p = part-next final (ceiling ++ edges) inv (rw e) p
-
-      pub ceiling-room : Ended out₁ n₁ → m ≡ h .ceiling → n₁ + length (ceilingRecord m) ≤ length out₁
-      ceiling-room inv e = part-room ceiling (ceilingRecord m) edges inv (rw e)
-
-      pub ceiling-put :
-          {out₂ : List ℕ} {n₂ : ℕ} → Ended out₁ n₁ → m ≡ h .ceiling → Puts (ceilingRecord m) out₁ n₁ out₂ n₂
-          → Capped out₂ n₂
-      ceiling-put inv e p = part-next ceiling edges inv (rw e) p
+      ends-put inv e p = part-next final edges inv (rw e) p
 
       pub edges-room :
-          Capped out₁ n₁ → m ≡ h .count → n₁ + length (edgeRecords (edgesIn m t)) ≤ length out₁
+          Ended out₁ n₁ → m ≡ h .count → n₁ + length (edgeRecords (edgesIn m t)) ≤ length out₁
       edges-room inv e = rw e (inv .room)
 
       pub edges-put :
-          {out₂ : List ℕ} {n₂ : ℕ} → Capped out₁ n₁ → m ≡ h .count
+          {out₂ : List ℕ} {n₂ : ℕ} → Ended out₁ n₁ → m ≡ h .count
           → Puts (edgeRecords (edgesIn m t)) out₁ n₁ out₂ n₂
           → Puts (ruleBytes (ruleIn h t)) out 0 out₂ n₂
       edges-put inv e p =

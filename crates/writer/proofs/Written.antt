@@ -48,7 +48,6 @@ module _ (h : Head) (t : List ℕ) where
     locations-most = v .sizes .locations-most;
     symbols-most = v .sizes .symbols-most;
     clocks-most = v .sizes .clocks-most;
-    ceiling-most = v .ceiling-most;
     table = record {
       count-most = omega (arith, v .edges-most, edges-length (h .count) t);
       long = long;

@@ -5,7 +5,7 @@ use Prim.Native.Nat.{ℕ, _+_, _≤_, _<_}
 use lib.ListN.{length}
 use lib.Seq.{sets}
 use Rattle.model.specs.declared.Head.{Head}
-use Rattle.model.specs.Rules.{mostAtoms, mostClocks, mostConstant, mostEdges, mostLocations, mostSymbols}
+use Rattle.model.specs.Rules.{mostAtoms, mostClocks, mostEdges, mostLocations, mostSymbols}
 use Rattle.model.specs.Files.{recordHead, numberBytes, sizesBody, fieldsBody, ruleBytes}
 use Rattle.model.specs.Layout.{edgeNeed, edgeAt, ruleIn}
 
@@ -35,7 +35,6 @@ pub record Writable (head : Head) (edges : List ℕ) : Type 0 where
   pub locations-most : head .locations ≤ mostLocations
   pub symbols-most : head .symbols ≤ mostSymbols
   pub clocks-most : head .clocks ≤ mostClocks
-  pub ceiling-most : head .ceiling ≤ mostConstant + 1
   pub table : Table (head .count) edges
 
 -- room for the whole file

@@ -5,8 +5,7 @@ ghost use Prim.Native.Nat.{_+_, _*_, _^_, _≤_, _<_};
 ghost use lib.ListN.{length};
 ghost use Rattle.model.specs.Basics.{pick, bit};
 ghost use Rattle.model.specs.Rules.{mostAtoms, mostEdges, mostLocations};
-ghost use Rattle.model.specs.Files.{recordHead, two, numbers, locationRecords, ceilingRecord, edgeRecord, edgeRecords};
-ghost use Rattle.model.specs.Files.{ruleBytes};
+ghost use Rattle.model.specs.Files.{recordHead, two, numbers, locationRecords, edgeRecord, edgeRecords, ruleBytes};
 ghost use Rattle.model.specs.Layout.{edgeWidth, edgeIn, edgesIn, locationsIn, ruleIn};
 ghost use Rattle.model.specs.Promises.{WritesRule};
 ghost use Rattle.model.specs.Files.{numberBytes, sizesBody, atomBody};
@@ -128,17 +127,6 @@ pub(crate) fn put_locations(out: &mut [u8], at: usize, kind: usize, mask: usize)
     next
 }
 
-// The ceiling, if there is one: it is stored plus 1.
-pub(crate) fn put_ceiling(out: &mut [u8], at: usize, ceiling: usize) -> usize
-    requires { ⌜ (ceiling < 2 ^ 16) × (at + length (ceilingRecord ceiling) ≤ length (now out)) ⌝ }
-    ensures { λ r. ⌜ Puts (ceilingRecord ceiling) (now (out .entry)) at (now (out .exit)) r ⌝ }
-{
-    if ceiling == 0 {
-        return at;
-    }
-    put_single(out, at, 4, ceiling - 1)
-}
-
 // The edge at the front of a table: its four numbers, then three numbers per atom.
 pub(crate) fn put_edge(out: &mut [u8], at: usize, edge: &[u16]) -> usize
     requires { ⌜
@@ -189,7 +177,6 @@ pub(crate) fn put_rule(out: &mut [u8], head: Head, edges: &[u16]) -> usize
     );
     next = put_locations(out, next, 2, wide32(head.starts));
     next = put_locations(out, next, 3, wide32(head.ends));
-    next = put_ceiling(out, next, wide32(head.ceiling));
     put_edges(out, next, edges, wide32(head.count))
 }
 
@@ -204,15 +191,6 @@ pub(crate) fn locations_in(mask: usize) -> usize
         location += 1;
     }
     count
-}
-
-pub(crate) fn ceiling_length(ceiling: usize) -> usize
-    ensures { λ r. ⌜ (r ≡ length (ceilingRecord ceiling)) × (r ≤ singleLength) ⌝ }
-{
-    if ceiling == 0 {
-        return 0;
-    }
-    SINGLE_LENGTH
 }
 
 pub(crate) fn edges_length(edges: &[u16], count: u32) -> usize
@@ -236,8 +214,7 @@ pub(crate) fn file_length(head: Head, edges: &[u16]) -> usize
     ensures { λ r. ⌜ r ≡ length (ruleBytes (ruleIn head (now (edges .entry)))) ⌝ }
 {
     let locations = locations_in(wide32(head.starts)) + locations_in(wide32(head.ends));
-    let ceiling = ceiling_length(wide32(head.ceiling));
-    SIZES_LENGTH + SINGLE_LENGTH * locations + ceiling + edges_length(edges, head.count)
+    SIZES_LENGTH + SINGLE_LENGTH * locations + edges_length(edges, head.count)
 }
 
 // 20, 21 or 27, with the output untouched; else the file, with its length as the value.

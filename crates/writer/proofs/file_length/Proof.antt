@@ -1,4 +1,4 @@
--- `writer::file_length` meets its contract: the sizes, the locations, the ceiling, the edges.
+-- `writer::file_length` meets its contract: the sizes, the locations, the edges.
 use Rattle.writer.proofs.Lengths.{whole-length}
 use borrow.Author.Needs.{needs}
 use Rattle.writer.proofs.file_length.Statement.{statement}
@@ -19,36 +19,27 @@ locations-in-requires-2 c κs = search needs
 add-locations : tie.Need-add-locations
 add-locations c = search needs
 
-wide32-requires-3 : tie.Need-wide32-requires-3
-wide32-requires-3 c κs = search needs
-
-ceiling-length-requires : tie.Need-ceiling-length-requires
-ceiling-length-requires c κs = search needs
-
 mul-result : tie.Need-mul-result
 mul-result c = search needs
 
 add-result : tie.Need-add-result
 add-result c = search needs
 
+edges-length-requires : tie.Need-edges-length-requires
+edges-length-requires c κs =
+    let starts = c .before .before in
+    starts .before .before .before .pre .table
+
 add-result-2 : tie.Need-add-result-2
 add-result-2 c = search needs
 
-edges-length-requires : tie.Need-edges-length-requires
-edges-length-requires c κs = c .before .before .before .before .before .before .before .pre .table
-
-add-result-3 : tie.Need-add-result-3
-add-result-3 c = search needs
-
 returns : tie.Need-returns
 returns c =
-    let ceiling = c .before in
-    let ends = ceiling .before .before in
+    let ends = c .before in
     let starts = ends .before .before in
     let a = starts .before .before .before .args in
     whole-length (a .head) (a .edges .now) (starts .before .wide32 .ensures .0) (ends .before .wide322 .ensures .0)
-    (ceiling .before .wide323 .ensures .0) (starts .locations-in .ensures .0) (ends .locations-in2 .ensures .0)
-    (ceiling .ceiling-length .ensures .0) (c .edges-length .ensures .0)
+    (starts .locations-in .ensures .0) (ends .locations-in2 .ensures .0) (c .edges-length .ensures .0)
 
 pub file-length-spec : {M : Type 1} → statement M
 file-length-spec =
@@ -59,11 +50,8 @@ file-length-spec =
     wide32-requires-2
     locations-in-requires-2
     add-locations
-    wide32-requires-3
-    ceiling-length-requires
     mul-result
     add-result
-    add-result-2
     edges-length-requires
-    add-result-3
+    add-result-2
     returns)

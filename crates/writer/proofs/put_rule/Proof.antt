@@ -1,8 +1,8 @@
 -- `writer::put_rule` meets its contract: record kind by record kind, what is left is still to be put.
 use native.Mathlib.Omega.{arith}
 use Rattle.writer.proofs.Lengths.{table-known}
-use Rattle.writer.proofs.Whole.{Sized, Started, Ended, Capped, sizes-room, starts-room, ends-room, ceiling-room}
-use Rattle.writer.proofs.Whole.{edges-room, sizes-put, starts-put, ends-put, ceiling-put, edges-put}
+use Rattle.writer.proofs.Whole.{Sized, Started, Ended, sizes-room, starts-room, ends-room, edges-room}
+use Rattle.writer.proofs.Whole.{sizes-put, starts-put, ends-put, edges-put}
 use borrow.Author.Needs.{needs}
 use Rattle.writer.proofs.put_rule.Statement.{statement}
 use Rattle.writer.proofs.put_rule.Tie as tie
@@ -37,17 +37,6 @@ ended-at :
 ended-at c =
     let started = c .before .before .before .before .before in
     ends-put _ _ _ (started-at started) (c .before .wide325 .ensures .0) (c .put-locations2 .ensures)
-
-capped-at :
-    (c : tie.After-put-ceiling)
-    → let ended = c .before .before .before .before .before in
-    let started = ended .before .before .before .before .before in
-    let sized = started .before .before .before .before .before in
-    let a = sized .before .before .before .before .before .before .before .args in
-    Capped (a .head) (a .edges .now) (a .out .now) (c .put-ceiling .last .0) (c .put-ceiling .result)
-capped-at c =
-    let ended = c .before .before .before .before .before in
-    ceiling-put _ _ _ (ended-at ended) (c .before .wide326 .ensures .0) (c .put-ceiling .ensures)
 
 wide32-requires : tie.Need-wide32-requires
 wide32-requires c κs = search needs
@@ -85,26 +74,14 @@ put-locations-requires-2 c κs =
 wide32-requires-6 : tie.Need-wide32-requires-6
 wide32-requires-6 c κs = search needs
 
-put-ceiling-requires : tie.Need-put-ceiling-requires
-put-ceiling-requires c κs =
+put-edges-requires : tie.Need-put-edges-requires
+put-edges-requires c κs =
     let ended = c .before .before .before .before in
     let started = ended .before .before .before .before .before in
     let sized = started .before .before .before .before .before in
-    let w = sized .before .before .before .before .before .before .before .pre .writable in
-    (omega (arith, c .wide326 .ensures .0), ceiling-room _ _ _ (ended-at ended) (c .wide326 .ensures .0))
-
-wide32-requires-7 : tie.Need-wide32-requires-7
-wide32-requires-7 c κs = search needs
-
-put-edges-requires : tie.Need-put-edges-requires
-put-edges-requires c κs =
-    let capped = c .before .before .before .before in
-    let ended = capped .before .before .before .before .before in
-    let started = ended .before .before .before .before .before in
-    let sized = started .before .before .before .before .before in
     let start = sized .before .before .before .before .before .before .before in
-    let count-is = c .wide327 .ensures .0 in
-    (table-known count-is (start .pre .writable .table), edges-room _ _ _ (capped-at capped) count-is)
+    let count-is = c .wide326 .ensures .0 in
+    (table-known count-is (start .pre .writable .table), edges-room _ _ _ (ended-at ended) count-is)
 
 same-length : tie.Need-same-length
 same-length c = search needs
@@ -112,8 +89,8 @@ same-length c = search needs
 returns : tie.Need-returns
 returns c =
     let put = c .before .before in
-    let capped = put .before .before .before .before .before in
-    edges-put _ _ _ (capped-at capped) (put .before .wide327 .ensures .0) (put .put-edges .ensures)
+    let ended = put .before .before .before .before .before in
+    edges-put _ _ _ (ended-at ended) (put .before .wide326 .ensures .0) (put .put-edges .ensures)
 
 pub put-rule-spec : {M : Type 1} → statement M
 put-rule-spec =
@@ -128,8 +105,6 @@ put-rule-spec =
     wide32-requires-5
     put-locations-requires-2
     wide32-requires-6
-    put-ceiling-requires
-    wide32-requires-7
     put-edges-requires
     same-length
     returns)
