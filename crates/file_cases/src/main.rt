@@ -1,5 +1,6 @@
-// The worked rule file and a file for each refusal from 1 to 8, read: number and place of each. Then the worked file
-// written again: its length, and 1 if its bytes are the same.
+// The worked rule file and a file for each refusal from 1 to 8, read: number and place of each. Then the same for files
+// with a ceiling of 31, with two, and with one after an edge. Then the worked file, and one with a ceiling that would
+// make N too large, written again: the length, and 1 if the bytes are those of the file less the ceiling.
 use libc::STDOUT_FILENO;
 use model::EDGE_NEED;
 use reader::read_rule;
@@ -53,14 +54,14 @@ fn print_same(out: &[u8], size: usize, file: &[u8]) {
     print_pair(size, check::same(written, file) as usize);
 }
 
-// What is written of a file that was read: its length, and whether the bytes are the same.
-fn print_writing(file: &[u8]) {
+// What is written of a file that was read: its length, and whether the bytes are those that must be.
+fn print_writing(file: &[u8], again: &[u8]) {
     let mut edges = [7u16; EDGE_NEED];
     let reading = read_rule(file, &mut edges);
-    let mut out = [7u8; 15760];
+    let mut out = [7u8; 15754];
     let head = reading.head;
     let answer = write_rule(head, &edges, &mut out);
-    print_same(&out, answer.value, file);
+    print_same(&out, answer.value, again);
 }
 
 // The same for the first bytes of a file.
@@ -86,6 +87,19 @@ fn main() {
     print_reading(
         b"\x06\x00\x01\x00\x02\x00\x02\x00\x01\x00\x14\x00\x05\x00\x00\x00\x01\x00\x00\x00\x01\x00\x00\x00\x03\x00\x03\x00\x00\x00\x01\x00\x03\x00",
     );
-    print_reading(b"\x06\x00\x01\x00\x11\x00\x01\x00\x03\x00\x02\x00\x04\x00\x0e\x00");
-    print_writing(worked);
+    print_reading(
+        b"\x06\x00\x01\x00\x11\x00\x01\x00\x03\x00\x0e\x00\x05\x00\x00\x00\x00\x00\x00\x00\x00\x00\x00\x00\x01\x00\x0e\x00",
+    );
+    print_reading(b"\x06\x00\x01\x00\x11\x00\x01\x00\x03\x00\x02\x00\x04\x00\x1f\x00");
+    print_reading(
+        b"\x06\x00\x01\x00\x11\x00\x01\x00\x03\x00\x02\x00\x04\x00\x1e\x00\x02\x00\x04\x00\x1e\x00",
+    );
+    print_reading(
+        b"\x06\x00\x01\x00\x11\x00\x01\x00\x03\x00\x08\x00\x05\x00\x00\x00\x01\x00\x00\x00\x00\x00\x02\x00\x04\x00\x1e\x00",
+    );
+    print_writing(worked, worked);
+    print_writing(
+        b"\x06\x00\x01\x00\x11\x00\x01\x00\x03\x00\x02\x00\x04\x00\x1e\x00\x08\x00\x05\x00\x00\x00\x01\x00\x00\x00\x00\x00",
+        b"\x06\x00\x01\x00\x11\x00\x01\x00\x03\x00\x08\x00\x05\x00\x00\x00\x01\x00\x00\x00\x00\x00",
+    );
 }
