@@ -93,12 +93,9 @@ fn build_and_compare(rule: &PlainRule) -> Option<(Room, Head, Built)> {
     let count = codes.len();
     let mut room = Room::new(rule.code_count() as usize, count * row_cells + 3, 2 * count + 1, total + 2, 11);
 
-    let file = rule.file();
-    let head = room.read(&file).unwrap();
+    let head = room.read(&rule.file()).unwrap();
     assert_eq!(check_rule(&head, &room.edges), Ok(()));
-    let mut out = vec![0; file.len()];
-    assert_eq!(write_rule(&head, &room.edges, &mut out), Ok(file.len()));
-    assert_eq!(out, file);
+    compare_written(rule, &room, &head);
 
     let built = room.build(&head).unwrap();
     assert_eq!((built.rows, built.pool), (count as u32, total as u32));
@@ -121,6 +118,18 @@ fn build_and_compare(rule: &PlainRule) -> Option<(Room, Head, Built)> {
     assert_eq!(check_table(&built, &room.cells, &room.rows, &room.pool), Ok(()));
     compare_tight_room(&head, &room, count, row_cells, total);
     Some((room, head, built))
+}
+
+/// What is written is the file without its ceiling, and one byte less than that is 27.
+fn compare_written(rule: &PlainRule, room: &Room, head: &Head) {
+    let file = rule.written_file();
+    let mut out = vec![7; file.len() + 6];
+    assert_eq!(write_rule(head, &room.edges, &mut out), Ok(file.len()));
+    assert_eq!(out, [&file[..], &[7; 6]].concat());
+    let mut short = vec![7; file.len() - 1];
+    assert_eq!(write_rule(head, &room.edges, &mut short), refusal(27, 0));
+    assert!(short.iter().all(|&byte| byte == 7));
+    assert_eq!(write_rule(head, &room.edges, &mut out[..file.len()]), Ok(file.len()));
 }
 
 /// One row, cell or code less than needed is 23 or 24 and leaves zeros; just enough is enough.

@@ -120,10 +120,10 @@ fn number_7_is_a_reset_at_any_time() {
 
 #[test]
 fn number_8_is_too_many_codes_and_comes_last() {
-    let wide = [record(1, &[32, 1, 4]), record(4, &[30])].concat();
-    assert_eq!(refused(&wide), (8, 16));
-    assert_eq!(refused(&[wide.clone(), vec![0]].concat()), (1, 16));
-    assert_eq!(refused(&[wide, record(5, &[0, 0, 0, 1])].concat()), (7, 16));
+    let wide = [record(1, &[32, 1, 4]), record(5, &[0, 0, 0, 0, 0, 0, 30])].concat();
+    assert_eq!(refused(&wide), (8, 28));
+    assert_eq!(refused(&[wide.clone(), vec![0]].concat()), (1, 28));
+    assert_eq!(refused(&[wide, record(5, &[0, 0, 0, 1])].concat()), (7, 28));
 }
 
 #[test]
@@ -160,16 +160,13 @@ fn number_21_leaves_all_untouched() {
     assert_eq!(room, before);
 }
 
-/// Whether reading the one file that could leave these leaves them.
+/// Whether reading the one file without a ceiling that could leave these leaves them.
 fn left_by_some_file(head: &Head, edges: &[u16]) -> bool {
     let number = |number: u32| number.min(0xffff) as u16;
     let mut file = record(1, &[number(head.locations), number(head.symbols), number(head.clocks)]);
     for (kind, set) in [(2, head.initial), (3, head.finals)] {
         let members = (0..32).filter(|location| set >> location & 1 == 1);
         file.extend(members.flat_map(|location| record(kind, &[location])));
-    }
-    if head.ceiling > 0 {
-        file.extend(record(4, &[number(head.ceiling - 1)]));
     }
     for edge in edges.chunks_exact(29).take(head.edge_count as usize) {
         let end = 5 + 3 * usize::from(edge[4].min(9));
@@ -195,7 +192,7 @@ fn number_21_is_what_no_file_leaves() {
             let (mut head, mut edges) = (head, room.edges.clone());
             if random.chance(30) {
                 let mut numbers = head.to_numbers();
-                numbers[random.below(7) as usize] = random_number(&mut random);
+                numbers[random.below(6) as usize] = random_number(&mut random);
                 head = Head::from_numbers(numbers);
             } else {
                 let used = head.edge_count as usize * 29;
