@@ -70,6 +70,25 @@ fn refusals_and_the_state_after_them() {
 }
 
 #[test]
+fn a_ceiling_leaves_no_field() {
+    let with_ceiling = [&FILE[..44], "020004001e00", &FILE[44..]].concat();
+    let script = |file: &str| {
+        format!(
+            "read {file} 7424 9\ncheck_rule\nwrite 64 3\nwrite 58 3\nwrite 57 3\nbuild 6 24 6 2 5\n\
+             list {file}\npoke head 5 1\ncheck_rule\npoke head 6 0\nstate"
+        )
+    };
+    let with = answers(&script(&with_ceiling));
+    assert_eq!(with, answers(&script(FILE)));
+    assert!(with[0].starts_with("read ok head=2,2,1,1,1,2 edges=7424:"));
+    assert!(with[3].starts_with("write ok 58 out=58:"));
+    assert!(with[4].starts_with("write no 27 0 out=57:"));
+    assert!(with[5].starts_with("build ok built=2,2,1,1,1,3,2 scratch=6:"));
+    assert_eq!(with[7..10], ["poke 2", "check_rule no 21 0", "bad"]);
+    assert!(with[10].starts_with("state head=2,2,1,1,1,1 edges=7424:"));
+}
+
+#[test]
 fn the_calls_answer_in_their_form() {
     let script = "write 60 1\ntable 2 0,1 2,4\ntable 2 0 1,2\nbranch 2 0 1\nexact 0 - - 3 1\nstart 2\n\
         walk 0,1,0,1 2,4,4,6\nwalk 0,0,7 8,9,9\nfollow_in_place 0 1\nfollow_in_place 0 9\nlist -\n\

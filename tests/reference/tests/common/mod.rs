@@ -80,17 +80,22 @@ pub fn whole_case() -> Vec<u8> {
 
 impl PlainRule {
     pub fn file(&self) -> Vec<u8> {
-        let mut file = record(1, &[self.locations, self.symbols, self.clocks]);
-        file.extend(self.initial.iter().flat_map(|&location| record(2, &[location])));
-        file.extend(self.finals.iter().flat_map(|&location| record(3, &[location])));
-        file.extend(self.ceiling.iter().flat_map(|&ceiling| record(4, &[ceiling])));
-        file.extend(self.edges.iter().flat_map(PlainEdge::record));
-        file
+        self.file_with(self.ceiling)
     }
 
     /// The file as it is written after reading: without a ceiling.
     pub fn written_file(&self) -> Vec<u8> {
-        PlainRule { ceiling: None, ..self.clone() }.file()
+        self.file_with(None)
+    }
+
+    /// The file with this ceiling in place of the rule's own.
+    pub fn file_with(&self, ceiling: Option<u16>) -> Vec<u8> {
+        let mut file = record(1, &[self.locations, self.symbols, self.clocks]);
+        file.extend(self.initial.iter().flat_map(|&location| record(2, &[location])));
+        file.extend(self.finals.iter().flat_map(|&location| record(3, &[location])));
+        file.extend(ceiling.iter().flat_map(|&ceiling| record(4, &[ceiling])));
+        file.extend(self.edges.iter().flat_map(PlainEdge::record));
+        file
     }
 
     /// cm.
