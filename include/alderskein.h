@@ -43,8 +43,9 @@
  *   32  symbol not below S
  *   33  stamp below the one before (an event has 32 tested before 33)
  *
- * Here L, S, K are the counts of locations, symbols and clocks; cm is the largest constant in any atom, or
- * the ceiling if that is larger; N = L * (cm + 2)^K; W = 2 * cm + 2; R and P count the rows and their codes.
+ * Here L, S, K are the counts of locations, symbols and clocks; cm is the largest constant in any atom, 0 if
+ * there is none; N = L * (cm + 2)^K; W = 2 * cm + 2; R and P count the rows and their codes. A ceiling record
+ * (kind 4) is read, checked and dropped.
  */
 #ifndef ALDERSKEIN_H
 #define ALDERSKEIN_H
@@ -59,7 +60,7 @@ extern "C" {
 
 /* The least length of an edge table: 256 edges of 29 numbers. */
 #define ALDERSKEIN_EDGE_TABLE 7424
-/* The longest legal file, in bytes. */
+/* The longest legal file, in bytes, 6 of them for a ceiling record; a file that is written has none. */
 #define ALDERSKEIN_LONGEST_FILE 15760
 /* The most events of a word, and of a word run by branch. */
 #define ALDERSKEIN_EVENTS 4096
@@ -80,7 +81,6 @@ typedef struct {
     uint32_t clocks;    /* K, 1 to 4 */
     uint32_t starts;    /* initial locations */
     uint32_t ends;      /* final locations */
-    uint32_t ceiling;   /* 0 for none, or its number plus 1 */
     uint32_t count;     /* edges, at most 256 */
 } alderskein_head;
 
@@ -167,7 +167,8 @@ alderskein_reading alderskein_read_rule(const uint8_t *file, size_t file_length,
                                         uint16_t *edges, size_t edges_length);
 
 /*
- * Writes the rule as a file, the same bytes that it was read from; the value is the file's length.
+ * Writes the rule as a file, the same bytes that it was read from, less a ceiling record; the value is the
+ * length of what is written.
  * Refuses: 20, 21, 27, and then `out` is untouched. The bytes past the file are not touched.
  */
 alderskein_answer alderskein_write_rule(alderskein_head head, const uint16_t *edges, size_t edges_length,

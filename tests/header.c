@@ -5,16 +5,18 @@
 #define PLACE(record, field, place) _Static_assert(offsetof(record, field) == (place), #record " " #field)
 
 SIZE(alderskein_stamp, 4);
-SIZE(alderskein_head, 28);
+SIZE(alderskein_head, 24);
 SIZE(alderskein_built, 28);
 SIZE(alderskein_follower, 20);
 SIZE(alderskein_answer, 24);
-SIZE(alderskein_reading, 48);
+SIZE(alderskein_reading, 40);
 SIZE(alderskein_building, 48);
 SIZE(alderskein_branch, 32);
 SIZE(alderskein_started, 40);
 SIZE(alderskein_followed, 40);
 SIZE(alderskein_moved, 24);
+PLACE(alderskein_head, ends, 16);
+PLACE(alderskein_head, count, 20);
 PLACE(alderskein_answer, place, 8);
 PLACE(alderskein_answer, value, 16);
 PLACE(alderskein_reading, head, 16);

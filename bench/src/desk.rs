@@ -46,6 +46,7 @@ impl Desk {
         let mut edges = vec![0; 7_424];
         let head = Reference::read_rule(&file, &mut edges).head;
         let mut desk = Desk {
+            // As much as writing asks for, or a ceiling's 6 bytes more.
             out: vec![0; file.len()],
             file,
             head,

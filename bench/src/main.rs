@@ -44,7 +44,7 @@ fn calls() -> Done {
     line("read, 58 bytes", &mut worked(), Call::Read)?;
     line("read, 15,760 bytes", &mut longest(), Call::Read)?;
     line("write, 58 bytes", &mut worked(), Call::Write)?;
-    line("write, 15,760 bytes", &mut longest(), Call::Write)?;
+    line("write, 15,754 bytes", &mut longest(), Call::Write)?;
     line("check rule, 2 edges", &mut worked(), Call::CheckRule)?;
     line("check rule, 256 edges", &mut longest(), Call::CheckRule)?;
     line("check table, small", &mut worked(), Call::CheckTable)?;

@@ -13,12 +13,17 @@ pub fn worked() -> Vec<u8> {
 }
 
 /// Locations in a ring: symbol k goes on at age 2 of clock k and resets it, one symbol more skips a location.
-pub fn ring(locations: u16, clocks: u16, ceiling: u16) -> Vec<u8> {
+/// `top`, at least 2, is cm: the first edge also asks for an age of at most `top`, which age 2 is.
+pub fn ring(locations: u16, clocks: u16, top: u16) -> Vec<u8> {
     let mut records = vec![record(1, &[locations, clocks + 1, clocks])];
-    records.extend([record(2, &[0]), record(3, &[locations - 1]), record(4, &[ceiling])]);
+    records.extend([record(2, &[0]), record(3, &[locations - 1])]);
     for location in 0..locations {
         for clock in 0..clocks {
-            records.push(record(5, &[location, (location + 1) % locations, clock, 1 << clock, clock, 2, 2]));
+            let mut edge = vec![location, (location + 1) % locations, clock, 1 << clock, clock, 2, 2];
+            if (location, clock) == (0, 0) {
+                edge.extend([clock, 1, top]);
+            }
+            records.push(record(5, &edge));
         }
         records.push(record(5, &[location, (location + 2) % locations, clocks, 0, 0, 3, 1]));
     }
@@ -35,7 +40,7 @@ pub fn back_in_the_word(back: u16) -> Vec<u8> {
     records.concat()
 }
 
-/// As long as a legal file can be: 15,760 bytes.
+/// As long as a legal file can be: 15,760 bytes with its ceiling; written, less the ceiling, it has 15,754.
 pub fn longest() -> Vec<u8> {
     let mut records = vec![record(1, &[32, 16, 2])];
     for kind in [2, 3] {

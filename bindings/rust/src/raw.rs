@@ -29,8 +29,6 @@ pub struct Head {
     pub starts: u32,
     /// The final locations.
     pub ends: u32,
-    /// 0 for no ceiling, else its number plus 1.
-    pub ceiling: u32,
     /// The count of edges.
     pub count: u32,
 }
@@ -45,7 +43,7 @@ pub struct Built {
     pub symbols: u32,
     /// K, the count of clocks.
     pub clocks: u32,
-    /// cm, the largest constant, or the ceiling if that is larger.
+    /// cm, the largest constant in any atom, 0 if there is none.
     pub top: u32,
     /// The final locations.
     pub ends: u32,
@@ -233,7 +231,7 @@ pub fn check_rule(head: Head, edges: &[u16]) -> Answer {
     unsafe { c::alderskein_check_rule(head, edges.as_ptr(), edges.len()) }
 }
 
-/// Reads a rule file: 20, then 1 to 8.
+/// Reads a rule file, of which a ceiling is checked and dropped: 20, then 1 to 8.
 #[inline]
 pub fn read_rule(file: &[u8], edges: &mut [u16]) -> Reading {
     unsafe { c::alderskein_read_rule(file.as_ptr(), file.len(), edges.as_mut_ptr(), edges.len()) }

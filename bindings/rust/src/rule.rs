@@ -5,7 +5,7 @@ use crate::{Refusal, Room, Table, Word};
 
 /// The least length of an edge table: 256 edges of 29 numbers.
 pub const EDGE_TABLE: usize = 7_424;
-/// The longest legal file, in bytes.
+/// The longest legal file, in bytes, 6 of them for a ceiling record; a file that is written has none.
 pub const LONGEST_FILE: usize = 15_760;
 
 /// For how many configurations `Rule::accepts` first takes memory.
@@ -42,7 +42,7 @@ pub enum LeastRun {
 }
 
 impl Rule {
-    /// Reads a rule file: 1 to 8.
+    /// Reads a rule file, of which a ceiling is checked and dropped: 1 to 8.
     pub fn read(file: &[u8]) -> Result<Rule, Refusal> {
         let mut edges = vec![0; EDGE_TABLE];
         let reading = raw::read_rule(file, &mut edges);
@@ -65,7 +65,7 @@ impl Rule {
         &self.edges
     }
 
-    /// The rule's file, the same bytes that it was read from.
+    /// The rule's file, the same bytes that it was read from, less a ceiling record.
     pub fn write(&self) -> Result<Vec<u8>, Refusal> {
         let mut file = vec![0; LONGEST_FILE];
         let length = self.write_into(&mut file)?;

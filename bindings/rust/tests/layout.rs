@@ -7,15 +7,16 @@ use std::mem::{offset_of, size_of};
 fn sizes() {
     assert_eq!(
         [size_of::<Stamp>(), size_of::<Head>(), size_of::<Built>(), size_of::<Follower>()],
-        [4, 28, 28, 20]
+        [4, 24, 28, 20]
     );
     assert_eq!([size_of::<Answer>(), size_of::<BranchAnswer>(), size_of::<Moved>()], [24, 32, 24]);
-    assert_eq!([size_of::<Reading>(), size_of::<Building>()], [48, 48]);
+    assert_eq!([size_of::<Reading>(), size_of::<Building>()], [40, 48]);
     assert_eq!([size_of::<Started>(), size_of::<Followed>()], [40, 40]);
 }
 
 #[test]
 fn places() {
+    assert_eq!([offset_of!(Head, ends), offset_of!(Head, count)], [16, 20]);
     assert_eq!([offset_of!(Answer, place), offset_of!(Answer, value)], [8, 16]);
     assert_eq!([offset_of!(Reading, head), offset_of!(Building, built)], [16, 16]);
     assert_eq!([offset_of!(BranchAnswer, found), offset_of!(BranchAnswer, start)], [16, 18]);

@@ -3,19 +3,7 @@
 mod common;
 
 use alderskein::{decide, raw, Cell, LeastRun, Room, Rule, Run, Stamp};
-use common::{record, word, worked, worked_rule, worked_table, Events};
-
-/// D, events and verdict of P1 to P8.
-const WORDS: [(u32, Events, bool); 8] = [
-    (2, &[], true),
-    (2, &[(0, 2)], false),
-    (2, &[(0, 2), (1, 4)], true),
-    (2, &[(0, 2), (1, 3)], false),
-    (2, &[(0, 1)], false),
-    (2, &[(0, 2), (1, 4), (0, 4)], false),
-    (2, &[(0, 2), (1, 4), (0, 4), (1, 6)], true),
-    (3, &[(0, 3), (1, 7)], true),
-];
+use common::{followed, record, word, worked, worked_rule, worked_table, WORDS};
 
 #[test]
 fn p1_to_p8_by_the_exact_runner() {
@@ -82,15 +70,8 @@ fn p1_to_p8_by_the_table() {
 
 #[test]
 fn p1_to_p8_by_the_follower() {
-    let table = worked_table();
     for (grain, events, verdict) in WORDS {
-        let mut follower = table.follower(grain).unwrap();
-        let mut last = table.verdict(0).unwrap();
-        for &(symbol, stamp) in events {
-            last = follower.event(symbol, Stamp(stamp)).unwrap();
-        }
-        assert_eq!(last, verdict, "{events:?}");
-        assert_eq!(follower.record().count as usize, events.len());
+        assert_eq!(followed(&worked_table(), &word(grain, events)), verdict, "{events:?}");
     }
 }
 
@@ -106,7 +87,7 @@ fn the_file_is_read_and_written_back() {
     let rule = worked_rule();
     let head = rule.head();
     assert_eq!((head.locations, head.symbols, head.clocks, head.count), (2, 2, 1, 2));
-    assert_eq!((head.starts, head.ends, head.ceiling), (1, 1, 0));
+    assert_eq!((head.starts, head.ends), (1, 1));
     assert_eq!(rule.edges()[..9], [0, 1, 0, 1, 1, 0, 2, 1, 0]);
     assert_eq!(rule.write().unwrap(), worked());
     let mut out = [9; 60];
@@ -146,7 +127,9 @@ fn p9_moves_the_bases_of_branches_without_a_reset_too() {
 
 #[test]
 fn the_largest_rule_is_built() {
-    let file = [record(1, &[16, 1, 3]), record(2, &[0]), record(4, &[14])].concat();
+    // The edge is there for its constant: no run comes to location 1.
+    let edge = record(5, &[1, 0, 0, 0, 0, 1, 14]);
+    let file = [record(1, &[16, 1, 3]), record(2, &[0]), edge].concat();
     let table = Rule::read(&file).unwrap().build(Room::default()).unwrap();
     assert_eq!((table.row_count(), table.built().top), (2, 14));
     assert_eq!(table.parts().map(<[u32]>::len), [60, 4, 1], "unused places are cut off");

@@ -302,9 +302,9 @@ fn tables_text(scratch: &[u32], cells: &[u32], rows: &[u32], pool: &[u32]) -> St
 }
 
 /// The fields in the protocol's order.
-fn head_places(head: &mut Head) -> [&mut u32; 7] {
-    let Head { locations, symbols, clocks, starts, ends, ceiling, count } = head;
-    [locations, symbols, clocks, starts, ends, ceiling, count]
+fn head_places(head: &mut Head) -> [&mut u32; 6] {
+    let Head { locations, symbols, clocks, starts, ends, count } = head;
+    [locations, symbols, clocks, starts, ends, count]
 }
 
 /// The fields in the protocol's order.

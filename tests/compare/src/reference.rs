@@ -109,13 +109,13 @@ fn verdict(outcome: Result<bool, Refusal>) -> Answer {
 }
 
 fn plain_head(rule: Rule) -> reference::Head {
-    let Head { locations, symbols, clocks, starts, ends, ceiling, count } = rule.head;
-    reference::Head::from_numbers([locations, symbols, clocks, starts, ends, ceiling, count])
+    let Head { locations, symbols, clocks, starts, ends, count } = rule.head;
+    reference::Head::from_numbers([locations, symbols, clocks, starts, ends, count])
 }
 
 fn head_of(head: reference::Head) -> Head {
-    let [locations, symbols, clocks, starts, ends, ceiling, count] = head.to_numbers();
-    Head { locations, symbols, clocks, starts, ends, ceiling, count }
+    let [locations, symbols, clocks, starts, ends, count] = head.to_numbers();
+    Head { locations, symbols, clocks, starts, ends, count }
 }
 
 fn plain_built(table: Table) -> reference::Built {

@@ -17,8 +17,9 @@ const RECORD_FRONT: usize = 4;
 
 /// Reads a rule file into a head record and the lent edge table: 20, then 1 to 8.
 ///
-/// Places of the edge table not in use end as zero. After 1 to 8 the whole table is zero; after 20 it is
-/// untouched. The head record that goes with a refusal is all zero (`Head::default()`).
+/// A ceiling is checked and then dropped. Places of the edge table not in use end as zero. After 1 to 8 the
+/// whole table is zero; after 20 it is untouched. The head record that goes with a refusal is all zero
+/// (`Head::default()`).
 pub fn read_rule(file: &[u8], edges: &mut [u16]) -> Result<Head, Refusal> {
     Refusal::unless(edges.len() >= EDGE_TABLE_NUMBERS, 20)?;
     edges.fill(0);
@@ -102,7 +103,7 @@ impl Reader<'_> {
             SIZES => self.take_sizes(record)?,
             INITIAL => self.head.initial |= self.location_bit(record)?,
             FINAL => self.head.finals |= self.location_bit(record)?,
-            CEILING => self.head.ceiling = 1 + ceiling(record)?,
+            CEILING => check_ceiling(record)?,
             _ => self.take_edge(record)?,
         }
         Ok(())
@@ -154,10 +155,10 @@ impl Reader<'_> {
     }
 }
 
-fn ceiling(record: Record) -> Result<u32, u8> {
-    let number = u32::from(record.number(0));
-    if number <= MOST_CONSTANT {
-        Ok(number)
+/// Checks a ceiling: 6. Nothing of it is kept.
+fn check_ceiling(record: Record) -> Result<(), u8> {
+    if u32::from(record.number(0)) <= MOST_CONSTANT {
+        Ok(())
     } else {
         Err(6)
     }
@@ -179,7 +180,8 @@ fn spell_numbers(bytes: &[u8], places: &mut [u16]) {
 
 /// Writes the rule as a file and returns its length: 20, 21, 27.
 ///
-/// The bytes past the file are not touched; a refusal touches none.
+/// A rule that was read from a file is written with the same bytes, less the ceiling's record if there was
+/// one. The bytes past the file are not touched; a refusal touches none.
 pub fn write_rule(head: &Head, edges: &[u16], out: &mut [u8]) -> Result<usize, Refusal> {
     check_rule(head, edges)?;
     let length = file_length(head, edges);
@@ -188,9 +190,6 @@ pub fn write_rule(head: &Head, edges: &[u16], out: &mut [u8]) -> Result<usize, R
     writer.record(SIZES, &[head.locations as u16, head.symbols as u16, head.clocks as u16]);
     writer.locations(INITIAL, head.initial);
     writer.locations(FINAL, head.finals);
-    if head.ceiling > 0 {
-        writer.record(CEILING, &[head.ceiling as u16 - 1]);
-    }
     for edge in edges_in_use(head, edges) {
         writer.edge(edge);
     }
@@ -199,9 +198,9 @@ pub fn write_rule(head: &Head, edges: &[u16], out: &mut [u8]) -> Result<usize, R
 
 fn file_length(head: &Head, edges: &[u16]) -> usize {
     let sizes = RECORD_FRONT + 6;
-    let short_records = head.initial.count_ones() + head.finals.count_ones() + u32::from(head.ceiling > 0);
+    let location_records = head.initial.count_ones() + head.finals.count_ones();
     let edge_bytes: usize = edges_in_use(head, edges).map(|edge| RECORD_FRONT + edge_body_length(edge)).sum();
-    sizes + (RECORD_FRONT + 2) * short_records as usize + edge_bytes
+    sizes + (RECORD_FRONT + 2) * location_records as usize + edge_bytes
 }
 
 fn edge_body_length(edge: Edge) -> usize {

@@ -34,22 +34,20 @@ pub struct Head {
     pub initial: u32,
     /// The final locations, a bit each.
     pub finals: u32,
-    /// 0 for no ceiling, else the ceiling plus 1.
-    pub ceiling: u32,
     /// The number of edges.
     pub edge_count: u32,
 }
 
 impl Head {
     /// The fields in order.
-    pub fn to_numbers(&self) -> [u32; 7] {
-        [self.locations, self.symbols, self.clocks, self.initial, self.finals, self.ceiling, self.edge_count]
+    pub fn to_numbers(&self) -> [u32; 6] {
+        [self.locations, self.symbols, self.clocks, self.initial, self.finals, self.edge_count]
     }
 
     /// The record with these fields.
-    pub fn from_numbers(numbers: [u32; 7]) -> Self {
-        let [locations, symbols, clocks, initial, finals, ceiling, edge_count] = numbers;
-        Head { locations, symbols, clocks, initial, finals, ceiling, edge_count }
+    pub fn from_numbers(numbers: [u32; 6]) -> Self {
+        let [locations, symbols, clocks, initial, finals, edge_count] = numbers;
+        Head { locations, symbols, clocks, initial, finals, edge_count }
     }
 }
 
@@ -171,12 +169,9 @@ pub(crate) fn sizes_in_range(locations: u32, symbols: u32, clocks: u32) -> bool 
         && (1..=MOST_CLOCKS).contains(&clocks)
 }
 
-/// cm: the largest constant of any atom, or the ceiling if that is larger, or 0.
+/// cm: the largest constant in any atom, 0 if there is none.
 pub(crate) fn largest_constant(head: &Head, edges: &[u16]) -> u32 {
-    edges_in_use(head, edges)
-        .flat_map(Edge::atoms)
-        .map(|atom| u32::from(atom.constant))
-        .fold(head.ceiling.saturating_sub(1), u32::max)
+    edges_in_use(head, edges).flat_map(Edge::atoms).map(|atom| u32::from(atom.constant)).fold(0, u32::max)
 }
 
 /// N = L (cm + 2)^K, for sizes and cm in their ranges.
@@ -208,7 +203,6 @@ fn head_in_range(head: &Head) -> bool {
     sizes_in_range(head.locations, head.symbols, head.clocks)
         && below_power(head.initial, head.locations)
         && below_power(head.finals, head.locations)
-        && head.ceiling <= MOST_CONSTANT + 1
         && head.edge_count as usize <= MOST_EDGES
 }
 

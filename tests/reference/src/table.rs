@@ -17,7 +17,7 @@ pub struct Built {
     pub symbols: u32,
     /// K, the number of clocks.
     pub clocks: u32,
-    /// cm, the largest constant or the ceiling.
+    /// cm, the largest constant in any atom.
     pub largest: u32,
     /// The final locations, a bit each.
     pub finals: u32,

@@ -56,17 +56,36 @@ fn refusals_and_the_state_after_them() {
     assert_eq!(
         answers[0],
         format!(
-            "state head=0,0,0,0,0,0,0 edges={empty} built=0,0,0,0,0,0,0 cells={empty} rows={empty} \
+            "state head=0,0,0,0,0,0 edges={empty} built=0,0,0,0,0,0,0 cells={empty} rows={empty} \
              pool={empty} follower=0,0,0,0,0"
         )
     );
-    assert!(answers[1].starts_with("read no 20 0 head=0,0,0,0,0,0,0 edges=2:"));
-    assert!(answers[2].starts_with("read no 3 0 head=0,0,0,0,0,0,0 edges=7424:"));
+    assert!(answers[1].starts_with("read no 20 0 head=0,0,0,0,0,0 edges=2:"));
+    assert!(answers[2].starts_with("read no 3 0 head=0,0,0,0,0,0 edges=7424:"));
     assert!(answers[3].starts_with("write no 21 0 out=2:"));
     assert!(answers[4].starts_with("build no 21 0 built=0,0,0,0,0,0,0 scratch=1:"));
     assert_eq!(answers[5], "table no 25 0");
     assert_eq!(answers[6], "start no 30 0 follower=0,0,0,0,0");
     assert_eq!(answers[7], "follow no 25 0 follower=0,0,0,0,0");
+}
+
+#[test]
+fn a_ceiling_leaves_no_field() {
+    let with_ceiling = [&FILE[..44], "020004001e00", &FILE[44..]].concat();
+    let script = |file: &str| {
+        format!(
+            "read {file} 7424 9\ncheck_rule\nwrite 64 3\nwrite 58 3\nwrite 57 3\nbuild 6 24 6 2 5\n\
+             list {file}\npoke head 5 1\ncheck_rule\npoke head 6 0\nstate"
+        )
+    };
+    let with = answers(&script(&with_ceiling));
+    assert_eq!(with, answers(&script(FILE)));
+    assert!(with[0].starts_with("read ok head=2,2,1,1,1,2 edges=7424:"));
+    assert!(with[3].starts_with("write ok 58 out=58:"));
+    assert!(with[4].starts_with("write no 27 0 out=57:"));
+    assert!(with[5].starts_with("build ok built=2,2,1,1,1,3,2 scratch=6:"));
+    assert_eq!(with[7..10], ["poke 2", "check_rule no 21 0", "bad"]);
+    assert!(with[10].starts_with("state head=2,2,1,1,1,1 edges=7424:"));
 }
 
 #[test]
@@ -104,7 +123,7 @@ fn the_state_can_be_changed_and_brought_back() {
     let script = "restore\nsave\npoke head 0 1\ncheck_rule\npoke edges 0 65536\npoke edges 0 7\n\
         poke edges 7424 0\npoke follower 4 9\npoke built 6 5\npoke cells 0 3\nresize rows 2 0\n\
         dump rows\ndump follower\nrestore\ncheck_rule\ncheck_table\nresize pool 0 0\ndump pool\n\
-        poke head 7 0\npoke place 0 0\ndump place";
+        dump head\npoke head 5 1\npoke head 6 0\npoke place 0 0\ndump place";
     let expected = [
         "bad",
         "save",
@@ -124,6 +143,8 @@ fn the_state_can_be_changed_and_brought_back() {
         "check_table ok",
         "resize 0:cbf29ce484222325",
         "dump -",
+        "dump 2,2,1,1,1,2",
+        "poke 2",
         "bad",
         "bad",
         "bad",
@@ -142,7 +163,7 @@ fn decide_leaves_the_state() {
     let answers = answers(&script);
     assert!(answers[0].starts_with("decide ok 1 edges=7424:faab4d2cb42833c4 scratch=6:"));
     assert!(answers[1].starts_with("decide no 22 0 edges=7424:faab4d2cb42833c4 scratch=5:"));
-    assert!(answers[2].starts_with("state head=0,0,0,0,0,0,0 edges=0:"));
+    assert!(answers[2].starts_with("state head=0,0,0,0,0,0 edges=0:"));
 }
 
 #[test]

@@ -7,7 +7,9 @@ use common::{
     code, construct, enumerate, held_back, random_rule, random_word, refusal, Bounds, PlainRule, PlainWord,
     Random, Room, Runs,
 };
-use reference::{check_rule, check_table, follow_event, start_follower, write_rule, Branch, Built, Head};
+use reference::{
+    check_rule, check_table, follow_event, list_table, start_follower, write_rule, Branch, Built, Head,
+};
 
 const SMALL: Bounds = Bounds { locations: 3, symbols: 2, clocks: 2, edges: 8, constant: 2 };
 const WIDER: Bounds = Bounds { locations: 4, symbols: 3, clocks: 4, edges: 14, constant: 3 };
@@ -65,11 +67,12 @@ fn careless_word(random: &mut Random, rule: &PlainRule) -> PlainWord {
 
 fn cross_check(seed: u64, rules: usize, bounds: &Bounds, words: usize, events: u64) {
     let mut random = Random(seed);
-    let (mut accepted, mut refused, mut resets) = (0, 0, 0);
+    let (mut accepted, mut refused, mut resets, mut ceilings) = (0, 0, 0, 0);
     for _ in 0..rules {
         let rule = random_rule(&mut random, bounds);
         let Some((room, head, built)) = build_and_compare(&rule) else { continue };
         resets += room.cells.iter().filter(|&&cell| cell % 2 == 1).count();
+        ceilings += usize::from(rule.ceiling.is_some_and(|ceiling| u64::from(ceiling) > rule.largest()));
         for _ in 0..words {
             let word = random_word(&mut random, &rule, events);
             match run_and_compare(&rule, &word, &room, &head, &built) {
@@ -78,8 +81,9 @@ fn cross_check(seed: u64, rules: usize, bounds: &Bounds, words: usize, events: u
             }
         }
     }
-    println!("{accepted} accepted, {refused} not, {resets} cells with a reset");
+    println!("{accepted} accepted, {refused} not, {resets} cells with a reset, {ceilings} ceilings above cm");
     assert!(accepted > rules && refused > rules && resets > rules / 2, "too few of some kind");
+    assert!(ceilings > rules / 8, "too few ceilings");
 }
 
 /// Reads, writes and builds a rule and compares each with what the plain rule says.
@@ -93,12 +97,9 @@ fn build_and_compare(rule: &PlainRule) -> Option<(Room, Head, Built)> {
     let count = codes.len();
     let mut room = Room::new(rule.code_count() as usize, count * row_cells + 3, 2 * count + 1, total + 2, 11);
 
-    let file = rule.file();
-    let head = room.read(&file).unwrap();
+    let head = room.read(&rule.file()).unwrap();
     assert_eq!(check_rule(&head, &room.edges), Ok(()));
-    let mut out = vec![0; file.len()];
-    assert_eq!(write_rule(&head, &room.edges, &mut out), Ok(file.len()));
-    assert_eq!(out, file);
+    compare_written(rule, &room, &head);
 
     let built = room.build(&head).unwrap();
     assert_eq!((built.rows, built.pool), (count as u32, total as u32));
@@ -121,6 +122,22 @@ fn build_and_compare(rule: &PlainRule) -> Option<(Room, Head, Built)> {
     assert_eq!(check_table(&built, &room.cells, &room.rows, &room.pool), Ok(()));
     compare_tight_room(&head, &room, count, row_cells, total);
     Some((room, head, built))
+}
+
+/// What is written is the file without its ceiling, and one byte less than that is 27.
+fn compare_written(rule: &PlainRule, room: &Room, head: &Head) {
+    let file = rule.written_file();
+    let mut out = vec![7; file.len() + 6];
+    assert_eq!(write_rule(head, &room.edges, &mut out), Ok(file.len()));
+    assert_eq!(out, [&file[..], &[7; 6]].concat());
+    let mut short = vec![7; file.len() - 1];
+    assert_eq!(write_rule(head, &room.edges, &mut short), refusal(27, 0));
+    assert!(short.iter().all(|&byte| byte == 7));
+    assert_eq!(write_rule(head, &room.edges, &mut out[..file.len()]), Ok(file.len()));
+    let mut again = Room::listing(2);
+    assert_eq!(again.read(&file), Ok(*head));
+    assert_eq!(again.edges, room.edges);
+    assert_eq!(list_table(&rule.file()), list_table(&file));
 }
 
 /// One row, cell or code less than needed is 23 or 24 and leaves zeros; just enough is enough.

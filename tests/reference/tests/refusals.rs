@@ -72,6 +72,60 @@ fn number_3_is_a_record_out_of_order() {
 }
 
 #[test]
+fn a_ceiling_that_is_dropped_is_checked_before() {
+    let ceiling = |number| record(4, &[number]);
+    for number in [0, 1, 29, 30] {
+        assert!(accepted(&file(&[ceiling(number)])));
+        assert!(accepted(&file(&[record(2, &[0]), record(3, &[1]), ceiling(number), record(5, &[0; 4])])));
+    }
+    for number in [31, 32, 256, 286, 65_535] {
+        assert_eq!(refused(&file(&[ceiling(number)])), (6, 10));
+        assert_eq!(refused(&file(&[record(3, &[1]), ceiling(number), record(5, &[9; 4])])), (6, 16));
+    }
+    for cut in 1..6 {
+        assert_eq!(refused(&file(&[ceiling(30)[..cut].to_vec()])), (1, 10));
+    }
+    for body in [0, 1, 3, 4, 6] {
+        assert_eq!(refused(&file(&[[&[body, 0, 4, 0], &vec![0; body.into()][..]].concat()])), (2, 10));
+    }
+}
+
+#[test]
+fn a_ceiling_that_is_dropped_keeps_its_turn() {
+    let ceiling = |number| record(4, &[number]);
+    let edge = || record(5, &[0; 4]);
+    for number in [0, 30, 31] {
+        assert_eq!(refused(&ceiling(number)), (3, 0), "no sizes");
+        assert_eq!(refused(&[ceiling(number), file(&[])].concat()), (3, 0), "before the sizes");
+        assert_eq!(refused(&file(&[ceiling(0), ceiling(number)])), (3, 16), "twice");
+        assert_eq!(refused(&file(&[ceiling(30), ceiling(number)])), (3, 16), "twice");
+        assert_eq!(refused(&file(&[edge(), ceiling(number)])), (3, 22), "after an edge");
+        assert_eq!(refused(&file(&[ceiling(5), edge(), ceiling(number)])), (3, 28), "around an edge");
+    }
+    for number in [0, 1, 30] {
+        assert_eq!(refused(&file(&[ceiling(number), record(1, &[2, 2, 2])])), (3, 16), "sizes after it");
+        assert_eq!(refused(&file(&[ceiling(number), record(2, &[1])])), (3, 16), "initial location after it");
+        assert_eq!(refused(&file(&[ceiling(number), record(3, &[1])])), (3, 16), "final location after it");
+        let between = [record(3, &[0]), ceiling(number), record(3, &[1])];
+        assert_eq!(refused(&file(&between)), (3, 22), "between final locations");
+    }
+    assert_eq!(refused(&record(4, &[0, 0])), (2, 0), "2 before 3");
+    assert_eq!(refused(&file(&[ceiling(0), record(4, &[0, 0])])), (2, 16), "2 before 3");
+    assert_eq!(refused(&file(&[edge(), record(4, &[])])), (2, 22), "2 before 3");
+}
+
+#[test]
+fn a_ceiling_that_is_dropped_counts_in_the_places_after_it() {
+    let ceiling = record(4, &[30]);
+    assert_eq!(refused(&file(&[ceiling.clone(), vec![8, 0, 5]])), (1, 16));
+    assert_eq!(refused(&file(&[ceiling.clone(), record(6, &[0])])), (2, 16));
+    assert_eq!(refused(&file(&[ceiling.clone(), record(5, &[2, 0, 0, 0])])), (6, 16));
+    assert_eq!(refused(&file(&[ceiling.clone(), record(5, &[0, 0, 0, 1])])), (7, 16));
+    let edges = vec![record(5, &[0; 4]); 257].concat();
+    assert_eq!(refused(&file(&[ceiling, edges])), (4, 16 + 256 * 12));
+}
+
+#[test]
 fn number_4_is_the_edge_after_256() {
     let edges = |count| file(&vec![record(5, &[0; 4]); count]);
     assert!(accepted(&edges(256)));
@@ -120,10 +174,14 @@ fn number_7_is_a_reset_at_any_time() {
 
 #[test]
 fn number_8_is_too_many_codes_and_comes_last() {
-    let wide = [record(1, &[32, 1, 4]), record(4, &[30])].concat();
-    assert_eq!(refused(&wide), (8, 16));
-    assert_eq!(refused(&[wide.clone(), vec![0]].concat()), (1, 16));
-    assert_eq!(refused(&[wide, record(5, &[0, 0, 0, 1])].concat()), (7, 16));
+    let wide = [record(1, &[32, 1, 4]), record(5, &[0, 0, 0, 0, 0, 0, 30])].concat();
+    assert_eq!(refused(&wide), (8, 28));
+    assert_eq!(refused(&[wide.clone(), vec![0]].concat()), (1, 28));
+    assert_eq!(refused(&[wide.clone(), record(5, &[0, 0, 0, 1])].concat()), (7, 28));
+    let (sizes, edge) = wide.split_at(10);
+    assert_eq!(refused(&[sizes, &record(4, &[0]), edge].concat()), (8, 34));
+    assert_eq!(refused(&[sizes, &record(4, &[31]), edge].concat()), (6, 10));
+    assert!(accepted(&[sizes, &record(4, &[30])].concat()), "only a ceiling");
 }
 
 #[test]
@@ -160,16 +218,13 @@ fn number_21_leaves_all_untouched() {
     assert_eq!(room, before);
 }
 
-/// Whether reading the one file that could leave these leaves them.
+/// Whether reading the one file without a ceiling that could leave these leaves them.
 fn left_by_some_file(head: &Head, edges: &[u16]) -> bool {
     let number = |number: u32| number.min(0xffff) as u16;
     let mut file = record(1, &[number(head.locations), number(head.symbols), number(head.clocks)]);
     for (kind, set) in [(2, head.initial), (3, head.finals)] {
         let members = (0..32).filter(|location| set >> location & 1 == 1);
         file.extend(members.flat_map(|location| record(kind, &[location])));
-    }
-    if head.ceiling > 0 {
-        file.extend(record(4, &[number(head.ceiling - 1)]));
     }
     for edge in edges.chunks_exact(29).take(head.edge_count as usize) {
         let end = 5 + 3 * usize::from(edge[4].min(9));
@@ -195,7 +250,7 @@ fn number_21_is_what_no_file_leaves() {
             let (mut head, mut edges) = (head, room.edges.clone());
             if random.chance(30) {
                 let mut numbers = head.to_numbers();
-                numbers[random.below(7) as usize] = random_number(&mut random);
+                numbers[random.below(6) as usize] = random_number(&mut random);
                 head = Head::from_numbers(numbers);
             } else {
                 let used = head.edge_count as usize * 29;

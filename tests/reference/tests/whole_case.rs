@@ -29,7 +29,7 @@ fn built_whole_case() -> (Room, Head, Built) {
 fn the_file_is_read_as_it_says() {
     let (room, head, built) = built_whole_case();
     assert_eq!(whole_case().len(), 58);
-    assert_eq!(head.to_numbers(), [2, 2, 1, 1, 1, 0, 2]);
+    assert_eq!(head.to_numbers(), [2, 2, 1, 1, 1, 2]);
     assert_eq!(room.edges[..9], [0, 1, 0, 1, 1, 0, 2, 1, 0]);
     assert_eq!(room.edges[29..38], [1, 0, 1, 0, 1, 0, 3, 1, 0]);
     assert_eq!(room.edges.iter().map(|&number| usize::from(number)).sum::<usize>(), 13);
@@ -54,7 +54,7 @@ fn the_listing_is_as_printed() {
 fn the_listing_of_a_refused_file_names_the_refusal() {
     assert_eq!(list_table(&[]), b"no 3 0\n");
     assert_eq!(list_table(&whole_case()[..57]), b"no 1 40\n");
-    let wide = record(1, &[32, 1, 2]).into_iter().chain(record(4, &[30])).collect::<Vec<_>>();
+    let wide = [record(1, &[32, 1, 2]), record(5, &[0, 0, 0, 0, 0, 0, 30])].concat();
     assert_eq!(list_table(&wide), b"no 22 0\n");
 }
 
@@ -130,13 +130,10 @@ fn p9_moves_the_bases_of_branches_without_a_reset_too() {
 
 #[test]
 fn the_largest_rule_is_read_and_one_location_more_is_8() {
-    let file = |locations| [record(1, &[locations, 1, 3]), record(4, &[14])].concat();
+    let file = |locations| [record(1, &[locations, 1, 3]), record(5, &[0, 0, 0, 0, 2, 0, 14])].concat();
     let mut room = Room::listing(3);
-    assert_eq!(room.read(&file(16)).unwrap().to_numbers(), [16, 1, 3, 0, 0, 15, 0]);
-    assert_eq!(room.read(&file(17)), refusal(8, 16));
-    let with_atom = |locations| [record(1, &[locations, 1, 3]), record(5, &[0, 0, 0, 0, 2, 0, 14])].concat();
-    assert!(room.read(&with_atom(16)).is_ok());
-    assert_eq!(room.read(&with_atom(17)), refusal(8, 28));
+    assert_eq!(room.read(&file(16)).unwrap().to_numbers(), [16, 1, 3, 0, 0, 1]);
+    assert_eq!(room.read(&file(17)), refusal(8, 28));
 }
 
 #[test]
@@ -167,8 +164,9 @@ fn the_longest_legal_file_has_15_760_bytes() {
     assert_eq!(file.len(), 15_760);
     let mut room = Room::listing(3);
     let head = room.read(&file).unwrap();
-    let mut out = vec![0; 15_760];
-    assert_eq!(write_rule(&head, &room.edges, &mut out), Ok(15_760));
-    assert_eq!(out, file);
+    let (front, rest) = file.split_at(10 + 64 * 6);
+    let mut out = vec![0; 15_754];
+    assert_eq!(write_rule(&head, &room.edges, &mut out), Ok(15_754));
+    assert_eq!(out, [front, &rest[6..]].concat(), "less the ceiling");
     assert_eq!(write_rule(&head, &room.edges, &mut out[1..]), refusal(27, 0));
 }

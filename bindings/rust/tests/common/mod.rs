@@ -29,6 +29,18 @@ pub fn worked_table() -> Table {
 /// Symbols and stamps.
 pub type Events = &'static [(u16, u32)];
 
+/// D, events and verdict of P1 to P8.
+pub const WORDS: [(u32, Events, bool); 8] = [
+    (2, &[], true),
+    (2, &[(0, 2)], false),
+    (2, &[(0, 2), (1, 4)], true),
+    (2, &[(0, 2), (1, 3)], false),
+    (2, &[(0, 1)], false),
+    (2, &[(0, 2), (1, 4), (0, 4)], false),
+    (2, &[(0, 2), (1, 4), (0, 4), (1, 6)], true),
+    (3, &[(0, 3), (1, 7)], true),
+];
+
 pub fn word(grain: u32, events: &[(u16, u32)]) -> Word {
     events.iter().fold(Word::new(grain), |word, &(symbol, stamp)| word.with(symbol, Stamp(stamp)))
 }
@@ -40,4 +52,15 @@ pub fn repeated(count: usize) -> Word {
 
 pub fn refused<T>(number: u8, place: usize) -> Result<T, Refusal> {
     Err(Refusal { number, place })
+}
+
+/// The last verdict of a follower over the whole word, the start row's without events.
+pub fn followed(table: &Table, word: &Word) -> bool {
+    let mut follower = table.follower(word.grain()).unwrap();
+    let mut last = table.verdict(0).unwrap();
+    for (&symbol, &stamp) in word.symbols().iter().zip(word.stamps()) {
+        last = follower.event(symbol, Stamp(stamp)).unwrap();
+    }
+    assert_eq!(follower.record().count as usize, word.len());
+    last
 }

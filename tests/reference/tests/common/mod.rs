@@ -52,6 +52,7 @@ pub struct PlainRule {
     pub clocks: u16,
     pub initial: Vec<u16>,
     pub finals: Vec<u16>,
+    /// In the file, and nothing to the rule.
     pub ceiling: Option<u16>,
     pub edges: Vec<PlainEdge>,
 }
@@ -79,10 +80,20 @@ pub fn whole_case() -> Vec<u8> {
 
 impl PlainRule {
     pub fn file(&self) -> Vec<u8> {
+        self.file_with(self.ceiling)
+    }
+
+    /// The file as it is written after reading: without a ceiling.
+    pub fn written_file(&self) -> Vec<u8> {
+        self.file_with(None)
+    }
+
+    /// The file with this ceiling in place of the rule's own.
+    pub fn file_with(&self, ceiling: Option<u16>) -> Vec<u8> {
         let mut file = record(1, &[self.locations, self.symbols, self.clocks]);
         file.extend(self.initial.iter().flat_map(|&location| record(2, &[location])));
         file.extend(self.finals.iter().flat_map(|&location| record(3, &[location])));
-        file.extend(self.ceiling.iter().flat_map(|&ceiling| record(4, &[ceiling])));
+        file.extend(ceiling.iter().flat_map(|&ceiling| record(4, &[ceiling])));
         file.extend(self.edges.iter().flat_map(PlainEdge::record));
         file
     }
@@ -90,7 +101,7 @@ impl PlainRule {
     /// cm.
     pub fn largest(&self) -> u64 {
         let constants = self.edges.iter().flat_map(|edge| edge.atoms.iter().map(|atom| atom.2));
-        constants.chain(self.ceiling).max().unwrap_or(0).into()
+        constants.max().unwrap_or(0).into()
     }
 
     /// N.
@@ -317,7 +328,7 @@ pub fn random_rule(random: &mut Random, bounds: &Bounds) -> PlainRule {
         clocks,
         initial: (0..locations).filter(|_| random.chance(60)).collect(),
         finals: (0..locations).filter(|_| random.chance(40)).collect(),
-        ceiling: random.chance(20).then(|| random.below(constant + 2) as u16),
+        ceiling: random.chance(20).then(|| random.below(31) as u16),
         edges: (0..edge_count).map(|_| random_edge(random, locations, symbols, clocks, constant)).collect(),
     }
 }

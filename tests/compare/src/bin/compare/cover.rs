@@ -1,7 +1,8 @@
 //! What came up: refusals call by call, verdicts runner by runner, limits.
 
-use crate::rules::{Edge, EDGE_NUMBERS};
-use alderskein::raw::BranchAnswer;
+use crate::ceiling::{ceilings, less_ceiling, CEILING_BYTES};
+use crate::rules::{code_count, Edge, EDGE_NUMBERS, FIRST_CONSTANT, MOST_CONSTANT};
+use alderskein::raw::{Answer, BranchAnswer};
 use protocol::{Call, Reply, State, What, Word};
 use std::collections::BTreeMap;
 use std::fmt;
@@ -27,7 +28,7 @@ const REFUSALS: [(&str, &[u8]); 13] = [
 const RUNNERS: [&str; 6] = ["exact", "branch", "table", "follow", "follow_in_place", "decide"];
 
 /// The limits and corners that must come up.
-const LIMITS: [&str; 37] = [
+const LIMITS: [&str; 47] = [
     "read: L = 32",
     "read: S = 16",
     "read: K = 4",
@@ -38,7 +39,17 @@ const LIMITS: [&str; 37] = [
     "read: 8 atoms",
     "read: longest file",
     "read: longer edge table",
+    "read: a ceiling, dropped",
+    "read: ceiling 0",
+    "read: ceiling 30",
+    "read: accepted though by its ceiling N would be over 65,536",
+    "read: ceiling 31 refused",
+    "read: second ceiling refused",
+    "read: a ceiling after an edge refused",
+    "read: again what was written less a ceiling",
     "write: just fits",
+    "write: less a ceiling, just fits",
+    "write: less a ceiling, one byte short",
     "build: cm = 30",
     "build: N = 65,536",
     "build: R = 4,096",
@@ -76,6 +87,8 @@ pub struct Cover {
     limits: BTreeMap<&'static str, u64>,
     /// Whether the state's table was changed by hand since it was built.
     by_hand: bool,
+    /// What the state's rule is written as, if it was read from a file with a ceiling and not changed since.
+    written_as: Option<Vec<u8>>,
 }
 
 impl Cover {
@@ -89,11 +102,15 @@ impl Cover {
             verdicts: RUNNERS.iter().flat_map(|&name| [((name, false), 0), ((name, true), 0)]).collect(),
             limits: LIMITS.iter().map(|&name| (name, 0)).collect(),
             by_hand: false,
+            written_as: None,
         }
     }
 
     /// Counts a command with its reply and the state after it.
     pub fn count(&mut self, call: &Call, reply: &Reply, state: &State) {
+        if matches!(call, Call::Poke { .. } | Call::Resize { .. } | Call::Restore) {
+            self.written_as = None;
+        }
         match (call, reply) {
             (Call::Poke { what, .. }, _) => self.by_hand |= !matches!(what, What::Follower | What::Head),
             (_, Reply::Built(..)) => self.by_hand = false,
@@ -131,10 +148,12 @@ impl Cover {
         match (call, reply) {
             (Call::Read { file, .. }, Reply::Read(reading)) if reading.number == 0 => {
                 self.count_read(file, state);
+                self.count_dropped(file, state);
             }
-            (Call::Write { out, .. }, Reply::Written(answer, _)) => {
-                self.mark("write: just fits", answer.number == 0 && answer.value == *out);
+            (Call::Read { file, .. }, Reply::Read(reading)) => {
+                self.count_refused(file, reading.number, reading.place);
             }
+            (_, Reply::Written(answer, out)) => self.count_write(answer, out),
             (_, Reply::Built(building, _)) if matches!(building.number, 0 | 23) => {
                 self.count_build(building.number, state);
             }
@@ -197,6 +216,43 @@ impl Cover {
         self.mark("read: longer edge table", state.edges.len() > 7_424);
     }
 
+    /// The ceiling of a file that was read, or that the file is what was written less one.
+    fn count_dropped(&mut self, file: &[u8], state: &State) {
+        let Some(&(_, ceiling)) = ceilings(file).first() else {
+            let again = self.written_as.take().is_some_and(|written| written == file);
+            return self.mark("read: again what was written less a ceiling", again);
+        };
+        let (locations, clocks) = (state.head.locations as u16, state.head.clocks as u16);
+        let by_ceiling = code_count(locations, clocks, ceiling.max(top(state)));
+        self.mark("read: a ceiling, dropped", true);
+        self.mark("read: ceiling 0", ceiling == 0);
+        self.mark("read: ceiling 30", ceiling == MOST_CONSTANT);
+        self.mark("read: accepted though by its ceiling N would be over 65,536", by_ceiling > 65_536);
+        self.written_as = Some(less_ceiling(file));
+    }
+
+    /// A ceiling at which a file was refused.
+    fn count_refused(&mut self, file: &[u8], number: u8, place: usize) {
+        self.written_as = None;
+        let found = ceilings(file);
+        let Some(&(_, ceiling)) = found.iter().find(|(start, _)| *start == place) else {
+            return;
+        };
+        let second = found.iter().any(|(start, _)| start + CEILING_BYTES == place);
+        self.mark("read: ceiling 31 refused", number == 6 && ceiling == MOST_CONSTANT + 1);
+        self.mark("read: second ceiling refused", number == 3 && second);
+        self.mark("read: a ceiling after an edge refused", number == 3 && !second && place > 0);
+    }
+
+    fn count_write(&mut self, answer: &Answer, out: &[u8]) {
+        let fits = answer.number == 0 && answer.value == out.len();
+        let file = self.written_as.as_deref().unwrap_or_default();
+        let (less, short) = (fits && out == file, answer.number == 27 && out.len() + 1 == file.len());
+        self.mark("write: just fits", fits);
+        self.mark("write: less a ceiling, just fits", less);
+        self.mark("write: less a ceiling, one byte short", short);
+    }
+
     fn count_build(&mut self, number: u8, state: &State) {
         let built = state.built;
         let rows = state.rows.len() / 2;
@@ -234,13 +290,15 @@ fn lowest_edge(state: &State, locations: u32, symbol: u16) -> Option<(usize, Edg
     edges.enumerate().find(|(_, edge)| locations >> edge.source & 1 == 1 && edge.symbol == symbol)
 }
 
+/// cm of the rule in the state.
+fn top(state: &State) -> u16 {
+    let edges = state.edges.chunks_exact(EDGE_NUMBERS).take(state.head.count as usize);
+    edges.flat_map(|edge| edge[FIRST_CONSTANT..].iter().step_by(3)).copied().max().unwrap_or(0)
+}
+
 /// S · W of the rule in the state.
 fn row_cells(state: &State) -> usize {
-    let edges = state.edges.chunks_exact(EDGE_NUMBERS).take(state.head.count as usize);
-    let constants = edges.flat_map(|edge| edge[5..].iter().skip(2).step_by(3));
-    let top = constants.map(|&constant| u32::from(constant)).max().unwrap_or(0);
-    let top = top.max(state.head.ceiling.saturating_sub(1));
-    (state.head.symbols * (2 * top + 2)).max(1) as usize
+    (state.head.symbols * (2 * u32::from(top(state)) + 2)).max(1) as usize
 }
 
 fn yes_or_no(yes: bool) -> &'static str {

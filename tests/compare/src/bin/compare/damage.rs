@@ -1,7 +1,7 @@
 //! Rule files with faults.
 
 use crate::random::Random;
-use crate::rules::{record, Rule};
+use crate::rules::{record, Rule, CEILING, MOST_CONSTANT};
 
 /// The rule's file with one to three faults in its records or its bytes.
 pub fn damaged_file(random: &mut Random, rule: &Rule) -> Vec<u8> {
@@ -52,7 +52,7 @@ fn any_record(random: &mut Random, rule: &Rule) -> Vec<u8> {
     match kind {
         1 => record(1, &[random.short_about(32), random.short_about(16), random.short_about(4)]),
         2 | 3 => record(kind, &[location]),
-        4 => record(4, &[random.short_about(31)]),
+        CEILING => record(CEILING, &[random.short_about(MOST_CONSTANT + 1)]),
         5 => {
             let symbol = random.short_about(rule.symbols);
             let mask = random.short_about(1 << rule.clocks);

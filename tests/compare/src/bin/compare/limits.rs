@@ -1,7 +1,7 @@
 //! Rules at their limits, and one past them.
 
 use crate::random::Random;
-use crate::rules::{any_edge, largest_top, record, Edge, Rule};
+use crate::rules::{any_atom, any_edge, largest_top, record, some_ends, Edge, Rule, CEILING, MOST_CONSTANT};
 use crate::scene::Scene;
 use protocol::{Call, Room, Word};
 
@@ -14,7 +14,7 @@ pub fn at_limit(scene: &mut Scene) {
         let file = limit_file(scene.random);
         scene.read(file.clone());
         scene.add(Call::CheckRule);
-        scene.write(file.len());
+        scene.write(&file);
         if scene.random.chance(5) {
             scene.add(Call::List { file: file.clone() });
         }
@@ -25,12 +25,13 @@ pub fn at_limit(scene: &mut Scene) {
 }
 
 fn limit_file(random: &mut Random) -> Vec<u8> {
-    match random.below(8) {
+    match random.below(10) {
         0 => sizes(random),
         1 | 2 => codes(random),
         3 => edge_count(random),
         4 => longest(random),
         5 => location_sets(random),
+        6 | 7 => ceilings(random),
         _ => one_edge(random),
     }
 }
@@ -47,19 +48,30 @@ fn sizes(random: &mut Random) -> Vec<u8> {
     [front, record(2, &[0]), record(3, &[locations.saturating_sub(1)])].concat()
 }
 
-/// N at 65,536, below and above, by the ceiling or by an atom.
+/// N at 65,536, below and above, by an atom; a ceiling does not count.
 fn codes(random: &mut Random) -> Vec<u8> {
     let clocks = random.between(1, 4) as u16;
     let locations = random.pick(&[1, 2, 3, 15, 16, 17, 31, 32]);
     let top = (largest_top(locations, clocks) + random.below(2) as u16).min(31);
     let mut rule = empty_rule(locations, 1, clocks);
-    if random.chance(50) {
-        rule.ceiling = Some(top);
-    } else {
-        rule.edges =
-            vec![Edge { source: 0, target: 0, symbol: 0, mask: 0, atoms: vec![[clocks - 1, 2, top]] }];
-    }
+    rule.ceiling = random.chance(50).then(|| random.pick(&[0, 15, MOST_CONSTANT]));
+    rule.edges = vec![Edge { source: 0, target: 0, symbol: 0, mask: 0, atoms: vec![[clocks - 1, 2, top]] }];
     rule.file()
+}
+
+/// One ceiling or two, in their place or not, about their limit; if they counted, N would mostly be over 65,536.
+fn ceilings(random: &mut Random) -> Vec<u8> {
+    let (locations, clocks) = random.pick(&[(17, 3), (3, 3), (32, 3), (1, 4), (32, 4), (32, 2)]);
+    let mut rule = empty_rule(locations, 1, clocks);
+    rule.edges = vec![any_edge(random, &rule, 1)];
+    let mut records = rule.records();
+    let in_order = records.len() - rule.edges.len();
+    for _ in 0..random.pick(&[1, 1, 2]) {
+        let any = random.below(records.len() + 1);
+        let ceiling = random.pick(&[0, 15, MOST_CONSTANT, MOST_CONSTANT, MOST_CONSTANT + 1]);
+        records.insert(random.pick(&[in_order, in_order, in_order, any]), record(CEILING, &[ceiling]));
+    }
+    records.concat()
 }
 
 /// 255 to 257 edges, the last one sometimes with a fault of its own.
@@ -81,7 +93,7 @@ fn longest(random: &mut Random) -> Vec<u8> {
     let atoms = vec![[1, 4, 30]; random.pick(&[8, 8, 8, 9])];
     let edge = Edge { source: 31, target: 31, symbol: 15, mask: 0, atoms };
     let mut rule = empty_rule(32, 16, 2);
-    (rule.initial, rule.finals, rule.ceiling) = (all.clone(), all, Some(30));
+    (rule.initial, rule.finals, rule.ceiling) = (all.clone(), all, Some(MOST_CONSTANT));
     rule.edges = vec![edge; 256];
     let mut file = rule.file();
     file.extend(vec![0; random.pick(&[0, 0, 0, 700])]);
@@ -115,7 +127,7 @@ fn one_edge(random: &mut Random) -> Vec<u8> {
         numbers[place] += 1;
     }
     let ceiling = random.pick(&[0, 14, 30, 31]);
-    let front = [record(1, &[locations, symbols, clocks]), record(4, &[ceiling])].concat();
+    let front = [record(1, &[locations, symbols, clocks]), record(CEILING, &[ceiling])].concat();
     [front, record(5, &numbers)].concat()
 }
 
@@ -123,11 +135,11 @@ fn one_edge(random: &mut Random) -> Vec<u8> {
 pub fn largest(scene: &mut Scene) {
     let (locations, clocks) = scene.random.pick(&[(16, 3), (16, 3), (2, 3), (1, 4), (16, 4)]);
     let mut rule = empty_rule(locations, 2, clocks);
-    rule.ceiling = Some(largest_top(locations, clocks));
     rule.finals = vec![locations - 1];
     let constant = scene.random.between(1, 5) as u16;
     let count = scene.random.between(3, 10 + usize::from(locations));
     rule.edges = (0..count).map(|_| any_edge(scene.random, &rule, constant)).collect();
+    rule.edges.push(edge_for_top(scene.random, &rule));
     scene.read_surely(&rule);
     let scratch = 65_536 - scene.random.pick(&[0, 0, 0, 0, 0, 1]);
     let cells = 150 * 2 * rule.intervals() + scene.random.below(40);
@@ -138,6 +150,12 @@ pub fn largest(scene: &mut Scene) {
         let word = scene.word(&rule, 10);
         scene.run_everywhere(&rule, &word);
     }
+}
+
+/// An edge with one atom, by whose constant cm is as large as it can be.
+fn edge_for_top(random: &mut Random, rule: &Rule) -> Edge {
+    let [clock, relation, _] = any_atom(random, rule, 0);
+    some_ends(random, rule, vec![[clock, relation, largest_top(rule.locations, rule.clocks)]])
 }
 
 /// Rules with a row for each set of the last symbols: 4,096 of them, and twice as many.

@@ -4,6 +4,12 @@ use crate::random::Random;
 
 /// How many numbers an edge takes in the edge table.
 pub const EDGE_NUMBERS: usize = 29;
+/// The place of the first atom's constant among them.
+pub const FIRST_CONSTANT: usize = 7;
+/// The largest constant of an atom, and the largest ceiling.
+pub const MOST_CONSTANT: u16 = 30;
+/// The kind of a ceiling record.
+pub const CEILING: u16 = 4;
 
 /// An edge; an atom is clock, relation, constant.
 #[derive(Clone, Debug)]
@@ -88,7 +94,7 @@ impl Rule {
         let mut records = vec![record(1, &[self.locations, self.symbols, self.clocks])];
         records.extend(self.initial.iter().map(|&location| record(2, &[location])));
         records.extend(self.finals.iter().map(|&location| record(3, &[location])));
-        records.extend(self.ceiling.iter().map(|&ceiling| record(4, &[ceiling])));
+        records.extend(self.ceiling.iter().map(|&ceiling| record(CEILING, &[ceiling])));
         records.extend(self.edges.iter().map(Edge::record));
         records
     }
@@ -100,7 +106,7 @@ impl Rule {
     /// cm.
     pub fn top(&self) -> u16 {
         let constants = self.edges.iter().flat_map(|edge| edge.atoms.iter().map(|atom| atom[2]));
-        constants.chain(self.ceiling).max().unwrap_or(0)
+        constants.max().unwrap_or(0)
     }
 
     /// N.
@@ -114,13 +120,14 @@ impl Rule {
     }
 }
 
-fn code_count(locations: u16, clocks: u16, top: u16) -> usize {
+/// N for so many locations and clocks and this cm.
+pub fn code_count(locations: u16, clocks: u16, top: u16) -> usize {
     usize::from(locations) * (usize::from(top) + 2).pow(u32::from(clocks))
 }
 
 /// The largest cm for so many locations and clocks.
 pub fn largest_top(locations: u16, clocks: u16) -> u16 {
-    (0..=30).rev().find(|&top| code_count(locations, clocks, top) <= 65_536).unwrap_or(0)
+    (0..=MOST_CONSTANT).rev().find(|&top| code_count(locations, clocks, top) <= 65_536).unwrap_or(0)
 }
 
 /// A rule that the reader accepts.
@@ -135,7 +142,7 @@ pub fn any_rule(random: &mut Random, bounds: &Bounds) -> Rule {
         Rule { locations, symbols, clocks, initial: vec![], finals: vec![], ceiling: None, edges: vec![] };
     rule.initial = some_locations(random, locations);
     rule.finals = some_locations(random, locations);
-    rule.ceiling = random.chance(20).then(|| random.between(0, most) as u16);
+    rule.ceiling = random.chance(20).then(|| random.between(0, MOST_CONSTANT.into()) as u16);
     rule.edges = (0..edge_count).map(|_| any_edge(random, &rule, constant)).collect();
     rule
 }
@@ -164,7 +171,8 @@ pub fn any_edge(random: &mut Random, rule: &Rule, constant: u16) -> Edge {
     Edge { mask, ..some_ends(random, rule, atoms) }
 }
 
-fn some_ends(random: &mut Random, rule: &Rule, atoms: Vec<[u16; 3]>) -> Edge {
+/// An edge with these atoms and no resets.
+pub fn some_ends(random: &mut Random, rule: &Rule, atoms: Vec<[u16; 3]>) -> Edge {
     Edge {
         source: random.below(rule.locations.into()) as u16,
         target: random.below(rule.locations.into()) as u16,

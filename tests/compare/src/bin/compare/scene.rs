@@ -1,5 +1,6 @@
 //! A scene: commands over one rule or table, with random room, fills and words.
 
+use crate::ceiling::less_ceiling;
 use crate::random::Random;
 use crate::rules::Rule;
 use crate::words::{branch_steps, live_word, spoil};
@@ -51,8 +52,9 @@ impl Scene<'_> {
         self.add(Call::Read { file: rule.file(), edges: EDGE_TABLE, fill });
     }
 
-    /// Writes into room for a file of this length, or some bytes more or fewer.
-    pub fn write(&mut self, length: usize) {
+    /// Writes into room for this file less its ceiling, or some bytes more or fewer.
+    pub fn write(&mut self, file: &[u8]) {
+        let length = less_ceiling(file).len();
         let out = (length + self.random.pick(&[0, 0, 1, 9])).saturating_sub(self.random.pick(&[0, 0, 1, 9]));
         let fill = self.fill() as u8;
         self.add(Call::Write { out, fill });

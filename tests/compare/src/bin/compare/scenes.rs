@@ -1,10 +1,11 @@
 //! The kinds of scenes.
 
+use crate::ceiling;
 use crate::damage::{damaged_file, rubbish};
 use crate::held::held_back;
 use crate::limits;
 use crate::random::Random;
-use crate::rules::{any_rule, Rule, EDGE_NUMBERS, MIDDLE, SMALL, WIDE};
+use crate::rules::{any_rule, Rule, EDGE_NUMBERS, FIRST_CONSTANT, MIDDLE, SMALL, WIDE};
 use crate::scene::{needs, room_for, Needs, Scene, EDGE_TABLE, LISTING};
 use crate::tables;
 use crate::words::spoil;
@@ -13,7 +14,7 @@ use protocol::{Call, Room, What, Word};
 type Kind = fn(&mut Scene);
 
 /// The common kinds with their weights.
-const COMMON: [(&str, usize, Kind); 11] = [
+const COMMON: [(&str, usize, Kind); 12] = [
     ("whole rules", 30, whole_rule),
     ("damaged files", 25, damaged),
     ("changed rules", 15, changed_rule),
@@ -25,6 +26,7 @@ const COMMON: [(&str, usize, Kind); 11] = [
     ("followers", 10, tables::followers),
     ("loose words", 8, loose_words),
     ("words held back", 15, held_back),
+    ("files with a ceiling", 10, ceiling::dropped),
 ];
 
 /// The costly kinds: one scene in so many, the first one early.
@@ -71,7 +73,7 @@ fn whole_rule(scene: &mut Scene) {
     let rule = some_rule(scene.random);
     scene.read_surely(&rule);
     scene.add(Call::CheckRule);
-    scene.write(rule.file().len());
+    scene.write(&rule.file());
     let needs = needs(&rule);
     let exact = needs.as_ref().map_or(LISTING, |needs| needs.room);
     build_tightly(scene, needs.as_ref(), exact);
@@ -110,7 +112,7 @@ fn wide_rule(scene: &mut Scene) {
     let rule = any_rule(scene.random, &WIDE);
     scene.read(rule.file());
     scene.add(Call::CheckRule);
-    scene.write(rule.file().len());
+    scene.write(&rule.file());
     scene.build(Room { scratch: rule.code_count(), cells: 30_000, rows: 300, pool: 20_000 });
     for _ in 0..3 {
         let word = scene.word(&rule, 8);
@@ -127,7 +129,7 @@ fn damaged(scene: &mut Scene) {
             if scene.random.chance(85) { damaged_file(scene.random, &rule) } else { rubbish(scene.random) };
         scene.read(file.clone());
         scene.add(Call::CheckRule);
-        scene.write(file.len());
+        scene.write(&file);
         if scene.random.chance(25) {
             let word = scene.any_word(&rule, 4);
             scene.decide(file.clone(), LISTING, word);
@@ -144,13 +146,13 @@ fn changed_rule(scene: &mut Scene) {
     for _ in 0..6 {
         scene.add(Call::Restore);
         if scene.random.chance(15) {
-            change_codes(scene);
+            change_codes(scene, &rule);
         }
         for _ in 0..scene.random.pick(&[0, 1, 1, 1, 2, 3]) {
             change_rule(scene, &rule);
         }
         scene.add(Call::CheckRule);
-        scene.write(rule.file().len());
+        scene.write(&rule.file());
         scene.build(Room { scratch: 65_536, cells: 2_000, rows: 100, pool: 500 });
         let word = scene.any_word(&rule, 3);
         scene.exact(&rule, word.clone());
@@ -158,17 +160,22 @@ fn changed_rule(scene: &mut Scene) {
     }
 }
 
-/// More clocks and a higher ceiling, so that N comes near 65,536 or over it.
-fn change_codes(scene: &mut Scene) {
-    let (clocks, ceiling) = (scene.random.pick(&[2, 3, 4]), scene.random.pick(&[7, 15, 16, 31]));
+/// More clocks and a higher constant in some atom, so that N comes near 65,536 or over it.
+fn change_codes(scene: &mut Scene, rule: &Rule) {
+    let (clocks, constant) = (scene.random.pick(&[2, 3, 4]), scene.random.pick(&[6, 14, 15, 30]));
     scene.add(Call::Poke { what: What::Head, index: 2, value: clocks });
-    scene.add(Call::Poke { what: What::Head, index: 5, value: ceiling });
+    let with_atoms = rule.edges.iter().enumerate().filter(|(_, edge)| !edge.atoms.is_empty());
+    let places: Vec<usize> = with_atoms.map(|(number, _)| EDGE_NUMBERS * number + FIRST_CONSTANT).collect();
+    if !places.is_empty() {
+        let index = scene.random.pick(&places);
+        scene.add(Call::Poke { what: What::Edges, index, value: constant });
+    }
 }
 
 fn change_rule(scene: &mut Scene, rule: &Rule) {
     let random = &mut *scene.random;
     let used = EDGE_NUMBERS * rule.edges.len();
-    let limits = [32, 16, 4, 1 << rule.locations, 1 << rule.locations, 32, rule.edges.len() as u32];
+    let limits = [32, 16, 4, 1 << rule.locations, 1 << rule.locations, rule.edges.len() as u32];
     let call = match random.below(10) {
         0 => {
             let length =
@@ -176,7 +183,7 @@ fn change_rule(scene: &mut Scene, rule: &Rule) {
             Call::Resize { what: What::Edges, length, fill: random.below(2) as u32 }
         }
         1..=4 => {
-            let index = random.below(7);
+            let index = random.below(limits.len());
             Call::Poke { what: What::Head, index, value: random.number_about(limits[index]) }
         }
         5..=8 if used > 0 => {
