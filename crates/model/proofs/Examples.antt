@@ -140,6 +140,18 @@ unfolding maskOf cm pairCount recordRefusal withRecord atEnd readFrom readRule
     tablesBy tablesOf second-locations second-records second-file second second-tables
 second-table-is = refl
 
+-- cm: the largest constant in any atom of any edge; 0 where there is none, and where 0 is the largest
+abbrev pub timeless : List Atom → Edge
+timeless atoms = record { source = 0; target = 0; symbol = 0; resets = 0; atoms = atoms }
+
+pub tops-are :
+    (cm worked ≡ 1) × (cm second ≡ 2) × (cm ninth ≡ 1) × (cm (rule 1 1 1 [] [] []) ≡ 0)
+    × (cm (rule 1 1 1 [] [] (timeless [] ∷ [])) ≡ 0)
+    × (cm (rule 1 1 1 [] [] (timeless (record { clock = 0; relation = 3; constant = 0 } ∷ []) ∷ [])) ≡ 0)
+unfolding cm pairCount recordRefusal withRecord atEnd readFrom readRule worked-file worked second-locations
+    second-records second-file second ninth edge-to at-age-one
+tops-are = (refl, refl, refl, refl, refl, refl)
+
 -- rows that hold a final location: 4 and 5
 pub second-verdicts :
     (verdict second-tables 0 ≡ false) × (verdict second-tables 1 ≡ false) × (verdict second-tables 2 ≡ false)

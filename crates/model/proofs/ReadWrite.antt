@@ -12,9 +12,8 @@ use Rattle.model.specs.declared.Answer.{Answer}
 use Rattle.model.specs.declared.Reading.{Reading}
 use Rattle.model.specs.Basics.{allBelow, written, Refusal, refusal, fine, refuse, passes}
 use Rattle.model.specs.Rules.{Rule}
-use Rattle.model.specs.Words.{Event}
 use Rattle.model.specs.Runs.{accepts}
-use Rattle.model.specs.Files.{Spelt, readRule, ruleBytes, lessCeiling}
+use Rattle.model.specs.Files.{readRule, ruleBytes, lessCeiling}
 use Rattle.model.specs.Layout.{edgeNeed, headOf, edgeTable, ruleIn, ruleRefusal}
 use Rattle.model.specs.Promises.{tooShort, readRefusal, readingOf, edgesRead, ReadsRule, writeRefusal}
 use Rattle.model.specs.Promises.{WritesRule}

@@ -1,5 +1,4 @@
 -- `edges::top_of` meets its contract: each edge's largest constant, one after another.
-use mathlib.Core.Path.{_≡_}
 use Prim.Native.Nat.{_-_}
 use borrow.Author.Needs.{needs}
 use Rattle.edges.proofs.Laws.{LargestEdge, edges-start, edges-next, edges-end, cm-found}
