@@ -1,4 +1,4 @@
--- The length of a rule's file, part by part, and at most 15,760 bytes for a valid rule.
+-- The length of a rule's file, part by part, and at most 15,754 bytes for a valid rule.
 use mathlib.Core.Path.{_≡_, refl}
 use mathlib.Core.Bool.{true}
 use mathlib.Core.List.{List, [], _∷_, _++_}

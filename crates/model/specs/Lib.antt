@@ -10,7 +10,7 @@ pub mod Guards
 -- "The rule": ages, runs, acceptance; "Runners": the least accepting run, what held the rule back (2.1), configurations
 -- and 26
 pub mod Runs
--- "The file": records, reading with refusals 1 to 8, writing
+-- "The file": records, reading with refusals 1 to 8, writing; a file less its ceiling (2.2)
 pub mod Files
 -- "The file": the head record and the edge table that a rule becomes (20, 21)
 pub mod Layout
