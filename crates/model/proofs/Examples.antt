@@ -92,7 +92,7 @@ worked-table-is = refl
 
 -- The second rule: two clocks, resets of either clock, several atoms, strict and weak relations, so that a swapped
 -- field, relation, digit, mask bit or order of discovery changes its table. Its last edge can never be taken: x0 < 0
--- does not hold; it is there for its constant, 2, which makes cm. Its file has a ceiling of 3, which counts for nothing.
+-- does not hold; it is there for its constant, 2, which makes cm. Its file has a ceiling of 3, which does not count.
 unfoldable pub second-locations : List ℕ
 second-locations =
     (6 ∷ 0 ∷ 1 ∷ 0 ∷ 3 ∷ 0 ∷ 2 ∷ 0 ∷ 2 ∷ 0 ∷ [])

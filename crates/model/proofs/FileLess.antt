@@ -1,5 +1,5 @@
--- A file less its ceiling, record by record: a record is kept whole or left out whole. The file of a rule has nothing to
--- leave out, and with a ceiling it is left the file of the rule.
+-- A file less its ceiling, record by record: a record is kept whole or left out whole. The file of a rule has nothing
+-- to leave out, and with a ceiling it is left the file of the rule.
 use mathlib.Core.Path.{_≡_, refl, _∙_, ap}
 use mathlib.Core.Bool.{Bool, true, false, not}
 use mathlib.Core.List.{List, [], _∷_, _++_}
