@@ -1,6 +1,6 @@
 -- What the builder leaves is in shape, so 25 cannot occur: sizes in range, tables long enough, rows in a chain, codes
--- below N, a cell's row below R, and resets only at even intervals.
-use mathlib.Core.Path.{_≡_, refl, _∙_}
+-- below N, a cell's row below R, resets only at even intervals, and a stored verdict that the codes give.
+use mathlib.Core.Path.{_≡_, refl, sym, _∙_, ap}
 use mathlib.Core.Bool.{Bool, true, false, _&&_, _||_}
 use mathlib.Core.List.{List, [], _∷_, _++_}
 use Prim.Native.Nat.{ℕ, zero, suc, _+_, _-_, _*_, _/_, _%_, _≤_, _<_}
@@ -13,10 +13,11 @@ use borrow.Author.Tests.{lt-ltb, le-leb, eq-eqb}
 use Rattle.model.specs.declared.Built.{Built}
 use Rattle.model.specs.Basics.{oneIf, within, remainder, allBelow, zeros, filled}
 use Rattle.model.specs.Rules.{Rule, cm, pairCount, mostPairs, sizesOk}
-use Rattle.model.specs.Construction.{width, nextRow, rowResets, numberOf, rowsOf, mostRows, cellOf}
-use Rattle.model.specs.Tables.{rowWidth, cellsFrom, symbolCells, cellNumbers, rowNumbers, codesSay, poolNumbers}
-use Rattle.model.specs.Tables.{builtBy, tablesBy, tablesOf}
+use Rattle.model.specs.Construction.{width, nextRow, rowResets, numberOf, rowsOf, mostRows, cellOf, holdsFinal}
+use Rattle.model.specs.Tables.{Tables, rowWidth, rowVerdict, cellsFrom, symbolCells, cellNumbers, rowNumbers}
+use Rattle.model.specs.Tables.{poolNumbers, builtBy, tablesBy, tablesOf}
 use Rattle.model.specs.Walks.{builtPairs, builtSizesOk, cellNeed, longEnough, rowsChain, cellOk, cellsOk, inShape}
+use Rattle.model.specs.Walks.{codesSay, rowCodes, verdictsOk}
 use Rattle.model.specs.Demands.{Built-in-shape}
 use Rattle.model.proofs.Logic.{and-left, and-right, and-both, or-right, in-within, remainder-is, In, here, there}
 use Rattle.model.proofs.Valid.{Sizes, Valid, valid-of, cm-most}
@@ -27,6 +28,7 @@ use Rattle.model.proofs.Rising.{Below, below-test, below-append}
 use Rattle.model.proofs.RowSets.{even-reset}
 use Rattle.model.proofs.TableRoom.{fitted, fitted-closed}
 use Rattle.model.proofs.TablePlaces.{cells-length, symbols-length, cell-numbers-length, row-numbers-length}
+use Rattle.model.proofs.TablePlaces.{stored-by-place, said-by-place, final-asc}
 use Rattle.model.proofs.TableWalk.{cell-row}
 
 -- sizes in their ranges
@@ -63,7 +65,7 @@ pub long-enough : (r : Rule) (rows : List (List ℕ)) (c n p : ℕ) → longEnou
 unfolding tablesBy
 long-enough r rows c n p =
     let cells : List ℕ = cellNumbers r rows rows in
-    let numbers : List ℕ = rowNumbers codesSay 0 rows in
+    let numbers : List ℕ = rowNumbers (holdsFinal r) 0 rows in
     let pool : List ℕ = poolNumbers rows in
     let need : ℕ = length rows * (r .symbols * width r) in
     and-both (leb need (length (filled c cells)) && leb (rowWidth * length rows) (length (filled n numbers)))
@@ -71,19 +73,34 @@ long-enough r rows c n p =
     (and-both (leb need (length (filled c cells))) (leb (rowWidth * length rows) (length (filled n numbers)))
     (le-leb need (length (filled c cells)) (filled-long c need cells (omega (arith, cell-numbers-length r rows rows))))
     (le-leb (rowWidth * length rows) (length (filled n numbers))
-    (filled-long n (rowWidth * length rows) numbers (omega (arith, row-numbers-length 0 rows)))))
+    (filled-long n (rowWidth * length rows) numbers (omega (arith, row-numbers-length (holdsFinal r) 0 rows)))))
     (le-leb (length pool) (length (filled p pool)) (filled-long p (length pool) pool (omega arith)))
 
 -- rows in a chain
 pub rows-chain :
-    (p total : ℕ) (xs : List (List ℕ)) (rest : List ℕ)
+    (says : List ℕ → Bool) (p total : ℕ) (xs : List (List ℕ)) (rest : List ℕ)
     → total ≡ p + length (poolNumbers xs)
-    → rowsChain (length xs) p (rowNumbers codesSay p xs ++ rest) total ≡ true
-rows-chain p total [] rest h = eq-eqb p total (omega arith)
-rows-chain p total (x ∷ xs) rest h =
-    and-both (eqb p p) (rowsChain (length xs) (p + length x) (rowNumbers codesSay (p + length x) xs ++ rest) total)
+    → rowsChain (length xs) p (rowNumbers says p xs ++ rest) total ≡ true
+rows-chain says p total [] rest h = eq-eqb p total (omega arith)
+rows-chain says p total (x ∷ xs) rest h =
+    and-both (eqb p p) (rowsChain (length xs) (p + length x) (rowNumbers says (p + length x) xs ++ rest) total)
     (eq-eqb p p refl)
-    (rows-chain (p + length x) total xs rest (omega (arith, length-append x (poolNumbers xs))))
+    (rows-chain says (p + length x) total xs rest (omega (arith, length-append x (poolNumbers xs))))
+
+-- what is stored is what the codes say
+verdicts-ok :
+    (r : Rule) (rows : List (List ℕ)) (c n p : ℕ) → Valid r → (k i : ℕ) → i + k ≤ length rows
+    → verdictsOk k i (tablesBy r rows c n p) ≡ true
+unfolding tablesBy
+verdicts-ok r rows c n p v zero i h = refl
+verdicts-ok r rows c n p v (suc k) i h =
+    let t : Tables = tablesBy r rows c n p in
+    let said : ℕ = oneIf (codesSay (builtBy r rows) (rowCodes t i)) in
+    and-both (eqb (rowVerdict (t .rows) i) said) (verdictsOk k (suc i) t)
+    (eq-eqb (rowVerdict (t .rows) i) said
+    (stored-by-place r rows c n p i (omega arith)
+    ∙ ap oneIf (sym (said-by-place r rows c n p i (final-asc r v) (omega arith)))))
+    (verdicts-ok r rows c n p v k (suc i) (omega arith))
 
 -- codes below a bound
 pub pool-below : (m : ℕ) (xs : List (List ℕ)) → Each (Below m) xs → Below m (poolNumbers xs)
@@ -189,7 +206,7 @@ shape-by r rows c n p v some few closed below =
     let b : Built = builtBy r rows in
     let sizes : Bool = builtSizesOk b in
     let long : Bool = longEnough (tablesBy r rows c n p) in
-    let chain : Bool = rowsChain (length rows) 0 (filled n (rowNumbers codesSay 0 rows)) (b .total) in
+    let chain : Bool = rowsChain (length rows) 0 (filled n (rowNumbers (holdsFinal r) 0 rows)) (b .total) in
     let codes : Bool = allBelow (builtPairs b) (take (b .total) (filled p (poolNumbers rows))) in
     let cells : Bool = cellsOk 0 (width r) (length rows) (take (cellNeed b) (filled c (cellNumbers r rows rows))) in
     let front : take (b .total) (filled p (poolNumbers rows)) ≡ poolNumbers rows =
@@ -198,13 +215,16 @@ shape-by r rows c n p v some few closed below =
     take-at (cellNumbers r rows rows) (zeros (c - length (cellNumbers r rows rows))) (cellNeed b)
     (cell-numbers-length r rows rows) in
     let z : 0 * width r ≡ 0 = omega arith in
-    and-both (sizes && long && chain && codes) cells
+    let stored : Bool = verdictsOk (length rows) 0 (tablesBy r rows c n p) in
+    and-both (sizes && long && chain && codes && cells) stored
+    (and-both (sizes && long && chain && codes) cells
     (and-both (sizes && long && chain) codes
     (and-both (sizes && long) chain
     (and-both sizes long (built-sizes r rows v some few) (long-enough r rows c n p))
-    (rows-chain 0 (b .total) rows (zeros (n - length (rowNumbers codesSay 0 rows))) (omega arith)))
+    (rows-chain (holdsFinal r) 0 (b .total) rows (zeros (n - length (rowNumbers (holdsFinal r) 0 rows))) (omega arith)))
     (rw front (below-test (pairCount r) (poolNumbers rows) (pool-below (pairCount r) rows below))))
-    (rw whole (rw z at (rows-cells r rows 0 rows (cell-ok r rows v closed))))
+    (rw whole (rw z at (rows-cells r rows 0 rows (cell-ok r rows v closed)))))
+    (verdicts-ok r rows c n p v (length rows) 0 (omega arith))
 
 -- The claim.
 pub built-in-shape : Built-in-shape

@@ -1,20 +1,21 @@
 -- The tables by place: the cell of a row at a symbol and an interval, a row's start and length, its codes in the pool
 -- and its verdict are those of the construction. Over any rows and any lent lengths.
 use mathlib.Core.Path.{_≡_, refl, sym, _∙_, ap, ap₂}
-use mathlib.Core.Bool.{_||_}
+use mathlib.Core.Bool.{Bool, true, false, _||_}
 use mathlib.Core.List.{List, [], _∷_, _++_, append-assoc}
 use Prim.Native.Nat.{ℕ, zero, suc, _+_, _-_, _*_, _≤_, _<_}
 use native.Mathlib.Omega.{arith}
 use native.Mathlib.Nat.{mul-le-mul-right, zero-add}
+use lib.Dec.{eqb}
 use lib.ListN.{length, getD, take, drop, length-append}
 use lib.Seq.{getD-append-add, getD-drop, take-append-seam, drop-append-add}
 use borrow.Author.Tests.{ltb-true}
-use Rattle.model.specs.Basics.{zeros}
+use Rattle.model.specs.Basics.{oneIf, zeros}
 use Rattle.model.specs.Rules.{Rule}
 use Rattle.model.specs.Construction.{width, rowsOf, rowAt, cellOf, locationOf, holdsFinal}
-use Rattle.model.specs.Tables.{cellsFrom, symbolCells, cellNumbers, rowWidth, rowNumbers, codesSay, poolNumbers}
-use Rattle.model.specs.Tables.{builtBy, tablesBy, tablesOf}
-use Rattle.model.specs.Walks.{rowCodes, anyFinal, verdict, cellAt}
+use Rattle.model.specs.Tables.{cellsFrom, symbolCells, cellNumbers, rowWidth, rowNumbers, poolNumbers}
+use Rattle.model.specs.Tables.{rowVerdict, builtBy, tablesBy, tablesOf}
+use Rattle.model.specs.Walks.{rowCodes, anyFinal, codesSay, verdict, cellAt}
 use Rattle.model.specs.Claims.{Every-place}
 use Rattle.model.proofs.Logic.{first-part}
 use Rattle.model.proofs.Masks.{Asc, mask-bits}
@@ -96,31 +97,45 @@ startOf n [] = 0
 startOf zero (x ∷ xs) = 0
 startOf (suc n) (x ∷ xs) = length x + startOf n xs
 
-pub start-number :
-    (p : ℕ) (xs : List (List ℕ)) (n : ℕ)
-    → n < length xs
-    → getD (rowNumbers codesSay p xs) (rowWidth * n) 0 ≡ p + startOf n xs
-start-number p [] n h = absurd (omega arith)
-start-number p (x ∷ xs) zero h = omega arith
-start-number p (x ∷ xs) (suc n) h =
-    let e : rowWidth * suc n ≡ rowWidth + rowWidth * n = omega arith in
-    rw e (sym (getD-drop rowWidth (rowNumbers codesSay p (x ∷ xs)) (rowWidth * n) 0)
-    ∙ (start-number (p + length x) xs n (omega arith) ∙ omega arith))
+-- The numbers of a row by their place, whatever its codes say.
+module _ (says : List ℕ → Bool) where
+  -- past the first row's
+  past-first :
+      (p : ℕ) (x : List ℕ) (xs : List (List ℕ)) (n k : ℕ)
+      → getD (rowNumbers says p (x ∷ xs)) (rowWidth * suc n + k) 0
+      ≡ getD (rowNumbers says (p + length x) xs) (rowWidth * n + k) 0
+  past-first p x xs n k =
+      let e : rowWidth * suc n + k ≡ rowWidth + (rowWidth * n + k) = omega arith in
+      rw e (sym (getD-drop rowWidth (rowNumbers says p (x ∷ xs)) (rowWidth * n + k) 0))
 
-pub length-number :
-    (p : ℕ) (xs : List (List ℕ)) (n : ℕ)
-    → n < length xs
-    → getD (rowNumbers codesSay p xs) (rowWidth * n + 1) 0 ≡ length (rowAt xs n)
-length-number p [] n h = absurd (omega arith)
-length-number p (x ∷ xs) zero h = refl
-length-number p (x ∷ xs) (suc n) h =
-    let e : rowWidth * suc n + 1 ≡ rowWidth + (rowWidth * n + 1) = omega arith in
-    rw e (sym (getD-drop rowWidth (rowNumbers codesSay p (x ∷ xs)) (rowWidth * n + 1) 0)
-    ∙ length-number (p + length x) xs n (omega arith))
+  pub start-number :
+      (p : ℕ) (xs : List (List ℕ)) (n : ℕ)
+      → n < length xs
+      → getD (rowNumbers says p xs) (rowWidth * n) 0 ≡ p + startOf n xs
+  start-number p [] n h = absurd (omega arith)
+  start-number p (x ∷ xs) zero h = omega arith
+  start-number p (x ∷ xs) (suc n) h =
+      past-first p x xs n 0 ∙ (start-number (p + length x) xs n (omega arith) ∙ omega arith)
 
-pub row-numbers-length : (p : ℕ) (xs : List (List ℕ)) → length (rowNumbers codesSay p xs) ≡ rowWidth * length xs
-row-numbers-length p [] = refl
-row-numbers-length p (x ∷ xs) = omega (arith, row-numbers-length (p + length x) xs)
+  pub length-number :
+      (p : ℕ) (xs : List (List ℕ)) (n : ℕ)
+      → n < length xs
+      → getD (rowNumbers says p xs) (rowWidth * n + 1) 0 ≡ length (rowAt xs n)
+  length-number p [] n h = absurd (omega arith)
+  length-number p (x ∷ xs) zero h = refl
+  length-number p (x ∷ xs) (suc n) h = past-first p x xs n 1 ∙ length-number (p + length x) xs n (omega arith)
+
+  pub verdict-number :
+      (p : ℕ) (xs : List (List ℕ)) (n : ℕ)
+      → n < length xs
+      → getD (rowNumbers says p xs) (rowWidth * n + 2) 0 ≡ oneIf (says (rowAt xs n))
+  verdict-number p [] n h = absurd (omega arith)
+  verdict-number p (x ∷ xs) zero h = refl
+  verdict-number p (x ∷ xs) (suc n) h = past-first p x xs n 2 ∙ verdict-number (p + length x) xs n (omega arith)
+
+  pub row-numbers-length : (p : ℕ) (xs : List (List ℕ)) → length (rowNumbers says p xs) ≡ rowWidth * length xs
+  row-numbers-length p [] = refl
+  row-numbers-length p (x ∷ xs) = omega (arith, row-numbers-length (p + length x) xs)
 
 pub pool-at :
     (xs : List (List ℕ)) (n : ℕ) (rest : List ℕ)
@@ -132,6 +147,11 @@ pool-at (x ∷ xs) zero rest h =
 pool-at (x ∷ xs) (suc n) rest h =
     rw (append-assoc x (poolNumbers xs) rest, drop-append-add x (poolNumbers xs ++ rest) (startOf n xs))
     (pool-at xs n rest (omega arith))
+
+-- a stored verdict read back
+pub one-if-is : (b : Bool) → eqb (oneIf b) 1 ≡ b
+one-if-is true = refl
+one-if-is false = refl
 
 -- The tables of a rule over any rows.
 module _ (r : Rule) (rows : List (List ℕ)) (c n p : ℕ) where
@@ -149,30 +169,45 @@ module _ (r : Rule) (rows : List (List ℕ)) (c n p : ℕ) where
       (omega (arith, cell-numbers-length r rows rows, mul-le-mul-right (width r) a))
       ∙ cell-numbers-at r rows rows m s i h g l
 
+  -- the row table begins with the rows' numbers
+  number-at :
+      (k : ℕ) → k < rowWidth * length rows
+      → getD (tablesBy r rows c n p .rows) k 0 ≡ getD (rowNumbers (holdsFinal r) 0 rows) k 0
+  unfolding tablesBy
+  number-at k l =
+      first-part 0 (rowNumbers (holdsFinal r) 0 rows) (zeros (n - length (rowNumbers (holdsFinal r) 0 rows))) k
+      (omega (arith, row-numbers-length (holdsFinal r) 0 rows))
+
   pub codes-by-place : (m : ℕ) → m < length rows → rowCodes (tablesBy r rows c n p) m ≡ rowAt rows m
   unfolding tablesBy
   codes-by-place m h =
-      let numbers : List ℕ = rowNumbers codesSay 0 rows in
-      let rest : List ℕ = zeros (n - length numbers) in
-      let front : (k : ℕ) → k < rowWidth * length rows → getD (numbers ++ rest) k 0 ≡ getD numbers k 0 =
-      λ k l. first-part 0 numbers rest k (omega (arith, row-numbers-length 0 rows)) in
-      let a : getD (numbers ++ rest) (rowWidth * m + 1) 0 ≡ length (rowAt rows m) =
-      front (rowWidth * m + 1) (omega arith) ∙ length-number 0 rows m h in
-      let b : getD (numbers ++ rest) (rowWidth * m) 0 ≡ startOf m rows =
-      front (rowWidth * m) (omega arith) ∙ (start-number 0 rows m h ∙ (omega arith)) in
+      let a : getD (tablesBy r rows c n p .rows) (rowWidth * m + 1) 0 ≡ length (rowAt rows m) =
+      number-at (rowWidth * m + 1) (omega arith) ∙ length-number (holdsFinal r) 0 rows m h in
+      let b : getD (tablesBy r rows c n p .rows) (rowWidth * m) 0 ≡ startOf m rows =
+      number-at (rowWidth * m) (omega arith) ∙ (start-number (holdsFinal r) 0 rows m h ∙ (omega arith)) in
       rw (a, b) (pool-at rows m (zeros (p - length (poolNumbers rows))) h)
 
-  -- a location is final exactly if its bit is set
-  any-final-is : (xs : List ℕ) → Asc 0 (r .final) → anyFinal (builtBy r rows) xs ≡ holdsFinal r xs
-  unfolding holdsFinal locationOf
-  any-final-is [] a = refl
-  any-final-is (x ∷ xs) a = ap₂ _||_ (mask-bits 0 (r .final) (locationOf r x) a) (any-final-is xs a)
+  pub stored-by-place :
+      (m : ℕ) → m < length rows
+      → rowVerdict (tablesBy r rows c n p .rows) m ≡ oneIf (holdsFinal r (rowAt rows m))
+  stored-by-place m h =
+      number-at (rowWidth * m + 2) (omega arith) ∙ verdict-number (holdsFinal r) 0 rows m h
 
   pub verdict-by-place :
-      (m : ℕ) → Asc 0 (r .final) → m < length rows → verdict (tablesBy r rows c n p) m ≡ holdsFinal r (rowAt rows m)
-  unfolding verdict tablesBy
-  verdict-by-place m a h =
-      ap (anyFinal (builtBy r rows)) (codes-by-place m h) ∙ any-final-is (rowAt rows m) a
+      (m : ℕ) → m < length rows → verdict (tablesBy r rows c n p) m ≡ holdsFinal r (rowAt rows m)
+  unfolding verdict
+  verdict-by-place m h = rw (stored-by-place m h) (one-if-is (holdsFinal r (rowAt rows m)))
+
+  -- what the codes say: a location is final exactly if its bit is set
+  codes-say : (xs : List ℕ) → Asc 0 (r .final) → codesSay (builtBy r rows) xs ≡ holdsFinal r xs
+  unfolding holdsFinal locationOf
+  codes-say [] a = refl
+  codes-say (x ∷ xs) a = ap₂ _||_ (mask-bits 0 (r .final) (locationOf r x) a) (codes-say xs a)
+
+  pub said-by-place :
+      (m : ℕ) → Asc 0 (r .final) → m < length rows
+      → codesSay (builtBy r rows) (rowCodes (tablesBy r rows c n p) m) ≡ holdsFinal r (rowAt rows m)
+  said-by-place m a h = ap (codesSay (builtBy r rows)) (codes-by-place m h) ∙ codes-say (rowAt rows m) a
 
 pub final-asc : (r : Rule) → Valid r → Asc 0 (r .final)
 final-asc r v = rising-asc 0 (r .locations) (r .final) (v .final-rises)
@@ -186,6 +221,5 @@ every-place r scratch cells rows pool valid fits = record {
       (ltb-true i (width r) l);
   codes = λ n h. codes-by-place r (rowsOf r) cells rows pool n (ltb-true n (length (rowsOf r)) h);
   verdicts = λ n h.
-      verdict-by-place r (rowsOf r) cells rows pool n (final-asc r (valid-of r valid))
-      (ltb-true n (length (rowsOf r)) h);
+      verdict-by-place r (rowsOf r) cells rows pool n (ltb-true n (length (rowsOf r)) h);
 }

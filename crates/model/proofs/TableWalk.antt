@@ -110,7 +110,7 @@ module _ (r : Rule) (rows : List (List ℕ)) (c n p : ℕ) (closed : Closed r (l
       → verdict (tablesBy r rows c n p) (stepAll (tablesBy r rows c n p) f vs .row)
       ≡ walksFrom r d vs (rowAt rows (f .row)) (f .reset .0)
   unfolding stepAll walksFrom
-  walk-on d [] f hd asc g h b = verdict-by-place r rows c n p (f .row) asc h
+  walk-on d [] f hd asc g h b = verdict-by-place r rows c n p (f .row) h
   walk-on d (v ∷ vs) f hd asc g h b =
       let now : ℕ = intervalOf (cm r) (f .grain) (v .stamp - f .reset .0) in
       let s : Stepped r rows f v now (step (tablesBy r rows c n p) f v) = steps f v (omega arith) h (b .0) in
