@@ -1,5 +1,6 @@
 -- The whole build: from the start row on, into tables that hold zero.
 use mathlib.Core.Path.{_≡_}
+use mathlib.Core.Bool.{Bool}
 use mathlib.Core.List.{List, [], _∷_}
 use Prim.Native.Nat.{ℕ, _*_, _≤_}
 use lib.ListN.{length}
@@ -30,7 +31,7 @@ pub record CanPlaceStart (starts weight : ℕ) (marks rows pool : List ℕ) (roo
 
 -- the start row has number 0, or it does not fit
 pub record StartPlaced
-    (says : List ℕ → List ℕ) (starts weight room : ℕ) (marks marks′ rows′ pool′ : List ℕ) (p : Progress) : Type 0 where
+    (says : List ℕ → Bool) (starts weight room : ℕ) (marks marks′ rows′ pool′ : List ℕ) (p : Progress) : Type 0 where
   pub marks-zero : marks′ ≡ zeros (length marks)
   pub grown : Grown says room (startCodesBy weight (locationsIn starts) ∷ []) rows′ pool′ p
 

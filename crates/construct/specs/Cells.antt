@@ -1,6 +1,7 @@
 -- Cells as they are filled: of one symbol, of one row, of all rows. A cell holds the number that its next row keeps,
 -- whatever rows come after; so what is written is said for every list of rows that begins with those found so far.
 use mathlib.Core.Path.{_≡_}
+use mathlib.Core.Bool.{Bool}
 use mathlib.Core.List.{List, [], _∷_, _++_}
 use Prim.Native.Nat.{ℕ, _+_, _*_, _≤_, _<_}
 use lib.ListN.{length}
@@ -19,7 +20,7 @@ use Rattle.construct.specs.Rows.{rowsIn, Held, Grown}
 
 -- a row that can be left: it has a number, and no marks stand
 pub record CanLeave
-    (says : List ℕ → List ℕ) (r : Rule) (z : Scale) (marks rows pool : List ℕ) (p : Progress) (row : ℕ) : Type 0 where
+    (says : List ℕ → Bool) (r : Rule) (z : Scale) (marks rows pool : List ℕ) (p : Progress) (row : ℕ) : Type 0 where
   pub ready : Ready r z marks
   pub marks-zero : marks ≡ zeros (length marks)
   pub held : Held says rows pool p
@@ -27,7 +28,7 @@ pub record CanLeave
 
 -- the row that a cell leads to, and the cell
 pub record CellMade
-    (says : List ℕ → List ℕ) (r : Rule) (row : ℕ) (at : Input) (rs : List (List ℕ)) (room : ℕ)
+    (says : List ℕ → Bool) (r : Rule) (row : ℕ) (at : Input) (rs : List (List ℕ)) (room : ℕ)
     (marks marks′ rows′ pool′ : List ℕ)
     (answer : Filled) : Type 0 where
   pub marks-zero : marks′ ≡ zeros (length marks)
@@ -41,14 +42,14 @@ pub record CellMade
 
 -- there are cells for as many rows as there is room for
 pub record CanFill
-    (says : List ℕ → List ℕ) (r : Rule) (z : Scale) (marks cells rows pool : List ℕ) (p : Progress) (row : ℕ) : Type 0
+    (says : List ℕ → Bool) (r : Rule) (z : Scale) (marks cells rows pool : List ℕ) (p : Progress) (row : ℕ) : Type 0
   where
     pub leave : CanLeave says r z marks rows pool p row
     pub cells-fit : p .room * (r .symbols * width r) ≤ length cells
 
 -- the cells of a row at a symbol
 pub record SymbolFilled
-    (says : List ℕ → List ℕ) (r : Rule) (row s : ℕ) (rs : List (List ℕ)) (room : ℕ)
+    (says : List ℕ → Bool) (r : Rule) (row s : ℕ) (rs : List (List ℕ)) (room : ℕ)
     (marks marks′ cells cells′ rows′ pool′ : List ℕ)
     (p : Progress) : Type 0 where
   pub marks-zero : marks′ ≡ zeros (length marks)
@@ -62,7 +63,7 @@ pub record SymbolFilled
 
 -- the cells of a row
 pub record RowFilled
-    (says : List ℕ → List ℕ) (r : Rule) (row : ℕ) (rs : List (List ℕ)) (room : ℕ)
+    (says : List ℕ → Bool) (r : Rule) (row : ℕ) (rs : List (List ℕ)) (room : ℕ)
     (marks marks′ cells cells′ rows′ pool′ : List ℕ) (p : Progress)
     : Type 0 where
   pub marks-zero : marks′ ≡ zeros (length marks)
@@ -76,7 +77,7 @@ pub record RowFilled
 
 -- the start row has number 0, and no cell is filled
 pub record CanFillAll
-    (says : List ℕ → List ℕ) (r : Rule) (z : Scale) (marks cells rows pool : List ℕ) (p : Progress) : Type 0 where
+    (says : List ℕ → Bool) (r : Rule) (z : Scale) (marks cells rows pool : List ℕ) (p : Progress) : Type 0 where
   pub ready : Ready r z marks
   pub marks-zero : marks ≡ zeros (length marks)
   pub held : Held says rows pool p
@@ -86,7 +87,7 @@ pub record CanFillAll
 
 -- all rows and all cells
 pub record AllFilled
-    (says : List ℕ → List ℕ) (r : Rule) (room : ℕ) (marks marks′ cells cells′ rows′ pool′ : List ℕ) (p : Progress) :
+    (says : List ℕ → Bool) (r : Rule) (room : ℕ) (marks marks′ cells cells′ rows′ pool′ : List ℕ) (p : Progress) :
     Type 0 where
   pub marks-zero : marks′ ≡ zeros (length marks)
   pub grown : Grown says room (rowsOf r) rows′ pool′ p

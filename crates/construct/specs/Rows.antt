@@ -5,13 +5,17 @@ use mathlib.Core.List.{List, [], _∷_, _++_}
 use Prim.Native.Nat.{ℕ, zero, suc, _+_, _*_, _≤_, _<_}
 use lib.Dec.{ltb}
 use lib.ListN.{length}
+use Rattle.model.specs.declared.Head.{Head}
 use Rattle.model.specs.Basics.{pick, same, zeros, filled, refusal}
 use Rattle.model.specs.Rules.{mostPairs}
 use Rattle.model.specs.Construction.{rowAt, numberOf, mostRows}
 use Rattle.model.specs.Tables.{rowWidth, rowStart, rowLength, codesAt, rowNumbers, poolNumbers, fitRefusal}
+use Rattle.model.specs.Walks.{anyFinal}
 use Rattle.model.proofs.Masks.{Asc}
 use Rattle.model.proofs.Discovery.{Each}
 use Rattle.model.proofs.RowNumbers.{Placed as Apart}
+use Rattle.pairs.specs.declared.Scale.{Scale}
+use Rattle.construct.specs.declared.Finals.{Finals}
 use Rattle.construct.specs.declared.Found.{Found}
 use Rattle.construct.specs.declared.Found.the-variants.{At, Nothing}
 use Rattle.construct.specs.declared.Progress.{Progress}
@@ -30,6 +34,13 @@ rowsIn n rows pool = rowsHeld n 0 rows pool
 abbrev pub isAt : ℕ → List ℕ → List (List ℕ) → Bool
 isAt n x rows = ltb n (length rows) && same x (rowAt rows n)
 
+-- what codes say by the final locations
+abbrev pub saysBy : Finals → List ℕ → Bool
+saysBy f xs = anyFinal (f .weight) (f .ends) xs
+
+abbrev pub saysIn : Head → Scale → List ℕ → Bool
+saysIn h z xs = anyFinal (z .weight) (h .ends) xs
+
 -- What the search among the rows answers: the number of an equal row, or nothing where none has one.
 abbrev pub foundIn : List ℕ → List (List ℕ) → Found
 foundIn x rows = pick (ltb (numberOf x rows) (length rows)) (At (numberOf x rows)) Nothing
@@ -45,8 +56,8 @@ pub record Within (count : ℕ) (rows pool : List ℕ) : Type 0 where
   pub in-pool : (n : ℕ) → n < count → rowStart rows n + rowLength rows n ≤ length pool
 
 -- The tables hold the rows numbered so far, each ascending and no two equal, and zero past them, and there is room for
--- what was put in. What a row has in the row table beside its start, its codes say.
-pub record Held (says : List ℕ → List ℕ) (rows pool : List ℕ) (p : Progress) : Type 0 where
+-- what was put in. A row stores what its codes say.
+pub record Held (says : List ℕ → Bool) (rows pool : List ℕ) (p : Progress) : Type 0 where
   pub rows-ascend : Each (Asc 0) (rowsIn (p .rows) rows pool)
   pub rows-apart : Apart (rowsIn (p .rows) rows pool)
   pub rows-are : rows ≡ filled (length rows) (rowNumbers says 0 (rowsIn (p .rows) rows pool))
@@ -66,7 +77,7 @@ pub record Unfit (room pool number : ℕ) (rows : List (List ℕ)) : Type 0 wher
 
 -- The rows are now these, and held; or some row of them does not fit.
 pub record Grown
-    (says : List ℕ → List ℕ) (room : ℕ) (after : List (List ℕ)) (rows′ pool′ : List ℕ) (p : Progress) : Type 0 where
+    (says : List ℕ → Bool) (room : ℕ) (after : List (List ℕ)) (rows′ pool′ : List ℕ) (p : Progress) : Type 0 where
   pub held : p .number ≡ 0 → Held says rows′ pool′ p
   pub rows-are : p .number ≡ 0 → rowsIn (p .rows) rows′ pool′ ≡ after
   pub refused : (p .number ≡ 0 → ⊥) → Unfit room (length pool′) (p .number) after
@@ -74,7 +85,7 @@ pub record Grown
 
 -- a set of codes was given its number n
 pub record Numbered
-    (says : List ℕ → List ℕ) (room : ℕ) (after : List (List ℕ)) (n : ℕ) (rows′ pool′ : List ℕ) (answer : Placed) : Type
+    (says : List ℕ → Bool) (room : ℕ) (after : List (List ℕ)) (n : ℕ) (rows′ pool′ : List ℕ) (answer : Placed) : Type
     0 where
   pub grown : Grown says room after rows′ pool′ (answer .progress)
   pub row-is : answer .progress .number ≡ 0 → answer .row ≡ n
@@ -82,7 +93,7 @@ pub record Numbered
 
 -- the same of marks, which are then cleared
 pub record MarksNumbered
-    (says : List ℕ → List ℕ) (room : ℕ) (after : List (List ℕ)) (n : ℕ) (marks marks′ rows′ pool′ : List ℕ)
+    (says : List ℕ → Bool) (room : ℕ) (after : List (List ℕ)) (n : ℕ) (marks marks′ rows′ pool′ : List ℕ)
     (answer : Placed) : Type 0 where
   pub numbered : Numbered says room after n rows′ pool′ answer
   pub marks-zero : marks′ ≡ zeros (length marks)

@@ -7,11 +7,13 @@ ghost use Rattle.model.specs.Basics.{lesser as lesserOf, quotient as quotientOf
 ghost use Rattle.model.specs.Rules.{mostPairs, pairCount};
 ghost use Rattle.model.specs.Construction.{mostRows};
 ghost use Rattle.model.specs.Layout.{ruleIn, ruleRefusal};
-ghost use Rattle.model.specs.Tables.{codesSay, rowRoom, rowWidth};
+ghost use Rattle.model.specs.Tables.{rowRoom, rowWidth};
 ghost use Rattle.model.specs.Promises.{BuildsTable};
 ghost use Rattle.pairs.specs.Pairs.{Scaled};
+ghost use Rattle.construct.specs.Rows.{saysBy, saysIn};
 ghost use Rattle.construct.specs.Cells.{AllFilled};
 ghost use Rattle.construct.specs.Builds.{CanPlaceStart, StartPlaced, CanBuild, notBuilt, builtFrom};
+use crate::Finals;
 use crate::Progress;
 use crate::cells::fill_rows;
 use crate::leaving::link_edges;
@@ -43,25 +45,25 @@ pub(crate) fn row_room(cells: usize, rows: usize, each: usize) -> usize
 // The start row gets number 0.
 pub(crate) fn place_start(
     starts: u32,
-    weight: u32,
+    finals: Finals,
     marks: &mut [u32],
     rows: &mut [u32],
     pool: &mut [u32],
     room: usize,
 ) -> Progress
-    requires { ⌜ CanPlaceStart starts weight (now marks) (now rows) (now pool) room ⌝ }
+    requires { ⌜ CanPlaceStart starts (finals .weight) (now marks) (now rows) (now pool) room ⌝ }
     ensures { λ r.
-        ⌜ StartPlaced codesSay starts weight room (now (marks .entry)) (now (marks .exit)) (now (rows .exit))
-        (now (pool .exit)) r ⌝ }
+        ⌜ StartPlaced (saysBy finals) starts (finals .weight) room (now (marks .entry)) (now (marks .exit))
+        (now (rows .exit)) (now (pool .exit)) r ⌝ }
 {
-    let span = mark_starts(starts, weight, marks);
+    let span = mark_starts(starts, finals.weight, marks);
     let none = Progress {
         number: 0,
         rows: 0,
         total: 0,
         room,
     };
-    let placed = place_marks(marks, span, 0, rows, pool, none);
+    let placed = place_marks(marks, span, 0, finals, rows, pool, none);
     placed.progress
 }
 
@@ -77,14 +79,18 @@ pub(crate) fn fill_tables(
 ) -> Progress
     requires { ⌜ CanBuild (ruleIn head (now edges)) scale (now marks) (now cells) (now rows) (now pool) ⌝ }
     ensures { λ r.
-        ⌜ AllFilled codesSay (ruleIn head (now (edges .entry)))
+        ⌜ AllFilled (saysIn head scale) (ruleIn head (now (edges .entry)))
         (rowRoom (ruleIn head (now (edges .entry))) (length (now (cells .entry))) (length (now (rows .entry))))
         (now (marks .entry)) (now (marks .exit)) (now (cells .entry)) (now (cells .exit)) (now (rows .exit))
         (now (pool .exit)) r ⌝ }
 {
     let each = wide32(head.symbols) * (2 * wide8(scale.top) + 2);
     let room = row_room(cells.len(), rows.len(), each);
-    let p = place_start(head.starts, scale.weight, marks, rows, pool, room);
+    let finals = Finals {
+        weight: scale.weight,
+        ends: head.ends,
+    };
+    let p = place_start(head.starts, finals, marks, rows, pool, room);
     if p.number != 0 {
         return p;
     }

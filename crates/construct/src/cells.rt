@@ -4,12 +4,12 @@ ghost use Prim.Native.Nat.{_+_, _*_, _^_, _<_};
 ghost use Rattle.model.specs.Basics.{oneIf};
 ghost use Rattle.model.specs.Construction.{mostRows};
 ghost use Rattle.model.specs.Layout.{ruleIn};
-ghost use Rattle.model.specs.Tables.{codesSay};
 ghost use Rattle.construct.specs.Leaving.{Linked};
-ghost use Rattle.construct.specs.Rows.{rowsIn};
+ghost use Rattle.construct.specs.Rows.{rowsIn, saysIn};
 ghost use Rattle.construct.specs.Cells.{CanLeave, CellMade, CanFill, SymbolFilled, RowFilled, CanFillAll};
 ghost use Rattle.construct.specs.Cells.{AllFilled};
 use crate::Filled;
+use crate::Finals;
 use crate::Progress;
 use crate::marks::mark_next;
 use crate::rows::length_in;
@@ -48,17 +48,23 @@ pub(crate) fn make_cell(
     pool: &mut [u32],
     p: Progress,
 ) -> Filled
-    requires { ⌜ CanLeave codesSay (ruleIn head (now edges)) scale (now marks) (now rows) (now pool) p row ⌝ }
+    requires { ⌜
+        CanLeave (saysIn head scale) (ruleIn head (now edges)) scale (now marks) (now rows) (now pool) p row
+        ⌝ }
     requires { ⌜ Linked (ruleIn head (now edges)) (now links) ⌝ }
     ensures { λ r.
-        ⌜ CellMade codesSay (ruleIn head (now (edges .entry))) row input
+        ⌜ CellMade (saysIn head scale) (ruleIn head (now (edges .entry))) row input
         (rowsIn (p .rows) (now (rows .entry)) (now (pool .entry))) (p .room) (now (marks .entry)) (now (marks .exit))
         (now (rows .exit)) (now (pool .exit)) r ⌝ }
 {
     let start = start_in(rows, row);
     let end = start + length_in(rows, row);
     let marked = mark_next(head, edges, links, scale, input, &pool[start..end], marks);
-    let placed = place_marks(marks, marked.span, guess, rows, pool, p);
+    let finals = Finals {
+        weight: scale.weight,
+        ends: head.ends,
+    };
+    let placed = place_marks(marks, marked.span, guess, finals, rows, pool, p);
     let progress = placed.progress;
     Filled {
         row: placed.row,
@@ -91,12 +97,12 @@ pub(crate) fn fill_symbol(
     p: Progress,
 ) -> Progress
     requires { ⌜
-        CanFill codesSay (ruleIn head (now edges)) scale (now marks) (now cells) (now rows) (now pool) p row
+        CanFill (saysIn head scale) (ruleIn head (now edges)) scale (now marks) (now cells) (now rows) (now pool) p row
         ⌝ }
     requires { ⌜ symbol < head .symbols ⌝ }
     requires { ⌜ Linked (ruleIn head (now edges)) (now links) ⌝ }
     ensures { λ r.
-        ⌜ SymbolFilled codesSay (ruleIn head (now (edges .entry))) row symbol
+        ⌜ SymbolFilled (saysIn head scale) (ruleIn head (now (edges .entry))) row symbol
         (rowsIn (p .rows) (now (rows .entry)) (now (pool .entry))) (p .room) (now (marks .entry)) (now (marks .exit))
         (now (cells .entry)) (now (cells .exit)) (now (rows .exit)) (now (pool .exit)) r ⌝ }
 {
@@ -148,11 +154,11 @@ pub(crate) fn fill_row(
     p: Progress,
 ) -> Progress
     requires { ⌜
-        CanFill codesSay (ruleIn head (now edges)) scale (now marks) (now cells) (now rows) (now pool) p row
+        CanFill (saysIn head scale) (ruleIn head (now edges)) scale (now marks) (now cells) (now rows) (now pool) p row
         ⌝ }
     requires { ⌜ Linked (ruleIn head (now edges)) (now links) ⌝ }
     ensures { λ r.
-        ⌜ RowFilled codesSay (ruleIn head (now (edges .entry))) row
+        ⌜ RowFilled (saysIn head scale) (ruleIn head (now (edges .entry))) row
         (rowsIn (p .rows) (now (rows .entry)) (now (pool .entry))) (p .room) (now (marks .entry)) (now (marks .exit))
         (now (cells .entry)) (now (cells .exit)) (now (rows .exit)) (now (pool .exit)) r ⌝ }
 {
@@ -192,11 +198,13 @@ pub(crate) fn fill_rows(
     pool: &mut [u32],
     p: Progress,
 ) -> Progress
-    requires { ⌜ CanFillAll codesSay (ruleIn head (now edges)) scale (now marks) (now cells) (now rows) (now pool) p ⌝ }
+    requires { ⌜
+        CanFillAll (saysIn head scale) (ruleIn head (now edges)) scale (now marks) (now cells) (now rows) (now pool) p
+        ⌝ }
     requires { ⌜ Linked (ruleIn head (now edges)) (now links) ⌝ }
     ensures { λ r.
-        ⌜ AllFilled codesSay (ruleIn head (now (edges .entry))) (p .room) (now (marks .entry)) (now (marks .exit))
-        (now (cells .entry)) (now (cells .exit)) (now (rows .exit)) (now (pool .exit)) r ⌝ }
+        ⌜ AllFilled (saysIn head scale) (ruleIn head (now (edges .entry))) (p .room) (now (marks .entry))
+        (now (marks .exit)) (now (cells .entry)) (now (cells .exit)) (now (rows .exit)) (now (pool .exit)) r ⌝ }
 {
     let mut progress = p;
     let mut row: usize = 0;

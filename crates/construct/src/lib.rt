@@ -30,6 +30,12 @@ pub(crate) enum Found {
     Nothing,
 }
 
+// What a row's verdict is worked out by: the weight of a location in a code, and the final locations.
+pub(crate) struct Finals {
+    pub(crate) weight: u32,
+    pub(crate) ends: u32,
+}
+
 // How far the rows are numbered: their count, how much of the pool they fill, and how many there is room for.
 // The number is 23 or 24 where the next did not fit, else 0.
 pub(crate) struct Progress {

@@ -5,19 +5,24 @@ ghost use Prim.Native.Nat.{_+_, _*_, _^_, _≤_, _<_};
 ghost use lib.ListN.{length};
 ghost use Rattle.numbers.specs.Lent.{laid};
 ghost use Rattle.model.specs.Construction.{numberOf, withRow};
-ghost use Rattle.model.specs.Tables.{rowWidth, rowStart, rowLength, codesSay};
+ghost use Rattle.model.specs.Basics.{oneIf};
+ghost use Rattle.model.specs.Tables.{rowWidth, rowStart, rowLength};
 ghost use Rattle.construct.specs.Marks.{codesIn, InSpan};
-ghost use Rattle.construct.specs.Rows.{rowsIn, isAt, foundIn, CodeSet, Within, Held, Numbered};
-ghost use Rattle.construct.specs.Rows.{MarksNumbered};
+ghost use Rattle.construct.specs.Rows.{rowsIn, isAt, foundIn, saysBy, CodeSet, Within, Held};
+ghost use Rattle.construct.specs.Rows.{Numbered, MarksNumbered};
+use crate::Finals;
 use crate::Found;
 use crate::Placed;
 use crate::Progress;
 use crate::Span;
 use crate::marks::gather;
 use model::ROW_LENGTH;
+use model::ROW_VERDICT;
 use model::ROW_WIDTH;
 use numbers::clear32;
+use numbers::has_bit;
 use numbers::narrow32;
+use numbers::quotient;
 use numbers::wide32;
 
 // Where the codes of a row start in the pool. A build spends most of its time in the search: its rows are known to lie
@@ -93,14 +98,35 @@ pub(crate) fn copy_codes(codes: &[u32], pool: &mut [u32], at: usize)
     }
 }
 
+// What codes say, 1 for yes: does one stand at a final location?
+pub(crate) fn row_says(codes: &[u32], finals: Finals) -> u32
+    ensures { λ r. ⌜ r ≡ oneIf (saysBy finals (now (codes .entry))) ⌝ }
+{
+    let mut i: usize = 0;
+    while i < codes.len() {
+        let location = quotient(wide32(codes[i]), wide32(finals.weight));
+        if has_bit(wide32(finals.ends), location) {
+            return 1;
+        }
+        i += 1;
+    }
+    0
+}
+
 // Gives `codes`, which no row equals, the next number: 23 where there is no room for it, else 24 where the pool is too
 // short.
-pub(crate) fn add_row(codes: &[u32], rows: &mut [u32], pool: &mut [u32], p: Progress) -> Placed
-    requires { ⌜ Held codesSay (now rows) (now pool) p ⌝ }
+pub(crate) fn add_row(
+    codes: &[u32],
+    finals: Finals,
+    rows: &mut [u32],
+    pool: &mut [u32],
+    p: Progress,
+) -> Placed
+    requires { ⌜ Held (saysBy finals) (now rows) (now pool) p ⌝ }
     requires { ⌜ CodeSet (now codes) ⌝ }
     requires { ⌜ numberOf (now codes) (rowsIn (p .rows) (now rows) (now pool)) ≡ p .rows ⌝ }
     ensures { λ r.
-        ⌜ Numbered codesSay (p .room)
+        ⌜ Numbered (saysBy finals) (p .room)
         (rowsIn (p .rows) (now (rows .entry)) (now (pool .entry)) ++ (now (codes .entry) ∷ [])) (p .rows)
         (now (rows .exit)) (now (pool .exit)) r ⌝ }
 {
@@ -131,6 +157,7 @@ pub(crate) fn add_row(codes: &[u32], rows: &mut [u32], pool: &mut [u32], p: Prog
     }
     rows[ROW_WIDTH * row] = narrow32(total);
     rows[ROW_WIDTH * row + ROW_LENGTH] = narrow32(codes.len());
+    rows[ROW_WIDTH * row + ROW_VERDICT] = row_says(codes, finals);
     copy_codes(codes, pool, total);
     Placed {
         row,
@@ -148,14 +175,15 @@ pub(crate) fn add_row(codes: &[u32], rows: &mut [u32], pool: &mut [u32], p: Prog
 pub(crate) fn place_row(
     codes: &[u32],
     guess: usize,
+    finals: Finals,
     rows: &mut [u32],
     pool: &mut [u32],
     p: Progress,
 ) -> Placed
-    requires { ⌜ Held codesSay (now rows) (now pool) p ⌝ }
+    requires { ⌜ Held (saysBy finals) (now rows) (now pool) p ⌝ }
     requires { ⌜ CodeSet (now codes) ⌝ }
     ensures { λ r.
-        ⌜ Numbered codesSay (p .room)
+        ⌜ Numbered (saysBy finals) (p .room)
         (withRow (now (codes .entry)) (rowsIn (p .rows) (now (rows .entry)) (now (pool .entry))))
         (numberOf (now (codes .entry)) (rowsIn (p .rows) (now (rows .entry)) (now (pool .entry))))
         (now (rows .exit)) (now (pool .exit)) r ⌝ }
@@ -168,7 +196,7 @@ pub(crate) fn place_row(
     }
     let found = find_row(rows, pool, p.rows, codes);
     let Found::At(row) = found else {
-        return add_row(codes, rows, pool, p);
+        return add_row(codes, finals, rows, pool, p);
     };
     Placed { row, progress: p }
 }
@@ -178,20 +206,21 @@ pub(crate) fn place_marks(
     marks: &mut [u32],
     span: Span,
     guess: usize,
+    finals: Finals,
     rows: &mut [u32],
     pool: &mut [u32],
     p: Progress,
 ) -> Placed
     requires { ⌜ InSpan (now marks) span ⌝ }
-    requires { ⌜ Held codesSay (now rows) (now pool) p ⌝ }
+    requires { ⌜ Held (saysBy finals) (now rows) (now pool) p ⌝ }
     ensures { λ r.
-        ⌜ MarksNumbered codesSay (p .room)
+        ⌜ MarksNumbered (saysBy finals) (p .room)
         (withRow (codesIn (now (marks .entry))) (rowsIn (p .rows) (now (rows .entry)) (now (pool .entry))))
         (numberOf (codesIn (now (marks .entry))) (rowsIn (p .rows) (now (rows .entry)) (now (pool .entry))))
         (now (marks .entry)) (now (marks .exit)) (now (rows .exit)) (now (pool .exit)) r ⌝ }
 {
     let count = gather(marks, span);
-    let placed = place_row(&marks[..count], guess, rows, pool, p);
+    let placed = place_row(&marks[..count], guess, finals, rows, pool, p);
     clear32(&mut marks[..count]);
     placed
 }

@@ -158,19 +158,18 @@ pub fn take_event(
     built: Built,
     cells: &[u32],
     rows: &[u32],
-    pool: &[u32],
     symbol: u16,
     stamp: Stamp,
 ) -> Followed
     ensures { λ r. ⌜ r ≡ followedBy (eventChecks built follower (event symbol stamp))
-        (tables built (now (cells .entry)) (now (rows .entry)) (now (pool .entry))) follower (event symbol stamp) ⌝ }
+        (tables built (now (cells .entry)) (now (rows .entry)) []) follower (event symbol stamp) ⌝ }
 {
     let checked = check_event(follower, built, symbol, stamp);
     if checked.number != 0 {
         return kept(checked, follower);
     }
     let next = moved(follower, built, cells, symbol, stamp);
-    let yes = verdict(built, rows, pool, next.row);
+    let yes = verdict(rows, next.row);
     Followed {
         number: 0,
         place: 0,
@@ -195,7 +194,7 @@ pub fn follow_event(
     if !in_shape(built, cells, rows, pool) {
         return out_of_shape(follower);
     }
-    take_event(follower, built, cells, rows, pool, symbol, stamp)
+    take_event(follower, built, cells, rows, symbol, stamp)
 }
 
 // The same on the head's own record, brought forward where it is kept.

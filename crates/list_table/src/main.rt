@@ -8,7 +8,7 @@ use numbers::wide32;
 use reader::read_rule;
 use tables::row_length;
 use tables::row_start;
-use walk::verdict;
+use tables::row_verdict;
 
 // Where the next byte of a line goes, after `used` others. A full buffer is written and begun anew, so that a line of
 // any length comes out whole.
@@ -79,12 +79,12 @@ fn print_refusal(line: &mut [u8], number: u8, place: usize) {
     print_line(line, at);
 }
 
-// A row: its number, its verdict, its codes.
-fn print_head(line: &mut [u8], built: Built, rows: &[u32], pool: &[u32], row: u32) {
+// A row: its number, the verdict that it stores, its codes.
+fn print_head(line: &mut [u8], rows: &[u32], pool: &[u32], row: u32) {
     let codes = part_of(pool, row_start(rows, row), row_length(rows, row));
     let mut at = put_number(line, 0, wide32(row));
     at = put(line, at, 32);
-    at = put_number(line, at, verdict(built, rows, pool, row) as usize);
+    at = put_number(line, at, wide32(row_verdict(rows, row)));
     at = put(line, at, 32);
     at = put_number(line, at, codes.len());
     at = put_after_blanks(line, at, codes);
@@ -134,7 +134,7 @@ fn print_table(line: &mut [u8], built: Built, cells: &[u32], rows: &[u32], pool:
     let mut at: usize = 0;
     let mut row: u32 = 0;
     while row < built.rows {
-        print_head(line, built, rows, pool, row);
+        print_head(line, rows, pool, row);
         at = print_cells(line, built, cells, at);
         row += 1;
     }

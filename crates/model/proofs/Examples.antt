@@ -12,7 +12,7 @@ use Rattle.model.specs.Files.{recordRefusal, withRecord, atEnd, readFrom
 use Rattle.model.specs.Files.{edgeRecords, fileWith, ruleBytes, ceilingBytes, lessPast, lessCeiling, kindsPast}
 use Rattle.model.specs.Files.{hasCeiling}
 use Rattle.model.specs.Construction.{codeOf, locationOf, basesOf, startRow, allows, rowResets, targetOf}
-use Rattle.model.specs.Construction.{nextRow, byIntervals, bySymbols, rowsFrom, rowsOf, cellOf}
+use Rattle.model.specs.Construction.{nextRow, byIntervals, bySymbols, rowsFrom, rowsOf, cellOf, holdsFinal}
 use Rattle.model.specs.Tables.{Tables, tables, tablesBy, tablesOf}
 use Rattle.model.specs.Walks.{verdict}
 
@@ -81,13 +81,13 @@ worked-tables =
     ++ ((2 ∷ 2 ∷ 2 ∷ 2 ∷ [])
     ++ ((2 ∷ 2 ∷ 2 ∷ 2 ∷ [])
     ++ (2 ∷ 2 ∷ 0 ∷ 0 ∷ []))))))
-    (0 ∷ 1 ∷ 1 ∷ 0 ∷ 1 ∷ 1 ∷ [])
+    (0 ∷ 1 ∷ 1 ∷ 1 ∷ 0 ∷ 0 ∷ 1 ∷ 1 ∷ 0 ∷ [])
     (0 ∷ 3 ∷ [])
 
-pub worked-table-is : tablesOf worked 24 6 2 ≡ worked-tables
+pub worked-table-is : tablesOf worked 24 9 2 ≡ worked-tables
 unfolding maskOf cm pairCount recordRefusal withRecord atEnd readFrom readRule
     codeOf locationOf basesOf startRow allows rowResets targetOf nextRow byIntervals bySymbols rowsFrom rowsOf cellOf
-    tablesBy tablesOf worked-file worked worked-tables
+    holdsFinal tablesBy tablesOf worked-file worked worked-tables
 worked-table-is = refl
 
 -- The second rule: two clocks, resets of either clock, several atoms, strict and weak relations, so that a swapped
@@ -131,13 +131,13 @@ second-tables =
     ++ ((2 ∷ 2 ∷ 7 ∷ 10 ∷ 10 ∷ 10 ∷ [])
     ++ ((2 ∷ 2 ∷ 2 ∷ 2 ∷ 2 ∷ 2 ∷ [])
     ++ (2 ∷ 2 ∷ 2 ∷ 10 ∷ 10 ∷ 10 ∷ []))))))))))))
-    (0 ∷ 2 ∷ 2 ∷ 0 ∷ 2 ∷ 1 ∷ 3 ∷ 1 ∷ 4 ∷ 2 ∷ 6 ∷ 1 ∷ [])
+    (0 ∷ 2 ∷ 0 ∷ 2 ∷ 0 ∷ 0 ∷ 2 ∷ 1 ∷ 0 ∷ 3 ∷ 1 ∷ 0 ∷ 4 ∷ 2 ∷ 1 ∷ 6 ∷ 1 ∷ 1 ∷ [])
     (0 ∷ 16 ∷ 4 ∷ 17 ∷ 0 ∷ 33 ∷ 33 ∷ [])
 
-pub second-table-is : tablesOf second 72 12 7 ≡ second-tables
+pub second-table-is : tablesOf second 72 18 7 ≡ second-tables
 unfolding maskOf cm pairCount recordRefusal withRecord atEnd readFrom readRule
     codeOf locationOf basesOf startRow allows rowResets targetOf nextRow byIntervals bySymbols rowsFrom rowsOf cellOf
-    tablesBy tablesOf second-locations second-records second-file second second-tables
+    holdsFinal tablesBy tablesOf second-locations second-records second-file second second-tables
 second-table-is = refl
 
 -- cm: the largest constant in any atom of any edge; 0 where there is none, and where 0 is the largest
@@ -152,7 +152,7 @@ unfolding cm pairCount recordRefusal withRecord atEnd readFrom readRule worked-f
     second-records second-file second ninth edge-to at-age-one
 tops-are = (refl, refl, refl, refl, refl, refl)
 
--- rows that hold a final location: 4 and 5
+-- rows that store a yes: 4 and 5
 pub second-verdicts :
     (verdict second-tables 0 ≡ false) × (verdict second-tables 1 ≡ false) × (verdict second-tables 2 ≡ false)
     × (verdict second-tables 3 ≡ false) × (verdict second-tables 4 ≡ true) × (verdict second-tables 5 ≡ true)

@@ -46,22 +46,22 @@ words-met = refl
 rooms : List Case
 rooms =
     case (tableRefusal worked 5 0 0 0) (refusal 22 0)
-    ∷ case (tableRefusal worked 6 24 6 2) fine
-    ∷ case (tableRefusal worked 6 23 6 2) (refusal 23 0)
-    ∷ case (tableRefusal worked 6 24 5 2) (refusal 23 0)
-    ∷ case (tableRefusal worked 6 24 6 1) (refusal 24 0)
-    ∷ case (tableRefusal worked 6 24 5 1) (refusal 23 0)
-    ∷ case (tableRefusal worked 6 24 5 0) (refusal 24 0)
-    ∷ case (tableRefusal worked 6 7 6 0) (refusal 23 0)
-    ∷ case (tableRefusal worked 6 8 2 0) (refusal 24 0)
+    ∷ case (tableRefusal worked 6 24 9 2) fine
+    ∷ case (tableRefusal worked 6 23 9 2) (refusal 23 0)
+    ∷ case (tableRefusal worked 6 24 8 2) (refusal 23 0)
+    ∷ case (tableRefusal worked 6 24 9 1) (refusal 24 0)
+    ∷ case (tableRefusal worked 6 24 8 1) (refusal 23 0)
+    ∷ case (tableRefusal worked 6 24 8 0) (refusal 24 0)
+    ∷ case (tableRefusal worked 6 7 9 0) (refusal 23 0)
+    ∷ case (tableRefusal worked 6 8 3 0) (refusal 24 0)
     ∷ case (tableRefusal worked 6 0 0 0) (refusal 23 0)
-    ∷ case (tableRefusal second 47 72 12 7) (refusal 22 0)
-    ∷ case (tableRefusal second 48 72 12 7) fine
-    ∷ case (tableRefusal second 48 71 12 7) (refusal 23 0)
-    ∷ case (tableRefusal second 48 72 11 7) (refusal 23 0)
-    ∷ case (tableRefusal second 48 72 12 6) (refusal 24 0)
-    ∷ case (tableRefusal second 48 71 12 6) (refusal 23 0)
-    ∷ case (tableRefusal second 48 71 12 5) (refusal 24 0)
+    ∷ case (tableRefusal second 47 72 18 7) (refusal 22 0)
+    ∷ case (tableRefusal second 48 72 18 7) fine
+    ∷ case (tableRefusal second 48 71 18 7) (refusal 23 0)
+    ∷ case (tableRefusal second 48 72 17 7) (refusal 23 0)
+    ∷ case (tableRefusal second 48 72 18 6) (refusal 24 0)
+    ∷ case (tableRefusal second 48 71 18 6) (refusal 23 0)
+    ∷ case (tableRefusal second 48 71 18 5) (refusal 24 0)
     ∷ []
 
 rooms-met : allMet rooms ≡ true
@@ -70,10 +70,10 @@ unfolding cm pairCount recordRefusal withRecord atEnd readFrom readRule codeOf l
     second-locations second-records second-file second allMet rooms
 rooms-met = refl
 
--- room for rows: 4,096, half the row table, or the cells over S · W, both rounded down; row 4,096 does not fit
+-- room for rows: 4,096, a third of the row table, or the cells over S · W, both rounded down; row 4,096 does not fit
 row-rooms : Type 0
 row-rooms =
-    (rowRoom worked 100000 100000 ≡ 4096) × (rowRoom worked 100000 8193 ≡ 4096) × (rowRoom worked 100000 8191 ≡ 4095)
+    (rowRoom worked 100000 100000 ≡ 4096) × (rowRoom worked 100000 12290 ≡ 4096) × (rowRoom worked 100000 12287 ≡ 4095)
     × (rowRoom worked 32775 100000 ≡ 4096)
     × (rowRoom worked 32767 100000 ≡ 4095)
     × (fitRefusal 4095 4096 0 0 ([] ∷ []) ≡ fine)

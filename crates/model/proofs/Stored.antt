@@ -46,7 +46,10 @@ module _ (t : Tables) where
       builtSizesOk b && longEnough t && rowsChain (b .rows) 0 (t .rows) (b .total)
       && allBelow (builtPairs b) (take (b .total) (t .pool))
       && cellsOk 0 (builtWidth b) (b .rows) (take (cellNeed b) (t .cells)) in
-      stored-at (b .rows) 0 n (and-right rest (verdictsOk (b .rows) 0 t) h) l
+      let e : 0 + n ≡ n = omega arith in
+      let s : rowVerdict (t .rows) (0 + n) ≡ oneIf (codesSay b (rowCodes t (0 + n))) =
+      stored-at (b .rows) 0 n (and-right rest (verdictsOk (b .rows) 0 t) h) l in
+      rw e at s
 
   pub stored-is-said :
       (n : ℕ) → inShape t ≡ true → n < t .built .rows → verdict t n ≡ codesSay (t .built) (rowCodes t n)

@@ -101,12 +101,10 @@ startOf (suc n) (x ∷ xs) = length x + startOf n xs
 module _ (says : List ℕ → Bool) where
   -- past the first row's
   past-first :
-      (p : ℕ) (x : List ℕ) (xs : List (List ℕ)) (n k : ℕ)
-      → getD (rowNumbers says p (x ∷ xs)) (rowWidth * suc n + k) 0
-      ≡ getD (rowNumbers says (p + length x) xs) (rowWidth * n + k) 0
-  past-first p x xs n k =
-      let e : rowWidth * suc n + k ≡ rowWidth + (rowWidth * n + k) = omega arith in
-      rw e (sym (getD-drop rowWidth (rowNumbers says p (x ∷ xs)) (rowWidth * n + k) 0))
+      (p : ℕ) (x : List ℕ) (xs : List (List ℕ)) (a k : ℕ)
+      → a ≡ rowWidth + k
+      → getD (rowNumbers says p (x ∷ xs)) a 0 ≡ getD (rowNumbers says (p + length x) xs) k 0
+  past-first p x xs a k e = rw e (sym (getD-drop rowWidth (rowNumbers says p (x ∷ xs)) k 0))
 
   pub start-number :
       (p : ℕ) (xs : List (List ℕ)) (n : ℕ)
@@ -115,7 +113,8 @@ module _ (says : List ℕ → Bool) where
   start-number p [] n h = absurd (omega arith)
   start-number p (x ∷ xs) zero h = omega arith
   start-number p (x ∷ xs) (suc n) h =
-      past-first p x xs n 0 ∙ (start-number (p + length x) xs n (omega arith) ∙ omega arith)
+      past-first p x xs (rowWidth * suc n) (rowWidth * n) (omega arith)
+      ∙ (start-number (p + length x) xs n (omega arith) ∙ omega arith)
 
   pub length-number :
       (p : ℕ) (xs : List (List ℕ)) (n : ℕ)
@@ -123,7 +122,9 @@ module _ (says : List ℕ → Bool) where
       → getD (rowNumbers says p xs) (rowWidth * n + 1) 0 ≡ length (rowAt xs n)
   length-number p [] n h = absurd (omega arith)
   length-number p (x ∷ xs) zero h = refl
-  length-number p (x ∷ xs) (suc n) h = past-first p x xs n 1 ∙ length-number (p + length x) xs n (omega arith)
+  length-number p (x ∷ xs) (suc n) h =
+      past-first p x xs (rowWidth * suc n + 1) (rowWidth * n + 1) (omega arith)
+      ∙ length-number (p + length x) xs n (omega arith)
 
   pub verdict-number :
       (p : ℕ) (xs : List (List ℕ)) (n : ℕ)
@@ -131,7 +132,9 @@ module _ (says : List ℕ → Bool) where
       → getD (rowNumbers says p xs) (rowWidth * n + 2) 0 ≡ oneIf (says (rowAt xs n))
   verdict-number p [] n h = absurd (omega arith)
   verdict-number p (x ∷ xs) zero h = refl
-  verdict-number p (x ∷ xs) (suc n) h = past-first p x xs n 2 ∙ verdict-number (p + length x) xs n (omega arith)
+  verdict-number p (x ∷ xs) (suc n) h =
+      past-first p x xs (rowWidth * suc n + 2) (rowWidth * n + 2) (omega arith)
+      ∙ verdict-number (p + length x) xs n (omega arith)
 
   pub row-numbers-length : (p : ℕ) (xs : List (List ℕ)) → length (rowNumbers says p xs) ≡ rowWidth * length xs
   row-numbers-length p [] = refl

@@ -11,7 +11,7 @@ use Rattle.model.specs.Basics.{zeros, maskOf, bitsFrom, Refusal, refusal
 use Rattle.model.specs.Rules.{cm, pairCount}
 use Rattle.model.specs.Layout.{ruleIn, ruleRefusal}
 use Rattle.model.specs.Construction.{codeOf, locationOf, basesOf, startRow, allows, rowResets, targetOf}
-use Rattle.model.specs.Construction.{nextRow, byIntervals, bySymbols, rowsFrom, rowsOf, cellOf}
+use Rattle.model.specs.Construction.{nextRow, byIntervals, bySymbols, rowsFrom, rowsOf, cellOf, holdsFinal}
 use Rattle.model.specs.Tables.{builtOf, tablesBy, tablesOf, rowRoom, fitRefusal, tableRefusal}
 use Rattle.model.specs.Promises.{buildRefusal, buildingOf, tablesMade, leaves, BuildsTable}
 use Rattle.model.proofs.Examples.{worked-tables}
@@ -54,10 +54,10 @@ leaves-all left head unused scratch cells rows pool number =
 -- 20, 21, 22, in this order and before 23: all untouched, the built record zero
 builds-untouched : Type 0
 builds-untouched =
-    leaves-all 5 zero-head 7365 6 24 6 2 20 × leaves-all 5 worked-head 7365 6 24 6 2 20
-    × leaves-all 5 zero-head 7366 0 24 6 2 21
-    × leaves-all 5 worked-head 7366 5 24 6 2 22
-    × leaves-all 5 worked-head 7366 5 23 6 2 22
+    leaves-all 5 zero-head 7365 6 24 9 2 20 × leaves-all 5 worked-head 7365 6 24 9 2 20
+    × leaves-all 5 zero-head 7366 0 24 9 2 21
+    × leaves-all 5 worked-head 7366 5 24 9 2 22
+    × leaves-all 5 worked-head 7366 5 23 9 2 22
 
 builds-untouched-are : builds-untouched
 unfolding maskOf bitsFrom cm pairCount ruleIn codeOf locationOf basesOf startRow allows rowResets targetOf nextRow
@@ -73,8 +73,8 @@ builds-untouched-are = (
 -- 23 by cells and by rows, 24: all zero, the scratch and the built record too
 builds-zeroed : Type 0
 builds-zeroed =
-    leaves-all 0 worked-head 7366 6 23 6 2 23 × leaves-all 0 worked-head 7366 9 24 5 2 23
-    × leaves-all 0 worked-head 7366 6 24 6 1 24
+    leaves-all 0 worked-head 7366 6 23 9 2 23 × leaves-all 0 worked-head 7366 9 24 8 2 23
+    × leaves-all 0 worked-head 7366 6 24 9 1 24
 
 builds-zeroed-are : builds-zeroed
 unfolding maskOf bitsFrom cm pairCount ruleIn codeOf locationOf basesOf startRow allows rowResets targetOf nextRow
@@ -89,12 +89,12 @@ builds-zeroed-are = (
 builds-filled :
     BuildsTable worked-head (worked-edges 7366) (replicate 7 5) (replicate 7 0) (replicate 25 5)
     (worked-tables .cells ++ (0 ∷ []))
-    (replicate 8 5)
+    (replicate 11 5)
     (worked-tables .rows ++ (0 ∷ 0 ∷ []))
     (replicate 3 5)
     (worked-tables .pool ++ (0 ∷ []))
     (building 0 (worked-tables .built))
 unfolding maskOf bitsFrom cm pairCount ruleIn codeOf locationOf basesOf startRow allows rowResets targetOf nextRow
-    byIntervals bySymbols rowsFrom rowsOf cellOf rowRoom fitRefusal builtOf tablesBy tablesOf tableRefusal
+    byIntervals bySymbols rowsFrom rowsOf cellOf holdsFinal rowRoom fitRefusal builtOf tablesBy tablesOf tableRefusal
     worked-tables building
 builds-filled = built-as fine worked-passes refl refl refl refl refl refl

@@ -12,7 +12,7 @@ use Rattle.model.specs.Runs.{acceptsFrom, acceptsFromSome, accepts}
 use Rattle.model.specs.Files.{recordRefusal, withRecord, atEnd, readFrom, readRule}
 use Rattle.model.specs.Layout.{edgesNumbers, edgeTable}
 use Rattle.model.specs.Construction.{codeOf, locationOf, basesOf, startRow, allows, rowResets, targetOf}
-use Rattle.model.specs.Construction.{nextRow, byIntervals, bySymbols, rowsFrom, rowsOf, cellOf}
+use Rattle.model.specs.Construction.{nextRow, byIntervals, bySymbols, rowsFrom, rowsOf, cellOf, holdsFinal}
 use Rattle.model.specs.Tables.{tablesBy, tablesOf, rowRoom, fitRefusal, tableRefusal}
 use Rattle.model.specs.Promises.{readRefusal, roomedRefusal, decideRefusal, Decides}
 use Rattle.model.proofs.Examples.{worked-file, worked-tables}
@@ -37,11 +37,11 @@ decides-all left file edges edges′ scratch cells rows pool d answer-is =
 -- the reader refuses: the builder's tables are untouched; 22 leaves them untouched, 23 and 24 zero; before the word
 refused : Type 0
 refused =
-    decides-all 5 (0 ∷ []) (replicate 7423 5) (replicate 7423 5) 0 24 6 2 0 (answer 20 0 0)
-    × decides-all 5 (worked-file ++ (0 ∷ [])) (replicate 7424 5) (replicate 7424 0) 0 24 6 2 0 (answer 1 58 0)
-    × decides-all 5 worked-file (replicate 7424 5) (worked-edges 7366) 5 24 6 2 0 (answer 22 0 0)
-    × decides-all 0 worked-file (replicate 7424 5) (worked-edges 7366) 6 23 6 2 0 (answer 23 0 0)
-    × decides-all 0 worked-file (replicate 7424 5) (worked-edges 7366) 6 24 6 1 0 (answer 24 0 0)
+    decides-all 5 (0 ∷ []) (replicate 7423 5) (replicate 7423 5) 0 24 9 2 0 (answer 20 0 0)
+    × decides-all 5 (worked-file ++ (0 ∷ [])) (replicate 7424 5) (replicate 7424 0) 0 24 9 2 0 (answer 1 58 0)
+    × decides-all 5 worked-file (replicate 7424 5) (worked-edges 7366) 5 24 9 2 0 (answer 22 0 0)
+    × decides-all 0 worked-file (replicate 7424 5) (worked-edges 7366) 6 23 9 2 0 (answer 23 0 0)
+    × decides-all 0 worked-file (replicate 7424 5) (worked-edges 7366) 6 24 9 1 0 (answer 24 0 0)
 
 refused-are : refused
 unfolding maskOf cm pairCount recordRefusal withRecord atEnd readFrom readRule edgesNumbers edgeTable codeOf locationOf
@@ -95,7 +95,7 @@ decides-built : ℕ → List ℕ → List ℕ → Answer → Type 0
 decides-built d symbols stamps answer-is =
     Decides worked-file (replicate 7424 5) (worked-edges 7366) (replicate 6 5) (replicate 6 0) (replicate 24 5)
     (worked-tables .cells)
-    (replicate 6 5)
+    (replicate 9 5)
     (worked-tables .rows)
     (replicate 3 5)
     (worked-tables .pool ++ (0 ∷ []))
@@ -114,8 +114,8 @@ built =
 built-are : built
 unfolding maskOf cm pairCount recordRefusal withRecord atEnd readFrom readRule edgesNumbers edgeTable wordRefusal
     acceptsFrom acceptsFromSome accepts codeOf locationOf basesOf startRow allows rowResets targetOf nextRow byIntervals
-    bySymbols rowsFrom rowsOf cellOf tablesBy tablesOf rowRoom fitRefusal tableRefusal readRefusal roomedRefusal
-    decideRefusal worked-file worked-tables answer decides-built built
+    bySymbols rowsFrom rowsOf cellOf holdsFinal tablesBy tablesOf rowRoom fitRefusal tableRefusal readRefusal
+    roomedRefusal decideRefusal worked-file worked-tables answer decides-built built
 built-are = (
   record {
     answer-is = refl;

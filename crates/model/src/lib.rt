@@ -65,10 +65,12 @@ pub const EDGE_WIDTH: usize = 29;
 
 pub const EDGE_NEED: usize = 7424;
 
-// A row of the table: start and length in the pool.
+// A row of the table: start and length in the pool, and the stored verdict.
 pub const ROW_LENGTH: usize = 1;
 
-pub const ROW_WIDTH: usize = 2;
+pub const ROW_VERDICT: usize = 2;
+
+pub const ROW_WIDTH: usize = 3;
 
 // A time since the start of the word, in D-ths of a second.
 #[repr(C)]

@@ -63,7 +63,7 @@ fn follow_all(
         }
         i += 1;
     }
-    verdict(built, rows, pool, follower.row)
+    verdict(rows, follower.row)
 }
 
 // A word's verdict by each runner.

@@ -1,14 +1,13 @@
 // The check of a built record and its tables: every condition of 25, over tables that may hold any numbers.
-// And what the codes of a row say: whether one stands at a final location.
 ghost use mathlib.Core.Path.{_≡_};
 ghost use Prim.Native.Nat.{ℕ, _≤_};
 ghost use Rattle.model.specs.Basics.{within, allBelow};
 ghost use Rattle.model.specs.Construction.{intervalCount, mostRows};
 ghost use Rattle.model.specs.Tables.{tables};
-ghost use Rattle.model.specs.Walks.{locationWeight, builtPairs, cellNeed, cellsOk, inShape, anyFinal};
+ghost use Rattle.model.specs.Walks.{locationWeight, builtPairs, cellNeed, cellsOk, inShape};
 ghost use Rattle.model.specs.Promises.{ChecksTable};
 ghost use Rattle.shape.specs.Ranges.{InRange, sizesInRange, countsOk, longOk, rowsOk, resetsOk};
-ghost use Rattle.shape.specs.Weights.{DividesAs};
+use crate::verdicts::verdicts_ok;
 use edges::power;
 use edges::sizes_ok;
 use model::Answer;
@@ -17,43 +16,11 @@ use model::MOST_CONSTANT;
 use model::MOST_PAIRS;
 use model::MOST_ROWS;
 use model::ROW_WIDTH;
-use numbers::has_bit;
 use numbers::wide32;
 use tables::row_length;
 use tables::row_start;
 
-// (cm + 2) ^ K, or, where that has more than 32 bits, a lower power that has more too: no code reaches either.
-pub(crate) fn location_weight(built: Built) -> usize
-    ensures { λ r. ⌜ DividesAs (locationWeight built) r ⌝ }
-{
-    let base = wide32(built.top) + 2;
-    let clocks = wide32(built.clocks);
-    let mut weight: usize = 1;
-    let mut k: usize = 0;
-    while k < clocks {
-        if 4294967295 < weight {
-            return weight;
-        }
-        weight = weight * base;
-        k += 1;
-    }
-    weight
-}
-
-// Does some code stand at a final location?
-pub fn any_final(built: Built, codes: &[u32]) -> bool
-    ensures { λ r. ⌜ r ≡ anyFinal built (now (codes .entry)) ⌝ }
-{
-    let weight = location_weight(built);
-    let mut i: usize = 0;
-    while i < codes.len() {
-        if has_bit(wide32(built.ends), wide32(codes[i]) / weight) {
-            return true;
-        }
-        i += 1;
-    }
-    false
-}
+mod verdicts;
 
 pub(crate) fn within(least: u32, most: u32, x: u32) -> bool
     ensures { λ r. ⌜ r ≡ within least most x ⌝ }
@@ -61,12 +28,21 @@ pub(crate) fn within(least: u32, most: u32, x: u32) -> bool
     least <= x && x <= most
 }
 
-// N, the number of pairs of a location and bases.
-pub(crate) fn pair_count(built: Built) -> u32
+// (cm + 2) ^ K, the weight of a location in a code.
+pub(crate) fn location_weight(built: Built) -> usize
     requires { ⌜ InRange built ⌝ }
+    ensures { λ r. ⌜ r ≡ locationWeight built ⌝ }
+{
+    power(wide32(built.top) + 2, wide32(built.clocks))
+}
+
+// N, the number of pairs of a location and bases.
+pub(crate) fn pair_count(built: Built, weight: usize) -> u32
+    requires { ⌜ InRange built ⌝ }
+    requires { ⌜ weight ≡ locationWeight built ⌝ }
     ensures { λ r. ⌜ r ≡ builtPairs built ⌝ }
 {
-    let pairs = wide32(built.locations) * power(wide32(built.top) + 2, wide32(built.clocks));
+    let pairs = wide32(built.locations) * weight;
     pairs as u32
 }
 
@@ -170,7 +146,8 @@ pub fn in_shape(built: Built, cells: &[u32], rows: &[u32], pool: &[u32]) -> bool
     if !in_range(built) {
         return false;
     }
-    let pairs = pair_count(built);
+    let weight = location_weight(built);
+    let pairs = pair_count(built, weight);
     if !counts_ok(pairs, built.rows) {
         return false;
     }
@@ -185,7 +162,10 @@ pub fn in_shape(built: Built, cells: &[u32], rows: &[u32], pool: &[u32]) -> bool
         return false;
     }
     let need = cell_need(built);
-    cells_ok(built.rows, &cells[..need])
+    if !cells_ok(built.rows, &cells[..need]) {
+        return false;
+    }
+    verdicts_ok(built, weight, rows, pool)
 }
 
 // 25, the built record or its tables out of shape.

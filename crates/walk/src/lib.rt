@@ -1,13 +1,13 @@
 // The walk of the one timer over a table: its step, a row's verdict, and the table runner.
 // The step and the verdict are total: a place past a table's end holds 0, as in the definitions.
 ghost use mathlib.Core.Path.{_≡_};
-ghost use mathlib.Core.List.{[]};
 ghost use Prim.Native.Nat.{_≤_};
+ghost use lib.Dec.{eqb};
 ghost use lib.ListN.{length, getD};
 ghost use Rattle.model.specs.Words.{eventsOf};
 ghost use Rattle.model.specs.Construction.{topInterval};
-ghost use Rattle.model.specs.Tables.{tables};
-ghost use Rattle.model.specs.Walks.{verdict, cellPlace};
+ghost use Rattle.model.specs.Tables.{rowVerdict};
+ghost use Rattle.model.specs.Walks.{cellPlace};
 ghost use Rattle.model.specs.Promises.{RunsTable};
 ghost use Rattle.walk.specs.Steps.{Steps, rowAfter};
 use interval::Interval;
@@ -16,13 +16,10 @@ use model::Built;
 use model::MOST_EVENTS;
 use model::Stamp;
 use numbers::entry_at;
-use numbers::part_of;
 use numbers::wide16;
 use numbers::wide32;
-use shape::any_final;
 use shape::check_table;
-use tables::row_length;
-use tables::row_start;
+use tables::row_verdict;
 use word::check_word;
 
 // Where a walk stands: its row, and the stamp of the last timer reset.
@@ -61,14 +58,11 @@ impl Walk {
     }
 }
 
-// A row's verdict: yes if it holds a final location.
-pub fn verdict(built: Built, rows: &[u32], pool: &[u32], row: u32) -> bool
-    ensures { λ r. ⌜ r ≡ verdict (tables built [] (now (rows .entry)) (now (pool .entry))) row ⌝ }
+// A row's verdict is the one that it stores.
+pub fn verdict(rows: &[u32], row: u32) -> bool
+    ensures { λ r. ⌜ r ≡ eqb (rowVerdict (now (rows .entry)) row) 1 ⌝ }
 {
-    let start = row_start(rows, row);
-    let count = row_length(rows, row);
-    let codes = part_of(pool, start, count);
-    any_final(built, codes)
+    row_verdict(rows, row) == 1
 }
 
 // The row after all events.
@@ -117,7 +111,7 @@ pub fn run_table(
         return word;
     }
     let row = walk_all(built, cells, grain, symbols, stamps);
-    if verdict(built, rows, pool, row) {
+    if verdict(rows, row) {
         return Answer {
             number: 0,
             place: 0,
