@@ -153,9 +153,10 @@ sizes-met = refl
 
 -- R: 4,096 rows are in shape, 4,097 are not. Rows without codes say no, and a table of zeros stores it.
 no-verdicts :
-    (n i : ℕ) (t : Tables) → ((k : ℕ) → getD (t .rows) k 0 ≡ 0) → verdictsOk n i t ≡ true
-no-verdicts zero i t h = refl
-no-verdicts (suc n) i t h = rw (h (rowWidth * i + 2), h (rowWidth * i + 1)) (no-verdicts n (suc i) t h)
+    (n i : ℕ) (b : Built) (rows pool : List ℕ) → ((k : ℕ) → getD rows k 0 ≡ 0) → verdictsOk n i b rows pool ≡ true
+no-verdicts zero i b rows pool h = refl
+no-verdicts (suc n) i b rows pool h =
+    rw (h (rowWidth * i + 2), h (rowWidth * i + 1)) (no-verdicts n (suc i) b rows pool h)
 
 zero-at : (n k : ℕ) → getD (zeros n) k 0 ≡ 0
 zero-at zero k = refl
@@ -175,9 +176,9 @@ rows-in-shape =
     (builtSizesOk (many 4096) && longEnough most-rows && rowsChain 4096 0 (zeros 12288) 0
     && allBelow (builtPairs (many 4096)) []
     && cellsOk 0 2 4096 (take 8192 (zeros 8192)))
-    (verdictsOk 4096 0 most-rows)
+    (verdictsOk 4096 0 (many 4096) (zeros 12288) [])
     refl
-    (no-verdicts 4096 0 most-rows (zero-at 12288))
+    (no-verdicts 4096 0 (many 4096) (zeros 12288) [] (zero-at 12288))
 
 rows-over : (t : Tables) → t .built ≡ many 4097 → inShape t ≡ false
 unfolding inShape many

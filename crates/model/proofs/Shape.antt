@@ -90,13 +90,13 @@ rows-chain says p total (x ∷ xs) rest h =
 -- what is stored is what the codes say
 verdicts-ok :
     (r : Rule) (rows : List (List ℕ)) (c n p : ℕ) → Valid r → (k i : ℕ) → i + k ≤ length rows
-    → verdictsOk k i (tablesBy r rows c n p) ≡ true
+    → verdictsOk k i (builtBy r rows) (tablesBy r rows c n p .rows) (tablesBy r rows c n p .pool) ≡ true
 unfolding tablesBy
 verdicts-ok r rows c n p v zero i h = refl
 verdicts-ok r rows c n p v (suc k) i h =
     let t : Tables = tablesBy r rows c n p in
     let said : ℕ = oneIf (codesSay (builtBy r rows) (rowCodes t i)) in
-    and-both (eqb (rowVerdict (t .rows) i) said) (verdictsOk k (suc i) t)
+    and-both (eqb (rowVerdict (t .rows) i) said) (verdictsOk k (suc i) (builtBy r rows) (t .rows) (t .pool))
     (eq-eqb (rowVerdict (t .rows) i) said
     (stored-by-place r rows c n p i (omega arith)
     ∙ ap oneIf (sym (said-by-place r rows c n p i (final-asc r v) (omega arith)))))
@@ -215,7 +215,8 @@ shape-by r rows c n p v some few closed below =
     take-at (cellNumbers r rows rows) (zeros (c - length (cellNumbers r rows rows))) (cellNeed b)
     (cell-numbers-length r rows rows) in
     let z : 0 * width r ≡ 0 = omega arith in
-    let stored : Bool = verdictsOk (length rows) 0 (tablesBy r rows c n p) in
+    let t : Tables = tablesBy r rows c n p in
+    let stored : Bool = verdictsOk (length rows) 0 b (t .rows) (t .pool) in
     and-both (sizes && long && chain && codes && cells) stored
     (and-both (sizes && long && chain && codes) cells
     (and-both (sizes && long && chain) codes

@@ -21,7 +21,7 @@ module _ (t : Tables) where
   said n = oneIf (codesSay (t .built) (rowCodes t n))
 
   pub stored-at :
-      (n i k : ℕ) → verdictsOk n i t ≡ true → k < n
+      (n i k : ℕ) → verdictsOk n i (t .built) (t .rows) (t .pool) ≡ true → k < n
       → rowVerdict (t .rows) (i + k) ≡ oneIf (codesSay (t .built) (rowCodes t (i + k)))
   unfolding said
   stored-at zero i k h l = absurd (omega arith)
@@ -29,11 +29,11 @@ module _ (t : Tables) where
       let e : i + 0 ≡ i = omega arith in
       rw e
       (eqb-true (rowVerdict (t .rows) i) (said i)
-      (and-left (eqb (rowVerdict (t .rows) i) (said i)) (verdictsOk n (suc i) t) h))
+      (and-left (eqb (rowVerdict (t .rows) i) (said i)) (verdictsOk n (suc i) (t .built) (t .rows) (t .pool)) h))
   stored-at (suc n) i (suc k) h l =
       let e : i + suc k ≡ suc i + k = omega arith in
       rw e
-      (stored-at n (suc i) k (and-right (eqb (rowVerdict (t .rows) i) (said i)) (verdictsOk n (suc i) t) h)
+      (stored-at n (suc i) k (and-right (eqb (rowVerdict (t .rows) i) (said i)) (verdictsOk n (suc i) (t .built) (t .rows) (t .pool)) h)
       (omega arith))
 
   pub stored-said :
@@ -48,7 +48,7 @@ module _ (t : Tables) where
       && cellsOk 0 (builtWidth b) (b .rows) (take (cellNeed b) (t .cells)) in
       let e : 0 + n ≡ n = omega arith in
       let s : rowVerdict (t .rows) (0 + n) ≡ oneIf (codesSay b (rowCodes t (0 + n))) =
-      stored-at (b .rows) 0 n (and-right rest (verdictsOk (b .rows) 0 t) h) l in
+      stored-at (b .rows) 0 n (and-right rest (verdictsOk (b .rows) 0 b (t .rows) (t .pool)) h) l in
       rw e at s
 
   pub stored-is-said :

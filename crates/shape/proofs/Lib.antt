@@ -1,4 +1,5 @@
 pub mod Sizes
 pub mod Loops
-pub mod Finals
+pub mod Reciprocal
+pub mod Saying
 pub mod Shape

@@ -1,5 +1,5 @@
 -- The parts of a table's shape in the order in which they are checked, and what each settles for the next.
-use mathlib.Core.Path.{_≡_, refl, sym}
+use mathlib.Core.Path.{_≡_, refl, sym, _∙_}
 use mathlib.Core.Bool.{Bool, true, false, _&&_}
 use mathlib.Core.List.{List}
 use Prim.Native.Nat.{ℕ, _*_, _≤_}
@@ -13,10 +13,11 @@ use Rattle.model.specs.Rules.{mostPairs}
 use Rattle.model.specs.Construction.{mostRows}
 use Rattle.model.specs.Tables.{Tables, tables, rowWidth}
 use Rattle.model.specs.Walks.{builtPairs, builtSizesOk, builtWidth, cellNeed, longEnough}
-use Rattle.model.specs.Walks.{rowsChain, cellsOk, inShape, shapeRefusal}
+use Rattle.model.specs.Walks.{rowsChain, cellsOk, verdictsOk, inShape, shapeRefusal}
 use Rattle.model.specs.Promises.{answerOf}
 use Rattle.model.proofs.Logic.{no-way, and-left, and-right, within-most}
 use Rattle.shape.specs.Ranges.{sizesInRange, InRange, countsOk, longOk, rowsOk}
+use Rattle.shape.specs.Verdicts.{Settled}
 use Rattle.shape.proofs.Sizes.{in-range}
 
 -- 25 or no refusal
@@ -141,10 +142,30 @@ module _ {b : Built} {cs ns ps : List ℕ} where
     cells-part =
         sym (length-take-le k cs (rw (d .need-is) (long-of b cs ps (d .linked .sized .long) .cells-long)))
 
-    pub all-but-cells : cellsOk 0 (builtWidth b) (b .rows) (take k cs) ≡ inShape (tables b cs ns ps)
+    codes-are : allBelow (builtPairs b) (take (b .total) ps) ≡ true
+    codes-are = rw (d .linked .pairs-are, d .linked .sized .total-is) at (d .codes)
+
+    -- cells and stored verdicts are what is left
+    last-two :
+        inShape (tables b cs ns ps)
+        ≡ (cellsOk 0 (builtWidth b) (b .rows) (take k cs) && verdictsOk (b .rows) 0 b ns ps)
     unfolding inShape
-    all-but-cells =
+    last-two =
         let l = d .linked in
-        let codes : allBelow (builtPairs b) (take (b .total) ps) ≡ true =
-        rw (l .pairs-are, l .sized .total-is) at (d .codes) in
-        rw (l .sized .sizes, rows-are (l .sized), l .rows, codes, d .need-is)
+        rw (l .sized .sizes, rows-are (l .sized), l .rows, codes-are, d .need-is)
+
+    pub cell-out : cellsOk 0 (builtWidth b) (b .rows) (take k cs) ≡ false → false ≡ inShape (tables b cs ns ps)
+    cell-out h = sym (last-two ∙ rw h)
+
+    pub settled : Settled b ns ps
+    settled = record {
+      sizes = d .linked .sized .sizes;
+      chain = rw (d .linked .sized .total-is) at (d .linked .rows);
+      pool-long = long-of b cs ps (d .linked .sized .long) .pool-long;
+      codes = codes-are;
+    }
+
+    pub all-but-verdicts :
+        cellsOk 0 (builtWidth b) (b .rows) (take k cs) ≡ true
+        → verdictsOk (b .rows) 0 b ns ps ≡ inShape (tables b cs ns ps)
+    all-but-verdicts h = sym (last-two ∙ rw h)

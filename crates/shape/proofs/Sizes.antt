@@ -38,18 +38,18 @@ module _ (b : Built) (i : InRange b) where
       le-trans (pow-le-pow-left base (b .clocks))
       (pow-le-pow-right {n = mostConstant + 2} (omega arith) {i = b .clocks} {j = mostClocks} (omega arith))
 
-  module _
-      (l t k p : ℕ) (el : l ≡ b .locations) (et : t ≡ b .top) (ek : k ≡ b .clocks) (ep : p ≡ smallPower (t + 2) k) where
-    weight-is : p ≡ locationWeight b
-    weight-is =
-        ep ∙ rw (et, ek, lt-ltb (b .top + 2) mostPairs (omega arith), le-leb (b .clocks) mostClocks (omega arith))
+  pub weight-is :
+      (t k p : ℕ) → t ≡ b .top → k ≡ b .clocks → p ≡ smallPower (t + 2) k → p ≡ locationWeight b
+  weight-is t k p et ek ep =
+      ep ∙ rw (et, ek, lt-ltb (b .top + 2) mostPairs (omega arith), le-leb (b .clocks) mostClocks (omega arith))
 
+  module _ (l p : ℕ) (el : l ≡ b .locations) (ep : p ≡ locationWeight b) where
     pub pairs-are : l * p ≡ builtPairs b
-    pairs-are = ap₂ _*_ el weight-is
+    pairs-are = ap₂ _*_ el ep
 
     pub pairs-fit : l * p < 2 ^ 32
     pairs-fit =
-        let m : p ≤ (mostConstant + 2) ^ mostClocks = rw weight-is weight-most in
+        let m : p ≤ (mostConstant + 2) ^ mostClocks = rw ep weight-most in
         let n : l ≤ mostLocations = rw el (i .locations-most) in
         omega (arith, mul-le-mul n m)
 

@@ -9,14 +9,18 @@ use Rattle.model.specs.Basics.{bit, allBelow}
 use Rattle.model.specs.Walks.{builtPairs, builtSizesOk}
 use Rattle.shape.specs.Ranges.{rowsOk}
 
--- the number that stands for 1 over a weight
+-- what stands for 1 where a code's location is found by multiplication
+abbrev pub whole : ℕ
+whole = 2 ^ 48
+
+-- and for 1 over a weight
 abbrev pub reciprocal : ℕ → ℕ
-reciprocal weight = 2 ^ 48 / weight + 1
+reciprocal weight = whole / weight + 1
 
 -- some code stands at a final location, its location by the reciprocal m
 abbrev pub finalBy : ℕ → ℕ → List ℕ → Bool
 finalBy m ends [] = false
-finalBy m ends (x ∷ xs) = bit (x * m / 2 ^ 48) ends || finalBy m ends xs
+finalBy m ends (x ∷ xs) = bit (x * m / whole) ends || finalBy m ends xs
 
 -- no code times m leaves 64 bits
 abbrev pub ProductsFit : ℕ → List ℕ → Type 0

@@ -1,9 +1,7 @@
 // Stored verdicts: the number that a row stores is what its codes say.
 ghost use mathlib.Core.Path.{_≡_};
-ghost use mathlib.Core.List.{[]};
 ghost use Prim.Native.Nat.{_≤_};
 ghost use Rattle.model.specs.Basics.{oneIf};
-ghost use Rattle.model.specs.Tables.{tables};
 ghost use Rattle.model.specs.Walks.{locationWeight, verdictsOk};
 ghost use Rattle.shape.specs.Verdicts.{reciprocal, finalBy, ProductsFit, Settled};
 use model::Built;
@@ -13,13 +11,16 @@ use tables::row_length;
 use tables::row_start;
 use tables::row_verdict;
 
-// 2^48 over a weight, and 1: a code times this, over 2^48, is the code over the weight. 25 is asked at every event, and
-// a division for each code would take most of its time.
+// What stands for 1 where a code's location is found by multiplication: 2^48.
+const WHOLE: usize = 281474976710656;
+
+// A code times this, over 2^48, is the code over the weight. 25 is asked at every event, and a division for each code
+// would take most of its time.
 pub(crate) fn reciprocal_of(weight: usize) -> usize
     requires { ⌜ 1 ≤ weight ⌝ }
     ensures { λ r. ⌜ r ≡ reciprocal weight ⌝ }
 {
-    281474976710656 / weight + 1
+    WHOLE / weight + 1
 }
 
 // Does some code stand at a final location? 1 for yes, 0 for no. All are looked at, whatever is found.
@@ -31,7 +32,7 @@ pub(crate) fn row_says(codes: &[u32], reciprocal: usize, ends: u32) -> u32
     let mut says: u32 = 0;
     let mut i: usize = 0;
     while i < codes.len() {
-        if has_bit(set, wide32(codes[i]) * reciprocal / 281474976710656) {
+        if has_bit(set, wide32(codes[i]) * reciprocal / WHOLE) {
             says = 1;
         }
         i += 1;
@@ -43,7 +44,7 @@ pub(crate) fn row_says(codes: &[u32], reciprocal: usize, ends: u32) -> u32
 pub(crate) fn verdicts_ok(built: Built, weight: usize, rows: &[u32], pool: &[u32]) -> bool
     requires { ⌜ Settled built (now rows) (now pool) ⌝ }
     requires { ⌜ weight ≡ locationWeight built ⌝ }
-    ensures { λ r. ⌜ r ≡ verdictsOk (built .rows) 0 (tables built [] (now (rows .entry)) (now (pool .entry))) ⌝ }
+    ensures { λ r. ⌜ r ≡ verdictsOk (built .rows) 0 built (now (rows .entry)) (now (pool .entry)) ⌝ }
 {
     let reciprocal = reciprocal_of(weight);
     let mut i: u32 = 0;

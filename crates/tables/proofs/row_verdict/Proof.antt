@@ -1,9 +1,9 @@
--- `tables::row_length` meets its contract.
+-- `tables::row_verdict` meets its contract.
 use mathlib.Core.Path.{_∙_, ap}
 use borrow.Author.Needs.{needs}
-use Rattle.model.specs.Tables.{rowLength}
-use Rattle.tables.proofs.row_length.Statement.{statement}
-use Rattle.tables.proofs.row_length.Tie as tie
+use Rattle.model.specs.Tables.{rowVerdict}
+use Rattle.tables.proofs.row_verdict.Statement.{statement}
+use Rattle.tables.proofs.row_verdict.Tie as tie
 
 wide32-requires : tie.Need-wide32-requires
 wide32-requires c κs = search needs
@@ -17,24 +17,17 @@ add-entry-at c = search needs
 entry-at-requires : tie.Need-entry-at-requires
 entry-at-requires c κs = search needs
 
-wide32-requires-2 : tie.Need-wide32-requires-2
-wide32-requires-2 c κs = search needs
-
 returns : tie.Need-returns
 returns c =
-    let rows = c .before .before .before .before .args .rows .now in (
-      c .wide322 .ensures .0
-          ∙ (c .before .entry-at .ensures ∙ ap (rowLength rows) (c .before .before .wide32 .ensures .0)),
-      c .wide322 .ensures .1,
-    )
+    let rows = c .before .before .before .args .rows .now in
+    c .entry-at .ensures ∙ ap (rowVerdict rows) (c .before .wide32 .ensures .0)
 
-pub row-length-spec : {M : Type 1} → statement M
-row-length-spec =
+pub row-verdict-spec : {M : Type 1} → statement M
+row-verdict-spec =
     tie.close
     (tie.spec
     wide32-requires
     mul-entry-at
     add-entry-at
     entry-at-requires
-    wide32-requires-2
     returns)
