@@ -165,13 +165,31 @@ module _ {b : Built} {rows pool : List ℕ} (s : Settled b rows pool) where
       (omega
       (arith, code, pairs-most, getD-take (b .total) pool (start + k) 0 (omega (arith, inside))))
 
-  -- what is found in a row's part of the pool is what its codes say
-  pub row-said :
-      {m w : ℕ} (i : ℕ) → i < b .rows → m ≡ reciprocal w → w ≡ locationWeight b
-      → finalBy m (b .ends) (codesAt rows pool i) ≡ codesSay b (codesAt rows pool i)
-  row-said i h em ew =
-      rw (em, ew)
-      (final-by (locationWeight b) weight-some weight-most (b .ends) (codesAt rows pool i) (row-under i h))
+  -- a row in the pool, by its two numbers as read; `m` is the reciprocal of the weight `w`
+  module _
+      {i start n : ℕ} (h : i < b .rows) (start-is : start ≡ rowStart rows i) (length-is : n ≡ rowLength rows i)
+    where
+      pub part-fits : start + n ≤ length pool
+      part-fits = omega (arith, row-in-pool i h, s .pool-long)
+
+      part-is : take (start + n - start) (drop start pool) ≡ codesAt rows pool i
+      part-is = let e : start + n - start ≡ n = omega arith in rw (e, start-is, length-is)
+
+      module _ {m w : ℕ} (reciprocal-is : m ≡ reciprocal w) (weight-is : w ≡ locationWeight b) where
+        pub part-products : ProductsFit m (take (start + n - start) (drop start pool))
+        part-products =
+            rw (part-is, reciprocal-is, weight-is)
+            (products-fit (locationWeight b) weight-some weight-most (codesAt rows pool i) (row-under i h))
+
+        -- what is found in it is what the row's codes say
+        pub part-said :
+            {r : ℕ} → r ≡ oneIf (finalBy m (b .ends) (take (start + n - start) (drop start pool)))
+            → r ≡ oneIf (codesSay b (codesAt rows pool i))
+        part-said e =
+            let codes = codesAt rows pool i in
+            let said : finalBy (reciprocal (locationWeight b)) (b .ends) codes ≡ codesSay b codes =
+            final-by (locationWeight b) weight-some weight-most (b .ends) codes (row-under i h) in
+            e ∙ rw (part-is, reciprocal-is, weight-is, said)
 
 -- Rows: what holds of those to come is what holds of all.
 pub record Checked (b : Built) (rows pool : List ℕ) (i : ℕ) : Type 0 where

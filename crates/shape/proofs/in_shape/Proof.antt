@@ -7,14 +7,18 @@ use Rattle.model.proofs.Flags.{is-false, is-true}
 use Rattle.shape.specs.Ranges.{sizesInRange}
 use Rattle.shape.proofs.Sizes.{in-range}
 use Rattle.shape.proofs.Shape.{Sized, Linked, Coded, sizes-hold, ranges, rows-most, sizes-out, counts-out}
-use Rattle.shape.proofs.Shape.{too-short, pool-part, rows-out, code-out, cells-part, all-but-cells}
+use Rattle.shape.proofs.Shape.{too-short, pool-part, rows-out, code-out, cells-part, cell-out}
+use Rattle.shape.proofs.Shape.{settled, all-but-verdicts}
 use Rattle.shape.proofs.in_shape.Statement.{statement}
 use Rattle.shape.proofs.in_shape.Tie as tie
 
--- where the ranges are in order, what was lent; where the counts are, N as counted; where P is read, the lengths;
+-- where the ranges are in order, what was lent; the weight that N is counted by; where the counts are, N as counted; where P is read, the lengths;
 -- where the codes are looked at, P
 abbrev lent : tie.Else1 → tie.Start
 lent c = c .before .before .before .before .before
+
+abbrev weighed : tie.After-pair-count → tie.After-location-weight
+weighed c = c .before
 
 abbrev counted : tie.Else2 → tie.After-pair-count
 counted c = c .before .before
@@ -29,15 +33,15 @@ chained c = c .before .before
 ranged-at : (c : tie.Else1) → sizesInRange (lent c .args .built) ≡ true
 ranged-at c = is-true (c .before .in-range .ensures) (c .if1 .left)
 
-sized-at : (c : tie.Else2) → builtSizesOk (lent (counted c .before) .args .built) ≡ true
+sized-at : (c : tie.Else2) → builtSizesOk (lent (weighed (counted c) .before) .args .built) ≡ true
 sized-at c =
-    let b = lent (counted c .before) .args .built in
+    let b = lent (weighed (counted c) .before) .args .built in
     let counts = is-true (c .before .counts-ok .ensures) (c .if2 .left) in
-    sizes-hold b _ (ranged-at (counted c .before)) (counted c .pair-count .ensures) counts
+    sizes-hold b _ (ranged-at (weighed (counted c) .before)) (counted c .pair-count .ensures) counts
 
 measured-at :
     (c : tie.After-wide32)
-    → let a = lent (counted (measured c) .before) .args in
+    → let a = lent (weighed (counted (measured c)) .before) .args in
     Sized (a .built) (a .cells .now) (a .rows .now) (a .pool .now) (c .wide32 .result)
 measured-at c = record {
   sizes = sized-at (measured c);
@@ -48,7 +52,7 @@ measured-at c = record {
 linked-at :
     (c : tie.Else4)
     → let pairs = counted (measured (chained c)) in
-    let a = lent (pairs .before) .args in
+    let a = lent (weighed pairs .before) .args in
     Linked (a .built) (a .cells .now) (a .rows .now) (a .pool .now) (chained c .wide32 .result)
     (pairs .pair-count .result)
 linked-at c = record {
@@ -61,7 +65,7 @@ coded-at :
     (c : tie.After-cell-need)
     → let k = chained (c .before .before .before .before) in
     let pairs = counted (measured k) in
-    let a = lent (pairs .before) .args in
+    let a = lent (weighed pairs .before) .args in
     Coded (a .built) (a .cells .now) (a .rows .now) (a .pool .now) (k .wide32 .result) (pairs .pair-count .result)
     (c .cell-need .result)
 coded-at c = record {
@@ -76,8 +80,11 @@ in-range-requires c κs = search needs
 returns : tie.Need-returns
 returns c = sizes-out _ (is-false (c .before .in-range .ensures) (c .if1 .taken))
 
+location-weight-requires : tie.Need-location-weight-requires
+location-weight-requires c κs = in-range _ (ranged-at c)
+
 pair-count-requires : tie.Need-pair-count-requires
-pair-count-requires c κs = in-range _ (ranged-at c)
+pair-count-requires c κs = (in-range _ (ranged-at (c .before)), c .location-weight .ensures)
 
 counts-ok-requires : tie.Need-counts-ok-requires
 counts-ok-requires c κs = search needs
@@ -85,7 +92,7 @@ counts-ok-requires c κs = search needs
 returns-2 : tie.Need-returns-2
 returns-2 c =
     let pairs = c .before .before in
-    counts-out _ _ (ranged-at (pairs .before)) (pairs .pair-count .ensures)
+    counts-out _ _ (ranged-at (weighed pairs .before)) (pairs .pair-count .ensures)
     (is-false (c .before .counts-ok .ensures) (c .if2 .taken))
 
 long-enough-requires : tie.Need-long-enough-requires
@@ -123,7 +130,18 @@ cells-ok-requires : tie.Need-cells-ok-requires
 cells-ok-requires c κs = rows-most (coded-at (c .before))
 
 returns-6 : tie.Need-returns-6
-returns-6 c = c .cells-ok .ensures _ ∙ all-but-cells (coded-at (c .before .before))
+returns-6 c = cell-out (coded-at (c .before .before .before)) (is-false (c .before .cells-ok .ensures _) (c .if6 .taken))
+
+verdicts-ok-requires : tie.Need-verdicts-ok-requires
+verdicts-ok-requires c κs =
+    let pairs = counted (measured (chained (c .before .before .before .before .before .before .before))) in
+    (settled (coded-at (c .before .before .before)), weighed pairs .location-weight .ensures)
+
+returns-7 : tie.Need-returns-7
+returns-7 c =
+    c .verdicts-ok .ensures
+    ∙ all-but-verdicts (coded-at (c .before .before .before .before))
+    (is-true (c .before .before .cells-ok .ensures _) (c .before .if6 .left))
 
 pub in-shape-spec : {M : Type 1} → statement M
 in-shape-spec =
@@ -131,6 +149,7 @@ in-shape-spec =
     (tie.spec
     in-range-requires
     returns
+    location-weight-requires
     pair-count-requires
     counts-ok-requires
     returns-2
@@ -145,4 +164,6 @@ in-shape-spec =
     cell-need-requires
     slice-aggregate-cells-ok
     cells-ok-requires
-    returns-6)
+    returns-6
+    verdicts-ok-requires
+    returns-7)
