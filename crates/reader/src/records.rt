@@ -98,7 +98,7 @@ impl Cursor {
             → EdgeIs r self size (now (body .entry)) (now (edges .entry)) (now (edges .exit)) x)
             ⌝ }
     {
-        let mut head = self.head;
+        let head = self.head;
         let first = EDGE_WIDTH * wide32(head.count);
         let past = first + EDGE_WIDTH;
         store_edge(size, body, &mut edges[first..past]);
@@ -106,14 +106,19 @@ impl Cursor {
         if fault != 0 {
             return Step::Refused(fault);
         }
-        let count = head.count + 1;
-        head.count = count;
         Step::Next(Cursor {
             at: self.at + RECORD_HEAD + size,
             last: 5,
             start: self.start,
             end: self.end,
-            head,
+            head: Head {
+                locations: head.locations,
+                symbols: head.symbols,
+                clocks: head.clocks,
+                starts: head.starts,
+                ends: head.ends,
+                count: head.count + 1,
+            },
         })
     }
 

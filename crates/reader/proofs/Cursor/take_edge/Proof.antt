@@ -60,14 +60,14 @@ returns c =
     λ r h. edge-refused (start .pre) _ (count .wide32 .ensures .0) _ (stored .store-edge .ensures) r _
     (fault .edge-fault .ensures r (h .head-is)) (c .if1 .taken)
 
-add-count : tie.Need-add-count
-add-count c = search needs
+add-t9 : tie.Need-add-t9
+add-t9 c = search needs
 
-add-t10 : tie.Need-add-t10
-add-t10 c = search needs
+add-t12 : tie.Need-add-t12
+add-t12 c = search needs
 
-add-t13 : tie.Need-add-t13
-add-t13 c = search needs
+add-t19 : tie.Need-add-t19
+add-t19 c = search needs
 
 same-length-2 : tie.Need-same-length-2
 same-length-2 c = search needs
@@ -100,8 +100,8 @@ take-edge-spec =
     edge-fault-requires
     same-length
     returns
-    add-count
-    add-t10
-    add-t13
+    add-t9
+    add-t12
+    add-t19
     same-length-2
     returns-2)
