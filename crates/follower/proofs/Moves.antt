@@ -5,6 +5,7 @@ use mathlib.Core.List.{List, []}
 use Prim.Native.Nat.{ℕ, _+_}
 use native.Mathlib.Omega.{arith}
 use native.Mathlib.Numerals.{add-one}
+use lib.Dec.{eqb}
 use borrow.Author.Tests.{ne-eqb}
 use Rattle.model.specs.declared.Answer.{Answer}
 use Rattle.model.specs.declared.Stamp.{Stamp}
@@ -12,7 +13,7 @@ use Rattle.model.specs.declared.Built.{Built}
 use Rattle.model.specs.declared.Follower.{Follower}
 use Rattle.model.specs.Basics.{Refusal, fine}
 use Rattle.model.specs.Words.{Event, grainOk}
-use Rattle.model.specs.Tables.{Tables, tables}
+use Rattle.model.specs.Tables.{Tables, tables, rowVerdict}
 use Rattle.model.specs.Walks.{inShape, shapeRefusal, startAt, step, verdict, followRefusal}
 use Rattle.model.specs.Promises.{answerOf, event, startedBy, followedBy, followed}
 use Rattle.model.proofs.Refusals.{on-pass, on-refused}
@@ -20,7 +21,7 @@ use Rattle.model.proofs.Answers.{number-is}
 use Rattle.shape.proofs.Shape.{shape-passes, shape-refused}
 use Rattle.walk.specs.declared.Walk.{Walk}
 use Rattle.walk.specs.Steps.{Steps}
-use Rattle.walk.proofs.Runs.{step-any, verdict-any}
+use Rattle.walk.proofs.Runs.{step-any, verdict-is}
 use Rattle.follower.specs.Checks.{eventChecks, answered, keptBy}
 use Rattle.follower.proofs.Checks.{checks-settled}
 
@@ -59,11 +60,11 @@ module _ (b : Built) (cs ns ps : List ℕ) (f : Follower) (v : Event) where
 
   pub goes-on :
       {next : Follower} {said : Bool} → checks .number ≡ 0 → next ≡ step (tables b cs [] []) f v
-      → said ≡ verdict (tables b [] ns ps) (next .row)
+      → said ≡ eqb (rowVerdict ns (next .row)) 1
       → record { number = 0; place = 0; yes = said; follower = next } ≡ followedBy checks table f v
   goes-on {next} {said} passed n y =
       brings checks table f v next said (checks-settled b f v passed) (n ∙ step-any b cs ns ps f v)
-      (y ∙ verdict-any b cs ns ps (next .row))
+      (y ∙ verdict-is b cs ns ps (next .row))
 
   pub shape-leaves : inShape table ≡ false → keptBy (answered 25 0) f ≡ followed f table v
   unfolding followed followRefusal

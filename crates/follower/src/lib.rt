@@ -1,7 +1,7 @@
 // The follower: one timer over a table, brought forward event by event, its row's verdict after each.
 ghost use mathlib.Core.Path.{_≡_};
-ghost use mathlib.Core.List.{[]};
-ghost use Prim.Native.Nat.{_≤_, _<_};
+ghost use mathlib.Core.List.{List, []};
+ghost use Prim.Native.Nat.{ℕ, _≤_, _<_};
 ghost use Rattle.model.specs.Words.{mostEvents};
 ghost use Rattle.model.specs.Tables.{tables};
 ghost use Rattle.model.specs.Walks.{startAt, step, strayed};
@@ -152,7 +152,7 @@ pub fn out_of_shape(follower: Follower) -> Followed
     kept(answered(25, 0), follower)
 }
 
-// The event's own checks, then the step; the verdict is that of the new row.
+// The event's own checks, then the step; the verdict is the one that the new row stores, whatever the pool holds.
 pub fn take_event(
     follower: Follower,
     built: Built,
@@ -161,8 +161,8 @@ pub fn take_event(
     symbol: u16,
     stamp: Stamp,
 ) -> Followed
-    ensures { λ r. ⌜ r ≡ followedBy (eventChecks built follower (event symbol stamp))
-        (tables built (now (cells .entry)) (now (rows .entry)) []) follower (event symbol stamp) ⌝ }
+    ensures { λ r. ⌜ ((pool : List ℕ) → r ≡ followedBy (eventChecks built follower (event symbol stamp))
+        (tables built (now (cells .entry)) (now (rows .entry)) pool) follower (event symbol stamp)) ⌝ }
 {
     let checked = check_event(follower, built, symbol, stamp);
     if checked.number != 0 {

@@ -177,7 +177,7 @@ pub extern "C" fn alderskein_follow_event(
     if !shape::in_shape(built, cells, rows, pool) {
         return follower::out_of_shape(follower);
     }
-    follower::take_event(follower, built, cells, rows, pool, symbol, stamp)
+    follower::take_event(follower, built, cells, rows, symbol, stamp)
 }
 
 // The head's own record, brought forward where it is kept.

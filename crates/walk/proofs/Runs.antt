@@ -3,21 +3,21 @@ use mathlib.Core.Path.{_≡_, refl, _∙_, ap}
 use mathlib.Core.Bool.{Bool}
 use mathlib.Core.List.{List, [], _∷_}
 use Prim.Native.Nat.{ℕ}
-use lib.ListN.{take, drop}
+use lib.Dec.{eqb}
 use Rattle.model.specs.declared.Answer.{Answer}
 use Rattle.model.specs.declared.Built.{Built}
 use Rattle.model.specs.declared.Follower.{Follower}
 use Rattle.model.specs.Basics.{oneIf, Refusal, _⨾_}
 use Rattle.model.specs.Words.{Event, eventsOf, mostEvents, wordRefusal}
-use Rattle.model.specs.Tables.{tables, rowStart, rowLength}
-use Rattle.model.specs.Walks.{shapeRefusal, startAt, step, stepAll, anyFinal, verdict, tableAccepts}
+use Rattle.model.specs.Tables.{tables, rowVerdict}
+use Rattle.model.specs.Walks.{shapeRefusal, startAt, step, stepAll, verdict, tableAccepts}
 use Rattle.model.specs.Promises.{answerOf, runRefusal}
 use Rattle.model.proofs.Refusals.{both-fine}
 use Rattle.model.proofs.Answers.{first-refuses, second-refuses, answers}
 use Rattle.model.proofs.Events.{word-settled}
 use Rattle.walk.specs.Steps.{rowAfter}
 
--- the steps do not look at the rows, nor a verdict at the cells
+-- the steps do not look at the rows, and a verdict looks at nothing else
 pub step-any :
     (b : Built) (cs ns ps : List ℕ) (f : Follower) (v : Event)
     → step (tables b cs [] []) f v ≡ step (tables b cs ns ps) f v
@@ -33,20 +33,10 @@ steps-any b cs ns ps f (v ∷ vs) =
     steps-any b cs ns ps (step (tables b cs [] []) f v) vs
     ∙ ap (λ (g : Follower). stepAll (tables b cs ns ps) g vs) (step-any b cs ns ps f v)
 
-pub verdict-any :
-    (b : Built) (cs ns ps : List ℕ) (n : ℕ) → verdict (tables b [] ns ps) n ≡ verdict (tables b cs ns ps) n
-unfolding verdict
-verdict-any b cs ns ps n = refl
-
--- the verdict of a row from its start and its length as read
 pub verdict-is :
-    (b : Built) (ns ps : List ℕ) (n : ℕ) {start count : ℕ} {codes : List ℕ} {said : Bool} → start ≡ rowStart ns n
-    → count ≡ rowLength ns n
-    → codes ≡ take count (drop start ps)
-    → said ≡ anyFinal b codes
-    → said ≡ verdict (tables b [] ns ps) n
+    (b : Built) (cs ns ps : List ℕ) (n : ℕ) → eqb (rowVerdict ns n) 1 ≡ verdict (tables b cs ns ps) n
 unfolding verdict
-verdict-is b ns ps n s l c e = e ∙ rw (c, s, l)
+verdict-is b cs ns ps n = refl
 
 module _ (b : Built) (cs ns ps : List ℕ) (d : ℕ) (xs ts : List ℕ) where
   abbrev word : Refusal
@@ -69,13 +59,13 @@ module _ (b : Built) (cs ns ps : List ℕ) (d : ℕ) (xs ts : List ℕ) where
 
     pub walked :
         (spelt : word .number ≡ 0) (row : ℕ) (said : Bool) → row ≡ rowAfter b cs d (eventsOf xs ts)
-        → said ≡ verdict (tables b [] ns ps) row
+        → said ≡ eqb (rowVerdict ns row) 1
         → Answers (record { number = 0; place = 0; value = oneIf said })
     unfolding runRefusal tableAccepts
     walked spelt row said r y =
         let t = tables b cs ns ps in
         let all = ap (λ (f : Follower). f .row) (steps-any b cs ns ps (startAt d) (eventsOf xs ts)) in
         let is : said ≡ tableAccepts t d (eventsOf xs ts) =
-        y ∙ (verdict-any b cs ns ps row ∙ ap (verdict t) (r ∙ all)) in
+        y ∙ (verdict-is b cs ns ps row ∙ ap (verdict t) (r ∙ all)) in
         let passed = word-settled (b .symbols) d mostEvents xs ts spelt in
         rw is (answers (shapeRefusal t ⨾ word) value (both-fine (shapeRefusal t) word shaped passed))

@@ -11,7 +11,7 @@ use Rattle.follower.proofs.take_event.Tie as tie
 
 -- where the event was checked: what was lent
 abbrev lent : tie.After-check-event → tie.Start
-lent c = c .before .before .before .before
+lent c = c .before .before .before
 
 -- the event passes its checks
 passed :
@@ -27,11 +27,11 @@ kept-requires : tie.Need-kept-requires
 kept-requires c κs = search needs
 
 returns : tie.Need-returns
-returns c =
+returns c pool =
     let k = c .before .before .before in
     let a = lent k .args in
     c .kept .ensures
-    ∙ checks-leave (a .built) (a .cells .now) (a .rows .now) (a .pool .now) (a .follower)
+    ∙ checks-leave (a .built) (a .cells .now) (a .rows .now) pool (a .follower)
     (event (a .symbol) (a .stamp))
     (k .check-event .ensures)
     (c .before .if1 .taken)
@@ -45,7 +45,8 @@ verdict-requires : tie.Need-verdict-requires
 verdict-requires c κs = search needs
 
 returns-2 : tie.Need-returns-2
-returns-2 c = goes-on _ _ _ _ _ _ (passed (c .before .before)) (c .before .moved .ensures) (c .verdict .ensures)
+returns-2 c pool =
+    goes-on _ _ _ pool _ _ (passed (c .before .before)) (c .before .moved .ensures) (c .verdict .ensures)
 
 pub take-event-spec : {M : Type 1} → statement M
 take-event-spec =
