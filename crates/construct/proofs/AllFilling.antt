@@ -1,6 +1,7 @@
 -- All rows, as they are found: the cells of the rows so far stand from place 0 on, and discovery from here gives the
 -- rows of the rule.
 use mathlib.Core.Path.{_≡_, refl, sym, _∙_, ap, subst}
+use mathlib.Core.Bool.{Bool}
 use mathlib.Core.List.{List, [], _∷_, _++_, append-nil}
 use Prim.Native.Nat.{ℕ, suc, _+_, _-_, _*_, _≤_, _<_}
 use native.Mathlib.Omega.{arith}
@@ -29,7 +30,7 @@ use Rattle.construct.proofs.SymbolFilling.{extends-more, unfit-extends}
 
 -- the rows of the rule, whatever rows and fuel are left
 pub record FillingAll
-    (says : List ℕ → List ℕ) (r : Rule) (fuel : ℕ) (all-are : List (List ℕ)) (room : ℕ) (marks₀ cells₀ : List ℕ) (n : ℕ)
+    (says : List ℕ → Bool) (r : Rule) (fuel : ℕ) (all-are : List (List ℕ)) (room : ℕ) (marks₀ cells₀ : List ℕ) (n : ℕ)
     (marks cells rows pool : List ℕ) (p : Progress) : Type 0 where
   pub turns : n ≤ p .rows
   pub marks-zero : marks ≡ zeros (length marks₀)
@@ -44,7 +45,7 @@ pub record FillingAll
       (cellNumbers r (rowsIn (p .rows) rows pool ++ more) (take n (rowsIn (p .rows) rows pool)))
 
 module _
-    {says : List ℕ → List ℕ} {r : Rule} {fuel : ℕ} {all-are : List (List ℕ)} {room : ℕ} {marks₀ cells₀ : List ℕ} {n : ℕ}
+    {says : List ℕ → Bool} {r : Rule} {fuel : ℕ} {all-are : List (List ℕ)} {room : ℕ} {marks₀ cells₀ : List ℕ} {n : ℕ}
     {marks cells rows pool : List ℕ} {p : Progress} (enough : mostRows < fuel)
     (inv : FillingAll says r fuel all-are room marks₀ cells₀ n marks cells rows pool p) where
   marks-long : length marks ≡ length marks₀
@@ -194,7 +195,7 @@ module _
 
 -- from the start row on
 all-begins :
-    {says : List ℕ → List ℕ} (r : Rule) (fuel : ℕ) (z : Scale) (marks cells rows pool : List ℕ) (p : Progress)
+    {says : List ℕ → Bool} (r : Rule) (fuel : ℕ) (z : Scale) (marks cells rows pool : List ℕ) (p : Progress)
     → CanFillAll says r z marks cells rows pool p
     → FillingAll says r fuel (rowsFrom fuel 0 r (startRow r ∷ [])) (p .room) marks cells 0 marks cells rows pool p
 all-begins r fuel z marks cells rows pool p can =
@@ -211,7 +212,7 @@ all-begins r fuel z marks cells rows pool p can =
     }
 
 pub all-start :
-    {says : List ℕ → List ℕ} (r : Rule) (z : Scale) (marks cells rows pool : List ℕ) (p : Progress)
+    {says : List ℕ → Bool} (r : Rule) (z : Scale) (marks cells rows pool : List ℕ) (p : Progress)
     → CanFillAll says r z marks cells rows pool p
     → FillingAll says r (suc mostRows) (rowsOf r) (p .room) marks cells 0 marks cells rows pool p
 unfolding rowsOf

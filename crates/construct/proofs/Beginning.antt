@@ -1,5 +1,6 @@
 -- Before all rows are filled: the tables cleared, the room for rows, the start row refused at once or given number 0.
 use mathlib.Core.Path.{_≡_, sym, _∙_, ap, ap₂, subst}
+use mathlib.Core.Bool.{Bool}
 use mathlib.Core.List.{List, [], _∷_}
 use Prim.Native.Nat.{ℕ, zero, suc, _+_, _*_, _/_, _≤_}
 use native.Mathlib.Omega.{arith}
@@ -59,7 +60,7 @@ unfolding rowsOf
 rows-begin r = grows-extends (rows-grow (suc mostRows) 0 r (startRow r ∷ []))
 
 module _
-    {says : List ℕ → List ℕ} (r : Rule) {starts weight room : ℕ} {marks marks₁ rows₁ pool₁ : List ℕ} {p : Progress}
+    {says : List ℕ → Bool} (r : Rule) {starts weight room : ℕ} {marks marks₁ rows₁ pool₁ : List ℕ} {p : Progress}
     (is-start : startCodesBy weight (locationsIn starts) ≡ startRow r)
     (placed : StartPlaced says starts weight room marks marks₁ rows₁ pool₁ p) where
   grown-start : Grown says room (startRow r ∷ []) rows₁ pool₁ p

@@ -40,7 +40,7 @@ module _
       rw (e, is-start, is-length) (sym (row-held (p .rows) row rows pool below))
 
 pub cell-made :
-    {says : List ℕ → List ℕ} (r : Rule) (row : ℕ) (at : Input) (rs : List (List ℕ)) {room : ℕ}
+    {says : List ℕ → Bool} (r : Rule) (row : ℕ) (at : Input) (rs : List (List ℕ)) {room : ℕ}
     {x marks marks₁ marks′ rows′ pool′ : List ℕ}
     (marked : Marked) (placed : Placed) (cell : ℕ)
     → x ≡ rowAt rs row

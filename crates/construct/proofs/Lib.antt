@@ -18,5 +18,6 @@ pub mod RowFilling
 pub mod AllFilling
 -- The whole build
 pub mod StartLaws
+pub mod RowVerdicts
 pub mod Beginning
 pub mod Outcome

@@ -10,9 +10,9 @@ use lib.ListN.{length, set, length-append, length-set}
 use borrow.Author.Tests.{ltb-true}
 use Rattle.numbers.specs.Lent.{laid}
 use Rattle.numbers.proofs.Laid.{laid-filled}
-use Rattle.model.specs.Basics.{same, filled, refusal}
+use Rattle.model.specs.Basics.{oneIf, same, filled, refusal}
 use Rattle.model.specs.Construction.{rowAt, numberOf, withRow}
-use Rattle.model.specs.Tables.{rowWidth, rowNumbers, codesSay, poolNumbers, fitRefusal}
+use Rattle.model.specs.Tables.{rowWidth, rowNumbers, poolNumbers, fitRefusal}
 use Rattle.model.proofs.Logic.{and-left, and-right, same-equal, in-append}
 use Rattle.model.proofs.Masks.{Asc}
 use Rattle.model.proofs.Discovery.{Each}
@@ -26,7 +26,7 @@ use Rattle.construct.specs.declared.Progress.{Progress}
 use Rattle.construct.specs.declared.Placed.{Placed}
 use Rattle.construct.specs.Rows.{rowsIn, isAt, foundIn, CodeSet, Held, Unfit, Numbered}
 use Rattle.construct.proofs.RowSearch.{rows-length, found-at, found-nothing}
-use Rattle.construct.proofs.RowTables.{filled-length, filled-set, rows-append, pool-append}
+use Rattle.construct.proofs.RowTables.{filled-length, filled-three, rows-append, pool-append}
 use Rattle.construct.proofs.RowTables.{rows-again}
 
 -- what holds of every row, and of one more
@@ -50,7 +50,7 @@ fit-through n room used pool (x ∷ rs) more h g =
     fit-on n room used pool x (rs ++ more) (omega arith) (omega arith)
     ∙ (fit-through (suc n) room (used + length x) pool rs more (omega arith) (omega arith) ∙ rw (a, b))
 
-module _ {says : List ℕ → List ℕ} {rows pool : List ℕ} {p : Progress} (held : Held says rows pool p) where
+module _ {says : List ℕ → Bool} {rows pool : List ℕ} {p : Progress} (held : Held says rows pool p) where
   count-is : length (rowsIn (p .rows) rows pool) ≡ p .rows
   count-is = rows-length (p .rows) 0 rows pool
 
@@ -94,38 +94,33 @@ module _ {says : List ℕ → List ℕ} {rows pool : List ℕ} {p : Progress} (h
         (λ more. fit-24 (p .rows) (p .room) (p .total) (length pool) x more h (omega (arith, held .in-pool)));
   }
 
--- The tables after one row more, whose codes say how many they are.
+-- The tables after one row more: its start, its length and what its codes say.
 module _
-    {rows pool : List ℕ} {p : Progress} (held : Held codesSay rows pool p) (x rows′ pool′ : List ℕ) (a b : ℕ)
+    {says : List ℕ → Bool} {rows pool : List ℕ} {p : Progress} (held : Held says rows pool p) (x rows′ pool′ : List ℕ)
+    (a b c : ℕ)
     (has-room : p .rows < p .room)
     (in-pool : p .total + length x ≤ length pool)
     (codes : CodeSet x)
     (new : numberOf x (rowsIn (p .rows) rows pool) ≡ p .rows)
-    (is-a : a ≡ p .total) (is-b : b ≡ length x)
-    (rows-now : rows′ ≡ set (set rows (rowWidth * p .rows) a) (rowWidth * p .rows + 1) b)
+    (is-a : a ≡ p .total) (is-b : b ≡ length x) (is-c : c ≡ oneIf (says x))
+    (rows-now :
+    rows′ ≡ set (set (set rows (rowWidth * p .rows) a) (rowWidth * p .rows + 1) b) (rowWidth * p .rows + 2) c)
     (pool-now : pool′ ≡ laid pool (p .total) x) where
-  numbers-long : length (rowNumbers codesSay 0 (rowsIn (p .rows) rows pool)) ≡ rowWidth * p .rows
-  numbers-long = row-numbers-length 0 (rowsIn (p .rows) rows pool) ∙ rw (count-is held)
+  numbers-long : length (rowNumbers says 0 (rowsIn (p .rows) rows pool)) ≡ rowWidth * p .rows
+  numbers-long = row-numbers-length says 0 (rowsIn (p .rows) rows pool) ∙ rw (count-is held)
 
-  new-rows : rows′ ≡ filled (length rows) (rowNumbers codesSay 0 (rowsIn (p .rows) rows pool ++ (x ∷ [])))
+  new-rows : rows′ ≡ filled (length rows) (rowNumbers says 0 (rowsIn (p .rows) rows pool ++ (x ∷ [])))
   new-rows =
       let rs : List (List ℕ) = rowsIn (p .rows) rows pool in
-      let ns : List ℕ = rowNumbers codesSay 0 rs in
-      let fits : rowWidth * p .rows + rowWidth ≤ length rows = omega (arith, held .room-fits) in
-      let one : set rows (rowWidth * p .rows) a ≡ filled (length rows) (ns ++ (a ∷ [])) =
-      ap₂ (λ (l : List ℕ) (k : ℕ). set l k a) (held .rows-are) (sym numbers-long)
-      ∙ filled-set (length rows) ns a (omega (arith, numbers-long)) in
-      let longer : length (ns ++ (a ∷ [])) ≡ rowWidth * p .rows + 1 =
-      length-append ns (a ∷ []) ∙ ap (λ (k : ℕ). k + 1) numbers-long in
-      let two : List ℕ = (ns ++ (a ∷ [])) ++ (b ∷ []) in
-      let both : set (set rows (rowWidth * p .rows) a) (rowWidth * p .rows + 1) b ≡ filled (length rows) two =
-      ap₂ (λ (l : List ℕ) (k : ℕ). set l k b) one (sym longer)
-      ∙ filled-set (length rows) (ns ++ (a ∷ [])) b (omega (arith, longer)) in
-      let same-numbers : (ns ++ (a ∷ [])) ++ (b ∷ []) ≡ rowNumbers codesSay 0 (rs ++ (x ∷ [])) =
-      append-assoc ns (a ∷ []) (b ∷ [])
-      ∙ (ap₂ (λ (u v : ℕ). ns ++ (u ∷ v ∷ [])) (is-a ∙ (held .total-is ∙ omega arith)) is-b
-      ∙ sym (rows-append codesSay 0 rs x)) in
-      rows-now ∙ (both ∙ ap (filled (length rows)) same-numbers)
+      let ns : List ℕ = rowNumbers says 0 rs in
+      let k : ℕ = rowWidth * p .rows in
+      let from : a ≡ 0 + length (poolNumbers rs) = omega (arith, is-a, held .total-is) in
+      let same-numbers : ns ++ (a ∷ b ∷ c ∷ []) ≡ rowNumbers says 0 (rs ++ (x ∷ [])) =
+      rw (from, is-b, is-c) (sym (rows-append says 0 rs x)) in
+      rows-now
+      ∙ (ap (λ (l : List ℕ). set (set (set l k a) (k + 1) b) (k + 2) c) (held .rows-are)
+      ∙ (filled-three (length rows) ns k a b c numbers-long (omega (arith, held .room-fits))
+      ∙ ap (filled (length rows)) same-numbers))
 
   new-pool : pool′ ≡ filled (length pool) (poolNumbers (rowsIn (p .rows) rows pool ++ (x ∷ [])))
   new-pool =
@@ -154,7 +149,7 @@ module _
 
   rows-then : rowsIn (p .rows + 1) rows′ pool′ ≡ rowsIn (p .rows) rows pool ++ (x ∷ [])
   rows-then =
-      rows-again (rowsIn (p .rows) rows pool ++ (x ∷ [])) rows′ pool′ (p .rows + 1) (length rows) (length pool)
+      rows-again says (rowsIn (p .rows) rows pool ++ (x ∷ [])) rows′ pool′ (p .rows + 1) (length rows) (length pool)
       (sym (length-append (rowsIn (p .rows) rows pool) (x ∷ []) ∙ ap (λ (k : ℕ). k + 1) (count-is held)))
       new-rows
       new-pool
@@ -165,7 +160,7 @@ module _
       subst Apart (with-new x rs (omega (arith, new, count-is held))) (with-placed x rs (held .rows-apart))
 
   pub row-added :
-      Numbered codesSay (p .room) (rowsIn (p .rows) rows pool ++ (x ∷ [])) (p .rows) rows′ pool′
+      Numbered says (p .room) (rowsIn (p .rows) rows pool ++ (x ∷ [])) (p .rows) rows′ pool′
       (record {
         row = p .rows;
         progress = record { number = 0; rows = p .rows + 1; total = p .total + length x; room = p .room };
@@ -197,7 +192,7 @@ module _
 
 -- a row that does not fit has no number
 pub unplaced :
-    {says : List ℕ → List ℕ} {room number : ℕ} {after : List (List ℕ)} {rows pool : List ℕ} (n count total : ℕ)
+    {says : List ℕ → Bool} {room number : ℕ} {after : List (List ℕ)} {rows pool : List ℕ} (n count total : ℕ)
     → Unfit room (length pool) number after
     → Numbered says room after n rows pool
     (record { row = 0; progress = record { number = number; rows = count; total = total; room = room } })
@@ -213,7 +208,7 @@ unplaced n count total u = record {
 }
 
 -- an equal row has a number: that one is used
-module _ {says : List ℕ → List ℕ} {rows pool : List ℕ} {p : Progress} (held : Held says rows pool p) (x : List ℕ)
+module _ {says : List ℕ → Bool} {rows pool : List ℕ} {p : Progress} (held : Held says rows pool p) (x : List ℕ)
     (row : ℕ) where
   placed-there :
       numberOf x (rowsIn (p .rows) rows pool) < length (rowsIn (p .rows) rows pool)
@@ -260,7 +255,7 @@ module _ {says : List ℕ → List ℕ} {rows pool : List ℕ} {p : Progress} (h
 
 -- none has: the next one is used
 module _
-    {says : List ℕ → List ℕ} {rows pool : List ℕ} {p : Progress} (held : Held says rows pool p) (x : List ℕ)
+    {says : List ℕ → Bool} {rows pool : List ℕ} {p : Progress} (held : Held says rows pool p) (x : List ℕ)
     (f : Found) (is-found : f ≡ foundIn x (rowsIn (p .rows) rows pool)) (is-none : f ≡ Nothing) where
   pub number-new : numberOf x (rowsIn (p .rows) rows pool) ≡ p .rows
   number-new =

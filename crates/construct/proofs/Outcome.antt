@@ -15,7 +15,7 @@ use Rattle.model.specs.Basics.{zeros, filled, Refusal, refusal, fine, refuse}
 use Rattle.model.specs.Rules.{pairCount}
 use Rattle.model.specs.Construction.{rowsOf}
 use Rattle.model.specs.Layout.{edgeNeed, ruleIn, isReadable, ruleRefusal}
-use Rattle.model.specs.Tables.{cellNumbers, rowNumbers, codesSay, poolNumbers, builtOf, tablesBy, tablesOf, rowRoom}
+use Rattle.model.specs.Tables.{cellNumbers, rowNumbers, poolNumbers, builtOf, tablesBy, tablesOf, rowRoom}
 use Rattle.model.specs.Tables.{fitRefusal, tableRefusal}
 use Rattle.model.specs.Promises.{buildRefusal, BuildsTable, ChecksRule}
 use Rattle.model.proofs.Refusals.{on-pass, on-refused, refuse-fine, refuse-met}
@@ -23,13 +23,14 @@ use Rattle.model.proofs.Numbers.{Among, none, some, among-refuse, among-then}
 use Rattle.pairs.specs.declared.Scale.{Scale}
 use Rattle.pairs.specs.Pairs.{Scaled}
 use Rattle.construct.specs.declared.Progress.{Progress}
-use Rattle.construct.specs.Rows.{rowsIn, Held, Unfit}
+use Rattle.construct.specs.Rows.{rowsIn, saysIn, Held, Unfit}
 use Rattle.construct.specs.Cells.{AllFilled}
 use Rattle.construct.specs.Builds.{notBuilt, builtFrom}
 use Rattle.construct.proofs.RowSearch.{rows-length}
 use Rattle.construct.proofs.NewRow.{passes-held}
 use Rattle.construct.proofs.SymbolFilling.{symbols-of}
 use Rattle.construct.proofs.StartLaws.{clocks-of, locations-of, final-mask}
+use Rattle.construct.proofs.RowVerdicts.{says-rule, numbers-say}
 
 -- the built record, field by field
 pub same-built :
@@ -90,11 +91,11 @@ module _ (h : Head) (t scratch cells rows pool : List ℕ) (passed : ruleRefusal
         (scaled : Scaled (ruleIn h t) z) (is-room : room ≡ rowRoom (ruleIn h t) (length cells) (length rows))
         (scratch-long : length scratch₁ ≡ length scratch) (cells-long : length cells₁ ≡ length cells)
         (rows-long : length rows′ ≡ length rows) (pool-long : length pool′ ≡ length pool)
-        (all-are : AllFilled codesSay (ruleIn h t) room scratch₁ scratch′ cells₁ cells′ rows′ pool′ p) where
+        (all-are : AllFilled (saysIn h z) (ruleIn h t) room scratch₁ scratch′ cells₁ cells′ rows′ pool′ p) where
       fits : p .number ≡ 0 → buildRefusal h t scratch cells rows pool ≡ fine
       unfolding fitRefusal
       fits e =
-          let held : Held codesSay rows′ pool′ p = all-are .grown .held e in
+          let held : Held (saysIn h z) rows′ pool′ p = all-are .grown .held e in
           let same-room : p .room ≡ rowRoom (ruleIn h t) (length cells) (length rows) =
           all-are .grown .room-kept ∙ is-room in
           let rs : rowsIn (p .rows) rows′ pool′ ++ [] ≡ rowsOf (ruleIn h t) =
@@ -114,7 +115,7 @@ module _ (h : Head) (t scratch cells rows pool : List ℕ) (passed : ruleRefusal
       built-is : p .number ≡ 0 → builtFrom h z p ≡ builtOf (ruleIn h t)
       unfolding builtOf
       built-is e =
-          let held : Held codesSay rows′ pool′ p = all-are .grown .held e in
+          let held : Held (saysIn h z) rows′ pool′ p = all-are .grown .held e in
           let are : rowsIn (p .rows) rows′ pool′ ≡ rowsOf (ruleIn h t) = all-are .grown .rows-are e in
           let count : p .rows ≡ length (rowsOf (ruleIn h t)) =
           sym (rows-length (p .rows) 0 rows′ pool′) ∙ ap length are in
@@ -133,7 +134,7 @@ module _ (h : Head) (t scratch cells rows pool : List ℕ) (passed : ruleRefusal
       unfolding tablesOf tablesBy
       builds-done e =
           let f : buildRefusal h t scratch cells rows pool ≡ fine = fits e in
-          let held : Held codesSay rows′ pool′ p = all-are .grown .held e in
+          let held : Held (saysIn h z) rows′ pool′ p = all-are .grown .held e in
           let are : rowsIn (p .rows) rows′ pool′ ≡ rowsOf (ruleIn h t) = all-are .grown .rows-are e in
           record {
             answer-is = rw (f, built-is e);
@@ -146,7 +147,9 @@ module _ (h : Head) (t scratch cells rows pool : List ℕ) (passed : ruleRefusal
             rows-are =
                 rw f
                 (held .rows-are
-                ∙ ap₂ (λ (n : ℕ) (x : List (List ℕ)). filled n (rowNumbers codesSay 0 x)) rows-long are);
+                ∙ ap₂ filled rows-long
+                (ap (rowNumbers (saysIn h z) 0) are
+                ∙ numbers-say 0 (rowsOf (ruleIn h t)) (λ x. says-rule h t x passed scaled)));
             pool-is =
                 rw f
                 (held .pool-is ∙ ap₂ (λ (n : ℕ) (x : List (List ℕ)). filled n (poolNumbers x)) pool-long are);

@@ -1,5 +1,6 @@
 -- Gathered marks as a row: its codes at the front are handed to the search, then cleared.
 use mathlib.Core.Path.{_≡_, sym, _∙_, ap, subst}
+use mathlib.Core.Bool.{Bool}
 use mathlib.Core.List.{List, _++_}
 use Prim.Native.Nat.{ℕ, _+_, _-_, _≤_}
 use native.Mathlib.Omega.{arith}
@@ -37,7 +38,7 @@ module _ {row m gathered : List ℕ} {n : ℕ} (g : Gathered row m gathered n) (
       rw (e, ← front-length, rest) (replicate-append-replicate n (length m - length row) 0 ∙ ap zeros k)
 
   pub marks-placed :
-      {says : List ℕ → List ℕ} {room : ℕ} (rs : List (List ℕ)) {rows′ pool′ : List ℕ} {answer : Placed} (z : List ℕ)
+      {says : List ℕ → Bool} {room : ℕ} (rs : List (List ℕ)) {rows′ pool′ : List ℕ} {answer : Placed} (z : List ℕ)
       → Numbered says room (withRow (take n gathered) rs) (numberOf (take n gathered) rs) rows′ pool′ answer
       → z ≡ zeros (length (take n gathered))
       → MarksNumbered says room (withRow row rs) (numberOf row rs) m (z ++ drop n gathered) rows′ pool′ answer

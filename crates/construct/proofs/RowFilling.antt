@@ -1,6 +1,7 @@
 -- The cells of a row, symbol by symbol: those so far are laid in their place, and the rows found so far lead to the
 -- same rows as those before.
 use mathlib.Core.Path.{_≡_, refl, sym, _∙_, ap, ap₂, subst}
+use mathlib.Core.Bool.{Bool}
 use mathlib.Core.List.{List, _++_}
 use Prim.Native.Nat.{ℕ, suc, _+_, _-_, _*_, _≤_, _<_}
 use native.Mathlib.Omega.{arith}
@@ -36,7 +37,7 @@ symbols-fit row symbols s wide room n h g f =
     omega arith
 
 pub record FillingRow
-    (says : List ℕ → List ℕ) (r : Rule) (row : ℕ) (rs : List (List ℕ)) (room : ℕ) (marks₀ cells₀ : List ℕ) (s : ℕ)
+    (says : List ℕ → Bool) (r : Rule) (row : ℕ) (rs : List (List ℕ)) (room : ℕ) (marks₀ cells₀ : List ℕ) (s : ℕ)
     (marks cells rows pool : List ℕ) (p : Progress) : Type 0 where
   pub turns : s ≤ r .symbols
   pub marks-zero : marks ≡ zeros (length marks₀)
@@ -54,7 +55,7 @@ pub record FillingRow
       ≡ laid cells₀ (row * r .symbols * width r) (symbolCells s 0 r (rowsIn (p .rows) rows pool ++ more) (rowAt rs row))
 
 pub row-start :
-    {says : List ℕ → List ℕ} (r : Rule) (z : Scale) (row : ℕ) (marks cells rows pool : List ℕ) (p : Progress)
+    {says : List ℕ → Bool} (r : Rule) (z : Scale) (row : ℕ) (marks cells rows pool : List ℕ) (p : Progress)
     → CanFill says r z marks cells rows pool p row
     → FillingRow says r row (rowsIn (p .rows) rows pool) (p .room) marks cells 0 marks cells rows pool p
 row-start r z row marks cells rows pool p can =
@@ -72,7 +73,7 @@ row-start r z row marks cells rows pool p can =
     }
 
 module _
-    {says : List ℕ → List ℕ} {r : Rule} {row : ℕ} {rs : List (List ℕ)} {room : ℕ} {marks₀ cells₀ : List ℕ} {s : ℕ}
+    {says : List ℕ → Bool} {r : Rule} {row : ℕ} {rs : List (List ℕ)} {room : ℕ} {marks₀ cells₀ : List ℕ} {s : ℕ}
     {marks cells rows pool : List ℕ} {p : Progress}
     (inv : FillingRow says r row rs room marks₀ cells₀ s marks cells rows pool p) where
   marks-long : length marks ≡ length marks₀

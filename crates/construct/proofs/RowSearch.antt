@@ -21,7 +21,7 @@ pub rows-length : (n i : ℕ) (rows pool : List ℕ) → length (rowsHeld n i ro
 rows-length zero i rows pool = refl
 rows-length (suc n) i rows pool = ap suc (rows-length n (suc i) rows pool)
 
--- the row with a number, by its two numbers
+-- the row with a number, by its start and length
 held-at : (n i k : ℕ) (rows pool : List ℕ) → k < n → rowAt (rowsHeld n i rows pool) k ≡ codesAt rows pool (i + k)
 held-at zero i k rows pool h = absurd (omega arith)
 held-at (suc n) i zero rows pool h = let e : i + 0 ≡ i = omega arith in rw e
@@ -192,7 +192,7 @@ module _ (pool codes : List ℕ) (start n : ℕ) (fits : start + n ≤ length po
   part-longer : (n ≡ length codes → ⊥) → codes ≡ take n (drop start pool) → ⊥
   part-longer d e = d (sym (ap length e ∙ part-length))
 
--- The same of a row by its two numbers.
+-- The same of a row by its start and length.
 module _
     {count row : ℕ} {rows pool : List ℕ} (codes : List ℕ) (start n : ℕ) (within : Within count rows pool)
     (h : row < count) (is-start : start ≡ rowStart rows row) (is-length : n ≡ rowLength rows row) where

@@ -1,15 +1,16 @@
 -- The row table and the pool as rows are put in: they spell the rows that they hold, and one row more is its numbers
 -- and its codes.
-use mathlib.Core.Path.{_≡_, refl, sym, _∙_, ap}
+use mathlib.Core.Path.{_≡_, sym, _∙_, ap}
+use mathlib.Core.Bool.{Bool}
 use mathlib.Core.List.{List, [], _∷_, _++_, append-assoc, append-nil}
 use Prim.Native.Nat.{ℕ, zero, suc, _+_, _-_, _*_, _≤_, _<_}
 use native.Mathlib.Omega.{arith}
 use native.Mathlib.Nat.{add-zero}
 use lib.ListN.{length, set, drop, length-append, length-replicate, drop-of-length-le}
 use lib.Seq.{set-at, drop-cons}
-use Rattle.model.specs.Basics.{zeros, filled}
+use Rattle.model.specs.Basics.{oneIf, zeros, filled}
 use Rattle.model.specs.Construction.{rowAt}
-use Rattle.model.specs.Tables.{rowWidth, rowStart, rowLength, codesAt, rowNumbers, codesSay, poolNumbers}
+use Rattle.model.specs.Tables.{rowWidth, rowStart, rowLength, codesAt, rowNumbers, poolNumbers}
 use Rattle.model.proofs.Logic.{first-part}
 use Rattle.model.proofs.TablePlaces.{startOf, start-number, length-number, row-numbers-length, pool-at}
 use Rattle.construct.specs.declared.Progress.{Progress}
@@ -20,47 +21,59 @@ use Rattle.construct.proofs.RowSearch.{rows-length}
 pub filled-length : (n : ℕ) (xs : List ℕ) → length xs ≤ n → length (filled n xs) ≡ n
 filled-length n xs h = rw (length-append, length-replicate) (omega arith)
 
-pub filled-set :
-    (n : ℕ) (xs : List ℕ) (a : ℕ) → length xs < n → set (filled n xs) (length xs) a ≡ filled n (xs ++ (a ∷ []))
-filled-set n xs a h =
-    let k : ℕ = n - (length xs + 1) in
+filled-set :
+    (n : ℕ) (xs : List ℕ) (k a : ℕ) → length xs ≡ k → k < n → set (filled n xs) k a ≡ filled n (xs ++ (a ∷ []))
+filled-set n xs k a f h =
     let e : n - length xs ≡ suc (n - (length xs + 1)) = omega arith in
     rw (e, length-append xs (a ∷ []), append-assoc xs (a ∷ []) (zeros (n - (length xs + 1))))
-    (set-at xs 0 (zeros (n - (length xs + 1))) a (length xs) refl)
+    (set-at xs 0 (zeros (n - (length xs + 1))) a k f)
+
+-- the three numbers of a row, put in one after another
+pub filled-three :
+    (n : ℕ) (xs : List ℕ) (k a b c : ℕ) → length xs ≡ k → k + 2 < n
+    → set (set (set (filled n xs) k a) (k + 1) b) (k + 2) c ≡ filled n (xs ++ (a ∷ b ∷ c ∷ []))
+filled-three n xs k a b c e h =
+    let one : set (filled n xs) k a ≡ filled n (xs ++ (a ∷ [])) = filled-set n xs k a e (omega arith) in
+    let two : set (filled n (xs ++ (a ∷ []))) (k + 1) b ≡ filled n (xs ++ (a ∷ b ∷ [])) =
+    filled-set n (xs ++ (a ∷ [])) (k + 1) b (omega (arith, length-append xs (a ∷ []))) (omega arith)
+    ∙ ap (filled n) (append-assoc xs (a ∷ []) (b ∷ [])) in
+    ap (λ (l : List ℕ). set (set l (k + 1) b) (k + 2) c) one
+    ∙ (ap (λ (l : List ℕ). set l (k + 2) c) two
+    ∙ (filled-set n (xs ++ (a ∷ b ∷ [])) (k + 2) c (omega (arith, length-append xs (a ∷ b ∷ []))) h
+    ∙ ap (filled n) (append-assoc xs (a ∷ b ∷ []) (c ∷ []))))
 
 -- one row more
 pub rows-append :
-    (says : List ℕ → List ℕ) (p : ℕ) (rs : List (List ℕ)) (x : List ℕ)
-    → rowNumbers says p (rs ++ (x ∷ [])) ≡ rowNumbers says p rs ++ ((p + length (poolNumbers rs)) ∷ says x)
-rows-append says p [] x = rw (add-zero p, append-nil (says x))
+    (says : List ℕ → Bool) (p : ℕ) (rs : List (List ℕ)) (x : List ℕ)
+    → rowNumbers says p (rs ++ (x ∷ []))
+    ≡ rowNumbers says p rs ++ ((p + length (poolNumbers rs)) ∷ length x ∷ oneIf (says x) ∷ [])
+rows-append says p [] x = rw (add-zero p)
 rows-append says p (y ∷ rs) x =
     let e : p + length y + length (poolNumbers rs) ≡ p + length (y ++ poolNumbers rs) =
     rw (length-append y (poolNumbers rs)) (omega arith) in
-    let last : List ℕ = (p + length (y ++ poolNumbers rs)) ∷ says x in
     rw (rows-append says (p + length y) rs x, e)
-    (ap (λ (l : List ℕ). p ∷ l) (sym (append-assoc (says y) (rowNumbers says (p + length y) rs) last)))
 
 pub pool-append : (rs : List (List ℕ)) (x : List ℕ) → poolNumbers (rs ++ (x ∷ [])) ≡ poolNumbers rs ++ x
 pool-append [] x = append-nil x
 pool-append (y ∷ rs) x = rw (pool-append rs x) (sym (append-assoc y (poolNumbers rs) x))
 
 -- the row with a number, where the tables begin with the rows
-module _ (rs : List (List ℕ)) (l m : ℕ) where
-  start-is : (n : ℕ) → n < length rs → rowStart (filled l (rowNumbers codesSay 0 rs)) n ≡ startOf n rs
+module _ (says : List ℕ → Bool) (rs : List (List ℕ)) (l m : ℕ) where
+  start-is : (n : ℕ) → n < length rs → rowStart (filled l (rowNumbers says 0 rs)) n ≡ startOf n rs
   start-is n h =
-      first-part 0 (rowNumbers codesSay 0 rs) (zeros (l - length (rowNumbers codesSay 0 rs))) (rowWidth * n)
-      (omega (arith, row-numbers-length 0 rs))
-      ∙ (start-number 0 rs n h ∙ omega arith)
+      first-part 0 (rowNumbers says 0 rs) (zeros (l - length (rowNumbers says 0 rs))) (rowWidth * n)
+      (omega (arith, row-numbers-length says 0 rs))
+      ∙ (start-number says 0 rs n h ∙ omega arith)
 
-  length-is : (n : ℕ) → n < length rs → rowLength (filled l (rowNumbers codesSay 0 rs)) n ≡ length (rowAt rs n)
+  length-is : (n : ℕ) → n < length rs → rowLength (filled l (rowNumbers says 0 rs)) n ≡ length (rowAt rs n)
   length-is n h =
-      first-part 0 (rowNumbers codesSay 0 rs) (zeros (l - length (rowNumbers codesSay 0 rs))) (rowWidth * n + 1)
-      (omega (arith, row-numbers-length 0 rs))
-      ∙ length-number 0 rs n h
+      first-part 0 (rowNumbers says 0 rs) (zeros (l - length (rowNumbers says 0 rs))) (rowWidth * n + 1)
+      (omega (arith, row-numbers-length says 0 rs))
+      ∙ length-number says 0 rs n h
 
   row-in :
       (n : ℕ) → n < length rs
-      → codesAt (filled l (rowNumbers codesSay 0 rs)) (filled m (poolNumbers rs)) n ≡ rowAt rs n
+      → codesAt (filled l (rowNumbers says 0 rs)) (filled m (poolNumbers rs)) n ≡ rowAt rs n
   row-in n h =
       rw (start-is n h, length-is n h) (pool-at rs n (zeros (m - length (poolNumbers rs))) h)
 
@@ -83,18 +96,19 @@ held-from (suc n) i rows pool rs e h =
     rw (h i l, held-from n (suc i) rows pool rs (omega arith) h) (sym (drop-cons rs i [] l))
 
 pub rows-again :
-    (rs : List (List ℕ)) (rows pool : List ℕ) (n l m : ℕ) → n ≡ length rs → rows ≡ filled l (rowNumbers codesSay 0 rs)
+    (says : List ℕ → Bool) (rs : List (List ℕ)) (rows pool : List ℕ) (n l m : ℕ) → n ≡ length rs
+    → rows ≡ filled l (rowNumbers says 0 rs)
     → pool ≡ filled m (poolNumbers rs)
     → rowsIn n rows pool ≡ rs
-rows-again rs rows pool n l m e f g =
+rows-again says rs rows pool n l m e f g =
     rw (e, f, g)
-    (held-from (length rs) 0 (filled l (rowNumbers codesSay 0 rs)) (filled m (poolNumbers rs)) rs (omega arith)
-    (row-in rs l m))
+    (held-from (length rs) 0 (filled l (rowNumbers says 0 rs)) (filled m (poolNumbers rs)) rs (omega arith)
+    (row-in says rs l m))
 
 -- every row lies in its tables
 pub row-within :
-    {rows pool : List ℕ} {p : Progress} → Held codesSay rows pool p → Within (p .rows) rows pool
-row-within {rows} {pool} {p} held =
+    {says : List ℕ → Bool} {rows pool : List ℕ} {p : Progress} → Held says rows pool p → Within (p .rows) rows pool
+row-within {says} {rows} {pool} {p} held =
     let rs : List (List ℕ) = rowsIn (p .rows) rows pool in
     let count : length rs ≡ p .rows = rows-length (p .rows) 0 rows pool in
     record {
@@ -102,8 +116,8 @@ row-within {rows} {pool} {p} held =
       in-pool = λ n h.
           let l : n < length rs = omega (arith, count) in
           let a : rowStart rows n ≡ startOf n rs =
-          ap (λ (t : List ℕ). rowStart t n) (held .rows-are) ∙ start-is rs (length rows) 0 n l in
+          ap (λ (t : List ℕ). rowStart t n) (held .rows-are) ∙ start-is says rs (length rows) 0 n l in
           let b : rowLength rows n ≡ length (rowAt rs n) =
-          ap (λ (t : List ℕ). rowLength t n) (held .rows-are) ∙ length-is rs (length rows) 0 n l in
+          ap (λ (t : List ℕ). rowLength t n) (held .rows-are) ∙ length-is says rs (length rows) 0 n l in
           omega (arith, a, b, start-within n rs l, held .total-is, held .in-pool);
     }

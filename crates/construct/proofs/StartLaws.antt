@@ -162,7 +162,7 @@ can-start h t z marks ready zero-marks =
 
 -- no row yet
 pub held-none :
-    {says : List ℕ → List ℕ} (rows pool : List ℕ) (room : ℕ) → rows ≡ zeros (length rows) → pool ≡ zeros (length pool)
+    {says : List ℕ → Bool} (rows pool : List ℕ) (room : ℕ) → rows ≡ zeros (length rows) → pool ≡ zeros (length pool)
     → RoomIn room rows
     → Held says rows pool (record { number = 0; rows = 0; total = 0; room = room })
 held-none rows pool room a b c =
@@ -183,7 +183,7 @@ held-none rows pool room a b c =
     }
 
 pub start-placed :
-    {says : List ℕ → List ℕ} (starts weight room : ℕ) {marks marks₁ marks′ rows′ pool′ : List ℕ} {span : Span}
+    {says : List ℕ → Bool} (starts weight room : ℕ) {marks marks₁ marks′ rows′ pool′ : List ℕ} {span : Span}
     (placed : Placed)
     → length marks₁ ≡ length marks
     → MarksAre (startCodesBy weight (locationsIn starts)) marks₁ span

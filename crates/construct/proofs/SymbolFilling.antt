@@ -1,6 +1,7 @@
 -- The cells of a row at a symbol, interval by interval: those so far are laid in their place, and the rows found so far
 -- lead to the same rows as those before.
 use mathlib.Core.Path.{_≡_, refl, sym, _∙_, ap, subst}
+use mathlib.Core.Bool.{Bool}
 use mathlib.Core.List.{List, [], _∷_, _++_, append-assoc}
 use Prim.Native.Nat.{ℕ, suc, _+_, _-_, _*_, _^_, _≤_, _<_}
 use native.Mathlib.Omega.{arith}
@@ -53,7 +54,7 @@ place-fits row symbols s wide i room n h g l f =
     omega arith
 
 pub record Filling
-    (says : List ℕ → List ℕ) (r : Rule) (row s at : ℕ) (rs : List (List ℕ)) (room : ℕ) (marks₀ cells₀ : List ℕ) (i : ℕ)
+    (says : List ℕ → Bool) (r : Rule) (row s at : ℕ) (rs : List (List ℕ)) (room : ℕ) (marks₀ cells₀ : List ℕ) (i : ℕ)
     (marks cells rows pool : List ℕ) (p : Progress) : Type 0 where
   pub turns : i ≤ width r
   pub marks-zero : marks ≡ zeros (length marks₀)
@@ -70,7 +71,7 @@ pub record Filling
       → cells ≡ laid cells₀ at (cellsFrom i 0 r (rowsIn (p .rows) rows pool ++ more) (rowAt rs row) s)
 
 pub filling-start :
-    {says : List ℕ → List ℕ} (r : Rule) (z : Scale) (row s at : ℕ) (marks cells rows pool : List ℕ) (p : Progress)
+    {says : List ℕ → Bool} (r : Rule) (z : Scale) (row s at : ℕ) (marks cells rows pool : List ℕ) (p : Progress)
     → CanFill says r z marks cells rows pool p row
     → Filling says r row s at (rowsIn (p .rows) rows pool) (p .room) marks cells 0 marks cells rows pool p
 filling-start r z row s at marks cells rows pool p can =
@@ -88,7 +89,7 @@ filling-start r z row s at marks cells rows pool p can =
     }
 
 module _
-    {says : List ℕ → List ℕ} {r : Rule} {row s at : ℕ} {rs : List (List ℕ)} {room : ℕ} {marks₀ cells₀ : List ℕ} {i : ℕ}
+    {says : List ℕ → Bool} {r : Rule} {row s at : ℕ} {rs : List (List ℕ)} {room : ℕ} {marks₀ cells₀ : List ℕ} {i : ℕ}
     {marks cells rows pool : List ℕ} {p : Progress}
     (inv : Filling says r row s at rs room marks₀ cells₀ i marks cells rows pool p) where
   pub filling-leave :

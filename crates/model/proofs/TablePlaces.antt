@@ -202,7 +202,7 @@ module _ (r : Rule) (rows : List (List ℕ)) (c n p : ℕ) where
   verdict-by-place m h = rw (stored-by-place m h) (one-if-is (holdsFinal r (rowAt rows m)))
 
   -- what the codes say: a location is final exactly if its bit is set
-  codes-say : (xs : List ℕ) → Asc 0 (r .final) → codesSay (builtBy r rows) xs ≡ holdsFinal r xs
+  pub codes-say : (xs : List ℕ) → Asc 0 (r .final) → codesSay (builtBy r rows) xs ≡ holdsFinal r xs
   unfolding holdsFinal locationOf
   codes-say [] a = refl
   codes-say (x ∷ xs) a = ap₂ _||_ (mask-bits 0 (r .final) (locationOf r x) a) (codes-say xs a)

@@ -30,7 +30,7 @@ returns c =
     let after-place-marks = c .before .before .before .before .before .before .before in
     let after-mark-starts = after-place-marks .before .before .before .before .before .before in
     let start = after-mark-starts .before .before .before .before .before in
-    start-placed (start .args .starts) (start .args .weight) (start .args .room)
+    start-placed (start .args .starts) (start .args .finals .weight) (start .args .room)
     (after-place-marks .place-marks .result)
     (after-mark-starts .mark-starts .kept .1 .1 .0)
     (after-mark-starts .mark-starts .ensures)

@@ -4,19 +4,17 @@ use Prim.Native.Nat.{_-_}
 use lib.ListN.{length}
 use borrow.Author.Needs.{needs}
 use Rattle.model.specs.Layout.{ruleIn}
-use Rattle.model.specs.Tables.{codesSay}
 use Rattle.construct.proofs.RowFilling.{FillingRow, row-start, row-can, row-refused, row-next, row-end}
 use Rattle.construct.proofs.SymbolFilling.{symbols-of}
-use Rattle.construct.specs.Rows.{rowsIn}
+use Rattle.construct.specs.Rows.{rowsIn, saysIn}
 use Rattle.construct.proofs.cells.fill_row.Statement.{statement}
 use Rattle.construct.proofs.cells.fill_row.Tie as tie
 
 abbrev Inv-loop : tie.InvT-loop
 Inv-loop head edges links scale row marks₀ cells₀ rows₀ pool₀ progress₀ symbol₀ marks cells rows pool progress symbol =
     (length marks ≡ length marks₀) × (length rows ≡ length rows₀) × (length pool ≡ length pool₀)
-    × FillingRow codesSay (ruleIn head edges) row (rowsIn (progress₀ .rows) rows₀ pool₀) (progress₀ .room) marks₀ cells₀
-    symbol marks
-    cells rows pool progress
+    × FillingRow (saysIn head scale) (ruleIn head edges) row (rowsIn (progress₀ .rows) rows₀ pool₀) (progress₀ .room)
+    marks₀ cells₀ symbol marks cells rows pool progress
 
 abbrev μ-loop : tie.MeasureT-loop
 μ-loop head edges links scale row marks₀ cells₀ rows₀ pool₀ progress₀ symbol₀ marks cells rows pool progress symbol =

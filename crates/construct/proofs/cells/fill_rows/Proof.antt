@@ -7,18 +7,16 @@ use lib.ListN.{length}
 use borrow.Author.Needs.{needs}
 use Rattle.model.specs.Layout.{ruleIn}
 use Rattle.model.specs.Construction.{mostRows, rowsOf}
-use Rattle.model.specs.Tables.{codesSay}
 use Rattle.construct.proofs.AllFilling.{FillingAll, all-start, all-can, all-refused, all-next, all-end}
+use Rattle.construct.specs.Rows.{saysIn}
 use Rattle.construct.proofs.cells.fill_rows.Statement.{statement}
 use Rattle.construct.proofs.cells.fill_rows.Tie as tie
 
 abbrev Inv-loop : tie.InvT-loop
 Inv-loop head edges links scale marks₀ cells₀ rows₀ pool₀ progress₀ row₀ marks cells rows pool progress row =
     (length marks ≡ length marks₀) × (length rows ≡ length rows₀) × (length pool ≡ length pool₀)
-    × FillingAll codesSay (ruleIn head edges) (suc mostRows) (rowsOf (ruleIn head edges)) (progress₀ .room) marks₀
-    cells₀ row
-    marks cells
-    rows pool progress
+    × FillingAll (saysIn head scale) (ruleIn head edges) (suc mostRows) (rowsOf (ruleIn head edges)) (progress₀ .room)
+    marks₀ cells₀ row marks cells rows pool progress
 
 abbrev μ-loop : tie.MeasureT-loop
 μ-loop head edges links scale marks₀ cells₀ rows₀ pool₀ progress₀ row₀ marks cells rows pool progress row =

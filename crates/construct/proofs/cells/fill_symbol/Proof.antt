@@ -7,11 +7,10 @@ use borrow.Author.Needs.{needs, scaled-fits}
 use Rattle.model.specs.Rules.{mostSymbols}
 use Rattle.model.specs.Layout.{ruleIn}
 use Rattle.model.specs.Construction.{width as widthOf}
-use Rattle.model.specs.Tables.{codesSay}
 use Rattle.construct.proofs.SymbolFilling.{Filling, filling-start, filling-leave, filling-refused}
 use Rattle.construct.proofs.SymbolFilling.{filling-next, filling-fits, filling-end, symbols-of, symbols-few}
 use Rattle.construct.proofs.SymbolFilling.{width-is, place-known}
-use Rattle.construct.specs.Rows.{rowsIn}
+use Rattle.construct.specs.Rows.{rowsIn, saysIn}
 use Rattle.construct.proofs.cells.fill_symbol.Statement.{statement}
 use Rattle.construct.proofs.cells.fill_symbol.Tie as tie
 
@@ -20,9 +19,8 @@ Inv-loop head edges links scale row symbol marks₀ cells₀ rows₀ pool₀ wid
     rows pool progress guess i =
     (width ≡ widthOf (ruleIn head edges)) × (width ≤ 2 ^ 9) × (at ≡ (row * ruleIn head edges .symbols + symbol) * width)
     × (length marks ≡ length marks₀) × (length rows ≡ length rows₀) × (length pool ≡ length pool₀)
-    × Filling codesSay (ruleIn head edges) row symbol at (rowsIn (progress₀ .rows) rows₀ pool₀) (progress₀ .room) marks₀
-    cells₀ i marks
-    cells rows pool progress
+    × Filling (saysIn head scale) (ruleIn head edges) row symbol at (rowsIn (progress₀ .rows) rows₀ pool₀)
+    (progress₀ .room) marks₀ cells₀ i marks cells rows pool progress
 
 abbrev μ-loop : tie.MeasureT-loop
 μ-loop head edges links scale row symbol marks₀ cells₀ rows₀ pool₀ width at progress₀ guess₀ i₀ marks cells

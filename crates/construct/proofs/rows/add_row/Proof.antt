@@ -47,14 +47,29 @@ mul-rows-4 c = search needs
 slice-write-rows-2 : tie.Need-slice-write-rows-2
 slice-write-rows-2 c = simp length-set (omega arith)
 
+row-says-requires : tie.Need-row-says-requires
+row-says-requires c κs = search needs
+
+mul-rows-5 : tie.Need-mul-rows-5
+mul-rows-5 c = search needs
+
+add-rows-2 : tie.Need-add-rows-2
+add-rows-2 c = search needs
+
+mul-rows-6 : tie.Need-mul-rows-6
+mul-rows-6 c = search needs
+
+slice-write-rows-3 : tie.Need-slice-write-rows-3
+slice-write-rows-3 c = simp length-set (omega arith)
+
 copy-codes-requires : tie.Need-copy-codes-requires
 copy-codes-requires c κs = search needs
 
-add-t12 : tie.Need-add-t12
-add-t12 c = search needs
+add-t13 : tie.Need-add-t13
+add-t13 c = search needs
 
-add-t16 : tie.Need-add-t16
-add-t16 c = search needs
+add-t11 : tie.Need-add-t11
+add-t11 c = search needs
 
 same-length : tie.Need-same-length
 same-length c = search needs
@@ -65,13 +80,16 @@ same-length-2 c = search needs
 returns-3 : tie.Need-returns-3
 returns-3 c =
     let after-copy-codes = c .before .before in
-    let after-narrow322 = after-copy-codes .before .before in
+    let after-row-says = after-copy-codes .before .before in
+    let after-narrow322 = after-row-says .before in
     let after-narrow32 = after-narrow322 .before in
     let at-if1 = after-narrow32 .before .before in
     let s = at-if1 .before .before .before .before in
-    row-added (s .pre .0) (s .args .codes .now) _ _ _ _ (at-if1 .if1 .left) (search needs) (s .pre .1 .0) (s .pre .1 .1)
+    row-added (s .pre .0) (s .args .codes .now) _ _ _ _ _ (at-if1 .if1 .left) (search needs) (s .pre .1 .0)
+    (s .pre .1 .1)
     (after-narrow32 .narrow32 .ensures .1 (search needs))
     (after-narrow322 .narrow322 .ensures .1 (search needs))
+    (after-row-says .row-says .ensures)
     refl
     (after-copy-codes .copy-codes .ensures)
 
@@ -91,9 +109,14 @@ add-row-spec =
     add-rows
     mul-rows-4
     slice-write-rows-2
+    row-says-requires
+    mul-rows-5
+    add-rows-2
+    mul-rows-6
+    slice-write-rows-3
     copy-codes-requires
-    add-t12
-    add-t16
+    add-t13
+    add-t11
     same-length
     same-length-2
     returns-3)
