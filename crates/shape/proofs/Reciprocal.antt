@@ -1,4 +1,4 @@
--- A code's location without a division: times a number worked out once, over whole.
+-- A code's location without a division: times a number worked out once, over 2 ^ 33.
 use mathlib.Core.Path.{_≡_, sym, _∙_, ap}
 use Prim.Native.Nat.{ℕ, suc, _+_, _-_, _*_, _/_, _%_, _^_, _≤_, _<_}
 use native.Mathlib.Omega.{arith}
@@ -9,8 +9,8 @@ use Rattle.model.specs.Rules.{mostPairs}
 use Rattle.model.proofs.Logic.{quotient-is}
 use Rattle.shape.specs.Verdicts.{whole, reciprocal}
 
--- A code below 65,536 times the reciprocal of a weight, over whole, is the code over the weight: the reciprocal is too
--- large by less than one, and what that adds to the product stays below whole.
+-- A code below 65,536 times the reciprocal of a weight, over 2 ^ 33, is the code over the weight: the reciprocal is too
+-- large by one at most, and what that adds to the product does not reach the next multiple.
 module _ (w x : ℕ) (pos : 0 < w) (most : w ≤ mostPairs) (small : x < mostPairs) where
   abbrev m : ℕ
   m = reciprocal w
@@ -27,7 +27,7 @@ module _ (w x : ℕ) (pos : 0 < w) (most : w ≤ mostPairs) (small : x < mostPai
       turn : (w d : ℕ) → w * (d + 1) ≡ d * w + w
       turn w d = omega arith
 
-  large : 2 ^ 32 ≤ m
+  large : 2 * mostPairs < m
   large =
       let parted : whole / w * w + whole % w ≡ whole = div-add-mod' whole w in
       let b : whole / w * w ≤ whole / w * mostPairs = mul-le-mul-left (whole / w) most in

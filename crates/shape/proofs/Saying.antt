@@ -145,7 +145,14 @@ module _ {b : Built} {rows pool : List ℕ} (s : Settled b rows pool) where
       (and-left (sizesInRange b && pairs) (within 1 mostRows (b .rows)) (s .sizes)))) in
       omega (arith, pairs-most, mul-le-mul-right (locationWeight b) (some .locations-least))
 
-  -- a row lies in the first P numbers of the pool, and its codes are below 65,536
+  -- a row lies in the row table; its codes lie in the first P numbers of the pool, and are below 65,536
+  pub row-inside : {i n : ℕ} → i < b .rows → n ≡ i → rowWidth * n + rowWidth ≤ length rows
+  row-inside {i} h e =
+      let long =
+      leb-true (rowWidth * b .rows) (length rows)
+      (and-left (leb (rowWidth * b .rows) (length rows)) (rowsChain (b .rows) 0 rows (b .total)) (s .chain)) in
+      omega (arith, long)
+
   pub row-in-pool : (i : ℕ) → i < b .rows → rowStart rows i + rowLength rows i ≤ b .total
   row-in-pool i h =
       row-ends (b .rows) 0 rows (b .total) i

@@ -11,7 +11,7 @@ use Rattle.shape.specs.Ranges.{rowsOk}
 
 -- what stands for 1 where a code's location is found by multiplication
 abbrev pub whole : ℕ
-whole = 2 ^ 48
+whole = 2 ^ 33
 
 -- and for 1 over a weight
 abbrev pub reciprocal : ℕ → ℕ

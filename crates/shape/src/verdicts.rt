@@ -5,16 +5,16 @@ ghost use Rattle.model.specs.Basics.{oneIf};
 ghost use Rattle.model.specs.Walks.{locationWeight, verdictsOk};
 ghost use Rattle.shape.specs.Verdicts.{reciprocal, finalBy, ProductsFit, Settled};
 use model::Built;
+use model::ROW_LENGTH;
+use model::ROW_VERDICT;
+use model::ROW_WIDTH;
 use numbers::has_bit;
 use numbers::wide32;
-use tables::row_length;
-use tables::row_start;
-use tables::row_verdict;
 
-// What stands for 1 where a code's location is found by multiplication: 2^48.
-const WHOLE: usize = 281474976710656;
+// What stands for 1 where a code's location is found by multiplication: 2^33.
+const WHOLE: usize = 8589934592;
 
-// A code times this, over 2^48, is the code over the weight. 25 is asked at every event, and a division for each code
+// A code times this, over 2^33, is the code over the weight. 25 is asked at every event, and a division for each code
 // would take most of its time.
 pub(crate) fn reciprocal_of(weight: usize) -> usize
     requires { ⌜ 1 ≤ weight ⌝ }
@@ -40,7 +40,8 @@ pub(crate) fn row_says(codes: &[u32], reciprocal: usize, ends: u32) -> u32
     says
 }
 
-// Every row stores what its codes say.
+// Every row stores what its codes say. The rows are known to lie in their table, so no place is tested here, as `tables`
+// does.
 pub(crate) fn verdicts_ok(built: Built, weight: usize, rows: &[u32], pool: &[u32]) -> bool
     requires { ⌜ Settled built (now rows) (now pool) ⌝ }
     requires { ⌜ weight ≡ locationWeight built ⌝ }
@@ -49,9 +50,10 @@ pub(crate) fn verdicts_ok(built: Built, weight: usize, rows: &[u32], pool: &[u32
     let reciprocal = reciprocal_of(weight);
     let mut i: u32 = 0;
     while i < built.rows {
-        let start = row_start(rows, i);
-        let end = start + row_length(rows, i);
-        if row_says(&pool[start..end], reciprocal, built.ends) != row_verdict(rows, i) {
+        let row = ROW_WIDTH * wide32(i);
+        let start = wide32(rows[row]);
+        let end = start + wide32(rows[row + ROW_LENGTH]);
+        if row_says(&pool[start..end], reciprocal, built.ends) != rows[row + ROW_VERDICT] {
             return false;
         }
         i += 1;
