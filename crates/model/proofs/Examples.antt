@@ -159,6 +159,15 @@ pub second-verdicts :
 unfolding verdict second-tables
 second-verdicts = (refl, refl, refl, refl, refl, refl)
 
+-- a stored number is read as yes if it is 1, and no other; past the table there is a no
+pub stored-verdicts :
+    (verdict (tables (worked-tables .built) [] (9 ∷ 9 ∷ 0 ∷ 9 ∷ 9 ∷ 1 ∷ 1 ∷ 1 ∷ 2 ∷ []) []) 0 ≡ false)
+    × (verdict (tables (worked-tables .built) [] (9 ∷ 9 ∷ 0 ∷ 9 ∷ 9 ∷ 1 ∷ 1 ∷ 1 ∷ 2 ∷ []) []) 1 ≡ true)
+    × (verdict (tables (worked-tables .built) [] (9 ∷ 9 ∷ 0 ∷ 9 ∷ 9 ∷ 1 ∷ 1 ∷ 1 ∷ 2 ∷ []) []) 2 ≡ false)
+    × (verdict (tables (worked-tables .built) [] (9 ∷ 9 ∷ 0 ∷ 9 ∷ 9 ∷ 1 ∷ 1 ∷ 1 ∷ 2 ∷ []) []) 3 ≡ false)
+unfolding verdict worked-tables
+stored-verdicts = (refl, refl, refl, refl)
+
 -- both files are accepted; written again the first has the same bytes, the second those less its ceiling
 pub files-again :
     (readRule worked-file .refused ≡ fine) × (readRule second-file .refused ≡ fine)
