@@ -1,7 +1,7 @@
 //! The construction of the one-timer table.
 
 use crate::rule::{check_rule, code_count, edges_in_use, initial_locations, largest_constant, Edge, Head};
-use crate::table::{Built, MOST_ROWS};
+use crate::table::{row_codes, row_numbers, Built, Finals, MOST_ROWS, ROW_NUMBERS};
 use crate::time::Interval;
 use crate::Refusal;
 
@@ -27,6 +27,7 @@ pub fn build_table(
         head,
         edges,
         codes: Codes::new(head.clocks, largest),
+        finals: Finals::new(head.finals, code_count(1, head.clocks, largest)),
         marks: Marks::over(scratch),
         cells,
         rows,
@@ -138,6 +139,7 @@ struct Builder<'a> {
     head: &'a Head,
     edges: &'a [u16],
     codes: Codes,
+    finals: Finals,
     marks: Marks<'a>,
     cells: &'a mut [u32],
     rows: &'a mut [u32],
@@ -194,7 +196,7 @@ impl Builder<'_> {
 
     /// Whether some edge that a pair of the row allows resets a clock.
     fn some_edge_resets(&self, row: usize, symbol: u16, interval: Interval) -> bool {
-        let pairs = row_codes(self.rows, self.pool, row);
+        let pairs = row_codes(row_numbers(self.rows, row), self.pool);
         edges_on(self.head, self.edges, symbol).filter(|edge| edge.resets() != 0).any(|edge| {
             let mut sources = codes_at(pairs, edge.source(), self.codes.per_location()).iter();
             sources.any(|&code| self.codes.allow(code, edge, interval))
@@ -204,7 +206,7 @@ impl Builder<'_> {
     /// Marks the target of every edge that a pair of the row allows; a timer reset at [c] moves the bases.
     fn mark_targets(&mut self, row: usize, symbol: u16, interval: Interval, reset_at: Option<u32>) {
         let Builder { head, edges, codes, marks, rows, pool, .. } = self;
-        let pairs = row_codes(rows, pool, row);
+        let pairs = row_codes(row_numbers(rows, row), pool);
         for edge in edges_on(head, edges, symbol) {
             for &code in codes_at(pairs, edge.source(), codes.per_location()) {
                 if codes.allow(code, edge, interval) {
@@ -231,8 +233,8 @@ impl Builder<'_> {
     /// Looks the gathered set up among the rows, lengths first.
     fn find(&self, length: usize) -> Option<usize> {
         let set = &self.marks.marks[..length];
-        let mut rows = self.rows[..2 * self.row_count].chunks_exact(2);
-        rows.position(|row| row[1] as usize == length && self.pool[row[0] as usize..][..length] == *set)
+        let mut rows = self.rows[..ROW_NUMBERS * self.row_count].chunks_exact(ROW_NUMBERS);
+        rows.position(|row| row[1] as usize == length && row_codes(row, self.pool) == set)
     }
 
     /// Appends the gathered set as the next row: 23, 24.
@@ -240,9 +242,10 @@ impl Builder<'_> {
         let row = self.row_count;
         Refusal::unless(row < self.row_limit(), 23)?;
         Refusal::unless(length <= self.pool.len() - self.code_total, 24)?;
-        self.rows[2 * row] = self.code_total as u32;
-        self.rows[2 * row + 1] = length as u32;
-        self.pool[self.code_total..][..length].copy_from_slice(&self.marks.marks[..length]);
+        let set = &self.marks.marks[..length];
+        let numbers = [self.code_total as u32, length as u32, self.finals.verdict(set)];
+        self.rows[ROW_NUMBERS * row..][..ROW_NUMBERS].copy_from_slice(&numbers);
+        self.pool[self.code_total..][..length].copy_from_slice(set);
         self.row_count += 1;
         self.code_total += length;
         Ok(row)
@@ -251,18 +254,13 @@ impl Builder<'_> {
     /// How many rows there is room for.
     fn row_limit(&self) -> usize {
         let row_cells = self.head.symbols * Interval::count(self.codes.largest);
-        (MOST_ROWS as usize).min(self.rows.len() / 2).min(self.cells.len() / row_cells as usize)
+        (MOST_ROWS as usize).min(self.rows.len() / ROW_NUMBERS).min(self.cells.len() / row_cells as usize)
     }
 }
 
 /// The edges with this symbol.
 fn edges_on<'a>(head: &Head, edges: &'a [u16], symbol: u16) -> impl Iterator<Item = Edge<'a>> {
     edges_in_use(head, edges).filter(move |edge| edge.symbol() == symbol)
-}
-
-/// The codes of a row.
-fn row_codes<'a>(rows: &[u32], pool: &'a [u32], row: usize) -> &'a [u32] {
-    &pool[rows[2 * row] as usize..][..rows[2 * row + 1] as usize]
 }
 
 /// The codes of a row that stand for pairs with this location.

@@ -62,7 +62,7 @@ pub fn follow_event(
         last_stamp: stamp,
         count: follower.count + 1,
     };
-    Ok((table.verdict(to.row), after))
+    Ok((table.accepts(to.row), after))
 }
 
 /// Takes one event and brings the follower forward where it is kept; a refused event leaves it unchanged.

@@ -32,5 +32,5 @@ pub use follower::{follow_event, follow_event_in_place, start_follower, Follower
 pub use listing::{list_table, LISTING_BYTES};
 pub use refusal::Refusal;
 pub use rule::{check_rule, Head, EDGE_NUMBERS, EDGE_TABLE_NUMBERS, MOST_EDGES};
-pub use table::{check_table, run_table, Built, MOST_ROWS};
+pub use table::{check_table, run_table, Built, MOST_ROWS, ROW_NUMBERS};
 pub use word::{check_word, MOST_EVENTS};

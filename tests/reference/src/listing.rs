@@ -6,10 +6,10 @@ use crate::{build_table, read_rule, Refusal, EDGE_TABLE_NUMBERS};
 /// The most bytes of a file that the listing program reads.
 pub const LISTING_BYTES: usize = 16_384;
 
-const SCRATCH_NUMBERS: usize = 16_384;
-const CELL_NUMBERS: usize = 16_384;
-const ROW_NUMBERS: usize = 2_048;
-const POOL_NUMBERS: usize = 8_192;
+const SCRATCH_ROOM: usize = 16_384;
+const CELL_ROOM: usize = 16_384;
+const ROW_ROOM: usize = 2_048;
+const POOL_ROOM: usize = 8_192;
 
 /// The listing program: what it prints for a rule file, of which it reads at most 16,384 bytes.
 pub fn list_table(file: &[u8]) -> Vec<u8> {
@@ -20,10 +20,10 @@ pub fn list_table(file: &[u8]) -> Vec<u8> {
 
 fn listing(file: &[u8]) -> Result<String, Refusal> {
     let mut edges = vec![0; EDGE_TABLE_NUMBERS];
-    let mut scratch = vec![0; SCRATCH_NUMBERS];
-    let mut cells = vec![0; CELL_NUMBERS];
-    let mut rows = vec![0; ROW_NUMBERS];
-    let mut pool = vec![0; POOL_NUMBERS];
+    let mut scratch = vec![0; SCRATCH_ROOM];
+    let mut cells = vec![0; CELL_ROOM];
+    let mut rows = vec![0; ROW_ROOM];
+    let mut pool = vec![0; POOL_ROOM];
     let head = read_rule(file, &mut edges)?;
     let built = build_table(&head, &edges, &mut scratch, &mut cells, &mut rows, &mut pool)?;
     Ok(table_text(Table { built: &built, cells: &cells, rows: &rows, pool: &pool }))
@@ -36,7 +36,7 @@ fn table_text(table: Table) -> String {
     put_line(&mut text, [rows, pool, symbols, intervals as u32]);
     for (row, cells) in (0..rows).zip(table.cells.chunks_exact(table.built.row_cells())) {
         let codes = table.codes(row);
-        let front = [row, u32::from(table.verdict(row)), codes.len() as u32];
+        let front = [row, table.verdict(row), codes.len() as u32];
         put_line(&mut text, front.iter().chain(codes).copied());
         for line in cells.chunks_exact(intervals) {
             put_line(&mut text, line.iter().copied());

@@ -4,9 +4,12 @@ use crate::rule::{code_count, sizes_in_range, MOST_CODES, MOST_CONSTANT};
 use crate::time::{Interval, Stamp};
 use crate::word::{check_word, MOST_EVENTS};
 use crate::Refusal;
+use std::slice::ChunksExact;
 
 /// The most rows of a table.
 pub const MOST_ROWS: u32 = 4096;
+/// Numbers per row: its start and length in the pool, and its verdict, 1 yes and 0 no.
+pub const ROW_NUMBERS: usize = 3;
 
 /// The record of a built table.
 #[derive(Clone, Copy, Debug, Default, PartialEq, Eq)]
@@ -78,6 +81,7 @@ impl<'a> Table<'a> {
             && self.tables_long_enough()
             && self.rows_in_a_line()
             && self.codes_in_range()
+            && self.verdicts_as_codes_say()
             && self.cells_in_range();
         Refusal::unless(in_shape, 25)
     }
@@ -100,15 +104,19 @@ impl<'a> Table<'a> {
     }
 
     fn tables_long_enough(self) -> bool {
-        self.rows.len() >= 2 * self.built.rows as usize
+        self.rows.len() >= ROW_NUMBERS * self.built.rows as usize
             && self.pool.len() as u64 >= u64::from(self.built.pool)
             && self.cells.len() >= self.cells_used()
+    }
+
+    fn rows_used(self) -> ChunksExact<'a, u32> {
+        self.rows[..ROW_NUMBERS * self.built.rows as usize].chunks_exact(ROW_NUMBERS)
     }
 
     /// Whether the rows follow one another from 0 to P without gaps.
     fn rows_in_a_line(self) -> bool {
         let mut end = 0u64;
-        for row in self.rows[..2 * self.built.rows as usize].chunks_exact(2) {
+        for row in self.rows_used() {
             if u64::from(row[0]) != end {
                 return false;
             }
@@ -120,6 +128,12 @@ impl<'a> Table<'a> {
     fn codes_in_range(self) -> bool {
         let limit = self.code_count();
         self.pool[..self.built.pool as usize].iter().all(|&code| code < limit)
+    }
+
+    /// Whether every row's stored verdict is what its codes say, the rows in a line and the codes in range.
+    fn verdicts_as_codes_say(self) -> bool {
+        let finals = Finals::new(self.built.finals, code_count(1, self.built.clocks, self.built.largest));
+        self.rows_used().all(|row| row[2] == finals.verdict(row_codes(row, self.pool)))
     }
 
     /// Whether cells name rows below R and reset the timer at even intervals only.
@@ -142,14 +156,54 @@ impl<'a> Table<'a> {
 
     /// The codes of a row.
     pub fn codes(self, row: u32) -> &'a [u32] {
-        let place = 2 * row as usize;
-        &self.pool[self.rows[place] as usize..][..self.rows[place + 1] as usize]
+        row_codes(row_numbers(self.rows, row as usize), self.pool)
     }
 
-    /// Whether a row holds a final location.
-    pub fn verdict(self, row: u32) -> bool {
-        let location_codes = code_count(1, self.built.clocks, self.built.largest);
-        self.codes(row).iter().any(|code| self.built.finals >> (code / location_codes) & 1 == 1)
+    /// The stored verdict of a row.
+    pub fn verdict(self, row: u32) -> u32 {
+        row_numbers(self.rows, row as usize)[2]
+    }
+
+    /// Whether a row's stored verdict is yes.
+    pub fn accepts(self, row: u32) -> bool {
+        self.verdict(row) == 1
+    }
+}
+
+/// The numbers of a row.
+pub(crate) fn row_numbers(rows: &[u32], row: usize) -> &[u32] {
+    &rows[ROW_NUMBERS * row..][..ROW_NUMBERS]
+}
+
+/// The codes of a row, given its numbers.
+pub(crate) fn row_codes<'a>(row: &[u32], pool: &'a [u32]) -> &'a [u32] {
+    &pool[row[0] as usize..][..row[1] as usize]
+}
+
+/// The final locations, to be found among codes.
+#[derive(Clone, Copy)]
+pub(crate) struct Finals {
+    set: u32,
+    /// 2^32 over the codes per location, rounded down, plus 1: multiplying by it divides.
+    factor: u64,
+}
+
+impl Finals {
+    pub fn new(set: u32, per_location: u32) -> Self {
+        Finals { set, factor: (1 << 32) / u64::from(per_location) + 1 }
+    }
+
+    /// What a row's codes say: 1 if one of them has a final location, else 0.
+    pub fn verdict(self, codes: &[u32]) -> u32 {
+        u32::from(codes.iter().any(|&code| self.set >> self.location(code) & 1 == 1))
+    }
+
+    /// The location of a code below N.
+    ///
+    /// The factor is too large by at most 1, so the quotient is by less than 1 / 65,536, which is too little
+    /// to reach the next whole number.
+    fn location(self, code: u32) -> u32 {
+        ((u64::from(code) * self.factor) >> 32) as u32
     }
 }
 
@@ -175,5 +229,5 @@ pub fn run_table(
     for (&symbol, &stamp) in symbols.iter().zip(stamps) {
         position = table.step(position, grain, symbol, Stamp(stamp));
     }
-    Ok(table.verdict(position.row))
+    Ok(table.accepts(position.row))
 }

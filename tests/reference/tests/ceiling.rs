@@ -237,17 +237,17 @@ fn the_room_asked_for_is_that_of_the_atoms() {
         let head = room.read(&whole_case_under(30)).unwrap();
         room.build(&head)
     };
-    assert_eq!(build(6, 24, 6, 2).unwrap().to_numbers(), [2, 2, 1, 1, 1, 3, 2]);
-    assert_eq!(build(5, 24, 6, 2), refusal(22, 0));
-    assert_eq!(build(6, 23, 6, 2), refusal(23, 0));
-    assert_eq!(build(6, 24, 5, 2), refusal(23, 0));
-    assert_eq!(build(6, 24, 6, 1), refusal(24, 0));
+    assert_eq!(build(6, 24, 9, 2).unwrap().to_numbers(), [2, 2, 1, 1, 1, 3, 2]);
+    assert_eq!(build(5, 24, 9, 2), refusal(22, 0));
+    assert_eq!(build(6, 23, 9, 2), refusal(23, 0));
+    assert_eq!(build(6, 24, 8, 2), refusal(23, 0));
+    assert_eq!(build(6, 24, 9, 1), refusal(24, 0));
 }
 
 #[test]
 fn decide_ends_the_same_with_it() {
     let outcome = |file: &[u8], scratch: usize, stamps: &[u32]| {
-        let mut room = Room::new(scratch, 25, 7, 3, 9);
+        let mut room = Room::new(scratch, 25, 10, 3, 9);
         let Room { edges, scratch, cells, rows, pool } = &mut room;
         let outcome = decide(file, edges, scratch, cells, rows, pool, 2, &[0, 1], stamps);
         (outcome, room)

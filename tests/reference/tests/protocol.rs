@@ -74,7 +74,7 @@ fn a_ceiling_leaves_no_field() {
     let with_ceiling = [&FILE[..44], "020004001e00", &FILE[44..]].concat();
     let script = |file: &str| {
         format!(
-            "read {file} 7424 9\ncheck_rule\nwrite 64 3\nwrite 58 3\nwrite 57 3\nbuild 6 24 6 2 5\n\
+            "read {file} 7424 9\ncheck_rule\nwrite 64 3\nwrite 58 3\nwrite 57 3\nbuild 6 24 9 2 5\n\
              list {file}\npoke head 5 1\ncheck_rule\npoke head 6 0\nstate"
         )
     };
@@ -121,7 +121,7 @@ fn the_calls_answer_in_their_form() {
 #[test]
 fn the_state_can_be_changed_and_brought_back() {
     let script = "restore\nsave\npoke head 0 1\ncheck_rule\npoke edges 0 65536\npoke edges 0 7\n\
-        poke edges 7424 0\npoke follower 4 9\npoke built 6 5\npoke cells 0 3\nresize rows 2 0\n\
+        poke edges 7424 0\npoke follower 4 9\npoke built 6 5\npoke cells 0 3\nresize rows 10 0\n\
         dump rows\ndump follower\nrestore\ncheck_rule\ncheck_table\nresize pool 0 0\ndump pool\n\
         dump head\npoke head 5 1\npoke head 6 0\npoke place 0 0\ndump place";
     let expected = [
@@ -135,8 +135,8 @@ fn the_state_can_be_changed_and_brought_back() {
         "poke 0",
         "poke 2",
         "poke 2",
-        "resize 2:",
-        "dump 0,1",
+        "resize 10:",
+        "dump 0,1,1,1,0,0,1,1,0,0",
         "dump 0,0,0,0,9",
         "restore",
         "check_rule ok",
@@ -157,9 +157,36 @@ fn the_state_can_be_changed_and_brought_back() {
 }
 
 #[test]
+fn a_wrong_verdict_in_the_state_is_25() {
+    let calls = "check_table\ntable 2 0,1 2,4\nfollow 0 2\nfollow_in_place 0 2\nwalk 0,1 2,4";
+    let script = format!("start 2\npoke rows 8 1\n{calls}\npoke rows 8 0\n{calls}\ndump rows");
+    let expected = [
+        "start ok follower=2,0,0,0,0",
+        "poke 0",
+        "check_table no 25 0",
+        "table no 25 0",
+        "follow no 25 0 follower=2,0,0,0,0",
+        "follow_in_place no 25 0 follower=2,0,0,0,0",
+        "walk no 25 0 verdicts=0:cbf29ce484222325 follower=2,0,0,0,0",
+        "poke 1",
+        "check_table ok",
+        "table ok 1",
+        "follow ok 0 follower=2,2,2,2,1",
+        "follow_in_place ok 0 follower=2,1,2,2,2",
+        "walk ok verdicts=2:",
+        "dump 0,1,1,1,0,0,1,1,0,0,",
+    ];
+    let answers = after_build(&script);
+    assert_eq!(answers.len(), expected.len());
+    for (answer, expected) in answers.iter().zip(expected) {
+        assert!(answer.starts_with(expected), "{answer} is not {expected}");
+    }
+}
+
+#[test]
 fn decide_leaves_the_state() {
     let script =
-        format!("decide {FILE} 7424 6 24 6 2 3 2 0,1 2,4\ndecide {FILE} 7424 5 24 6 2 3 2 - -\nstate");
+        format!("decide {FILE} 7424 6 24 9 2 3 2 0,1 2,4\ndecide {FILE} 7424 5 24 9 2 3 2 - -\nstate");
     let answers = answers(&script);
     assert!(answers[0].starts_with("decide ok 1 edges=7424:faab4d2cb42833c4 scratch=6:"));
     assert!(answers[1].starts_with("decide no 22 0 edges=7424:faab4d2cb42833c4 scratch=5:"));
@@ -221,7 +248,7 @@ fn scripts_of_rubbish_are_answered_line_by_line() {
     for _ in 0..150 {
         let file = random_rule(&mut random, &bounds).file();
         let hex: String = file.iter().map(|byte| format!("{byte:02x}")).collect();
-        let mut script = format!("read {hex} 7424 1\nbuild 4000 4000 400 900 {}\n", random.next() as u32);
+        let mut script = format!("read {hex} 7424 1\nbuild 4000 4000 600 900 {}\n", random.next() as u32);
         let lines = 60;
         for _ in 0..lines {
             script.push_str(&random_line(&mut random, &file));
@@ -244,7 +271,7 @@ fn random_line(random: &mut Random, file: &[u8]) -> String {
         8 => format!("table {} 0,{small} {small},{wild}", random.pick(&[1, 2, 1000])),
         9 => format!("walk 0,1,1 {small},12,{wild}"),
         10 => format!("start {}", random.pick(&[1, 2, 1000])),
-        11 => format!("build 900 {} 300 {} 1", small * 90, small * 20),
+        11 => format!("build 900 {} 450 {} 1", small * 90, small * 20),
         12 => {
             let mut file = file.to_vec();
             let place = random.below(file.len() as u64) as usize;

@@ -95,7 +95,7 @@ fn build_and_compare(rule: &PlainRule) -> Option<(Room, Head, Built)> {
         plain.rows.iter().map(|row| row.iter().map(|pair| code(rule, pair)).collect()).collect();
     let total: usize = codes.iter().map(Vec::len).sum();
     let count = codes.len();
-    let mut room = Room::new(rule.code_count() as usize, count * row_cells + 3, 2 * count + 1, total + 2, 11);
+    let mut room = Room::new(rule.code_count() as usize, count * row_cells + 3, 3 * count + 2, total + 2, 11);
 
     let head = room.read(&rule.file()).unwrap();
     assert_eq!(check_rule(&head, &room.edges), Ok(()));
@@ -111,16 +111,19 @@ fn build_and_compare(rule: &PlainRule) -> Option<(Room, Head, Built)> {
     let mut pool = codes.concat();
     pool.resize(room.pool.len(), 0);
     assert_eq!(room.pool, pool);
-    let mut rows = Vec::new();
-    for row in &codes {
-        let start = if rows.is_empty() { 0 } else { rows[rows.len() - 2] + rows[rows.len() - 1] };
-        rows.extend([start, row.len() as u32]);
+    let (mut rows, mut start) = (Vec::new(), 0);
+    for pairs in &plain.rows {
+        let accepts = pairs.iter().any(|(location, _)| rule.finals.contains(location));
+        rows.extend([start, pairs.len() as u32, u32::from(accepts)]);
+        start += pairs.len() as u32;
     }
-    rows.push(0);
+    rows.extend([0, 0]);
     assert_eq!(room.rows, rows);
     assert!(room.scratch.iter().all(|&number| number == 0));
     assert_eq!(check_table(&built, &room.cells, &room.rows, &room.pool), Ok(()));
     compare_tight_room(&head, &room, count, row_cells, total);
+    compare_poked_verdicts(&mut room, &built);
+    compare_listing(rule, &room, &built);
     Some((room, head, built))
 }
 
@@ -144,11 +147,13 @@ fn compare_written(rule: &PlainRule, room: &Room, head: &Head) {
 fn compare_tight_room(head: &Head, room: &Room, count: usize, row_cells: usize, total: usize) {
     let scratch = room.scratch.len();
     let tries = [
-        (count * row_cells, 2 * count, total, None),
-        (count * row_cells - 1, 2 * count, total, Some(23)),
-        (count * row_cells, 2 * count - 1, total, Some(23)),
+        (count * row_cells, 3 * count, total, None),
+        (count * row_cells - 1, 3 * count, total, Some(23)),
+        (count * row_cells, 3 * count - 1, total, Some(23)),
+        (count * row_cells, 3 * count - 2, total, Some(23)),
+        (count * row_cells, 3 * count - 3, total, Some(23)),
     ];
-    let short_pool = (count * row_cells, 2 * count, total.saturating_sub(1), Some(24));
+    let short_pool = (count * row_cells, 3 * count, total.saturating_sub(1), Some(24));
     let tries = tries.into_iter().chain((total > 0).then_some(short_pool));
     for (cells, rows, pool, number) in tries {
         let mut tight = Room::new(scratch + 1, cells, rows, pool, 8);
@@ -165,6 +170,40 @@ fn compare_tight_room(head: &Head, room: &Room, count: usize, row_cells: usize, 
             }
         }
     }
+}
+
+/// Any stored verdict but the right one is 25.
+fn compare_poked_verdicts(room: &mut Room, built: &Built) {
+    for row in 0..built.rows as usize {
+        let right = room.rows[3 * row + 2];
+        for wrong in [1 - right, 2] {
+            room.rows[3 * row + 2] = wrong;
+            assert_eq!(check_table(built, &room.cells, &room.rows, &room.pool), refusal(25, 0));
+        }
+        room.rows[3 * row + 2] = right;
+    }
+}
+
+/// The listing is the built tables line by line, if they fit its room.
+fn compare_listing(rule: &PlainRule, room: &Room, built: &Built) {
+    let width = 2 * built.largest as usize + 2;
+    let row_cells = width * built.symbols as usize;
+    let used = built.rows as usize * row_cells;
+    if rule.code_count() > 16_384 || used > 16_384 || built.rows > 682 || built.pool > 8_192 {
+        assert!(list_table(&rule.file()).starts_with(b"no 2"));
+        return;
+    }
+    let mut lines = vec![vec![built.rows, built.pool, built.symbols, width as u32]];
+    for (row, cells) in room.cells[..used].chunks(row_cells).enumerate() {
+        let [start, length, verdict] = room.rows[3 * row..][..3] else { unreachable!() };
+        let codes = &room.pool[start as usize..][..length as usize];
+        lines.push([&[row as u32, verdict, length], codes].concat());
+        lines.extend(cells.chunks(width).map(|line| line.to_vec()));
+    }
+    let text = String::from_utf8(list_table(&rule.file())).unwrap();
+    let listed: Vec<Vec<u32>> =
+        text.lines().map(|line| line.split(' ').map(|number| number.parse().unwrap()).collect()).collect();
+    assert_eq!(listed, lines);
 }
 
 /// Runs a word by every runner, compares with all its runs, and returns the verdict.
@@ -214,6 +253,7 @@ fn compare_follower(rule: &PlainRule, word: &PlainWord, room: &Room, built: &Bui
             stamps: word.stamps[..=event].to_vec(),
         };
         assert_eq!(verdict, !enumerate(rule, &so_far).accepting.is_empty());
+        assert_eq!(room.rows[3 * after.row as usize + 2], u32::from(verdict));
         assert_eq!((after.grain, after.last_stamp, after.count), (word.grain, stamp, event as u32 + 1));
         follower = after;
     }

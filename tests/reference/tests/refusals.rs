@@ -303,15 +303,19 @@ fn short_of_room(cells: usize, rows: usize, pool: usize) -> u8 {
 #[test]
 fn numbers_23_and_24_are_the_first_row_that_does_not_fit() {
     assert_eq!(short_of_room(0, 0, 0), 23);
-    assert_eq!(short_of_room(7, 6, 2), 23);
-    assert_eq!(short_of_room(24, 1, 2), 23);
-    assert_eq!(short_of_room(23, 6, 2), 23);
-    assert_eq!(short_of_room(24, 5, 2), 23);
-    assert_eq!(short_of_room(24, 6, 1), 24);
-    assert_eq!(short_of_room(24, 6, 0), 24);
-    assert_eq!(short_of_room(8, 6, 0), 24, "row 0 has no pool");
-    assert_eq!(short_of_room(16, 6, 1), 23, "row 2 has no cells either");
-    let mut room = Room::new(6, 24, 6, 2, 9);
+    assert_eq!(short_of_room(7, 9, 2), 23);
+    assert_eq!(short_of_room(23, 9, 2), 23);
+    for rows in 0..9 {
+        assert_eq!(short_of_room(24, rows, 2), 23, "{rows} row numbers");
+    }
+    assert_eq!(short_of_room(24, 9, 1), 24);
+    assert_eq!(short_of_room(24, 9, 0), 24);
+    assert_eq!(short_of_room(8, 9, 0), 24, "row 0 has no pool");
+    assert_eq!(short_of_room(24, 3, 0), 24, "row 0 has no pool");
+    assert_eq!(short_of_room(24, 2, 0), 23, "row 0 has no row numbers either");
+    assert_eq!(short_of_room(16, 9, 1), 23, "row 2 has no cells either");
+    assert_eq!(short_of_room(24, 8, 1), 23, "row 2 has no row numbers either");
+    let mut room = Room::new(6, 24, 9, 2, 9);
     let head = room.read(&whole_case()).unwrap();
     assert!(room.build(&head).is_ok());
 }
@@ -324,7 +328,7 @@ fn build_subsets(events: u16) -> Result<Built, Refusal> {
         file.extend((1..events).flat_map(|location| record(5, &[location, location + 1, symbol, 0])));
     }
     file.extend(record(5, &[0, 1, 1, 0]));
-    let mut room = Room::new(100, 5000 * 4, 10_000, 100_000, 9);
+    let mut room = Room::new(100, 5000 * 4, 5000 * 3, 100_000, 9);
     let head = room.read(&file).unwrap();
     room.build(&head)
 }
@@ -337,7 +341,7 @@ fn number_23_is_row_4096() {
 }
 
 fn built_whole_case() -> (Room, Built) {
-    let mut room = Room::new(6, 25, 7, 3, 9);
+    let mut room = Room::new(6, 25, 10, 3, 9);
     let head = room.read(&whole_case()).unwrap();
     let built = room.build(&head).unwrap();
     (room, built)
@@ -353,8 +357,12 @@ fn in_shape(change: impl Fn(&mut Room, &mut [u32; 7])) -> bool {
     if outcome.is_err() {
         assert_eq!(outcome, refusal(25, 0));
         assert_eq!(room.table(&built, &PlainWord::new(0, &[])), refusal(25, 0));
-        let outcome = follow_event(Follower::default(), &built, &room.cells, &room.rows, &room.pool, 0, 0);
+        let Room { cells, rows, pool, .. } = &room;
+        let mut follower = Follower::from_numbers([0, 9, 8, 7, 6]);
+        assert_eq!(follow_event(follower, &built, cells, rows, pool, 0, 0), refusal(25, 0));
+        let outcome = follow_event_in_place(&mut follower, &built, cells, rows, pool, 0, 0);
         assert_eq!(outcome, refusal(25, 0));
+        assert_eq!(follower.to_numbers(), [0, 9, 8, 7, 6]);
     } else {
         assert_eq!(room.table(&built, &PlainWord::new(0, &[])), refusal(30, 0));
     }
@@ -391,11 +399,8 @@ fn number_25_is_a_table_out_of_shape() {
     for (field, value) in bad_fields {
         assert!(!in_shape(|_, built| built[field] = value), "field {field} as {value}");
     }
-    for finals in [0, 2, u32::MAX] {
-        assert!(in_shape(|_, built| built[4] = finals));
-    }
     assert!(in_shape(|_, built| built[0] = 32), "more locations");
-    assert!(in_shape(|_, built| built[2] = 4), "more clocks");
+    assert!(in_shape(|room, built| (built[2], room.rows[8]) = (4, 1)), "more clocks, code 3 in location 0");
     assert!(!in_shape(|_, built| (built[0], built[2], built[3]) = (32, 4, 6)), "too many codes");
 }
 
@@ -403,21 +408,26 @@ fn number_25_is_a_table_out_of_shape() {
 fn number_25_is_about_the_places_in_use() {
     assert!(in_shape(|room, _| room.cells.truncate(24)));
     assert!(!in_shape(|room, _| room.cells.truncate(23)));
-    assert!(in_shape(|room, _| room.rows.truncate(6)));
-    assert!(!in_shape(|room, _| room.rows.truncate(5)));
+    assert!(in_shape(|room, _| room.rows.truncate(9)));
+    assert!(!in_shape(|room, _| room.rows.truncate(8)));
     assert!(in_shape(|room, _| room.pool.truncate(2)));
     assert!(!in_shape(|room, _| room.pool.truncate(1)));
     assert!(!in_shape(|room, _| room.rows[0] = 1));
-    assert!(!in_shape(|room, _| room.rows[2] = 0));
-    assert!(!in_shape(|room, _| room.rows[4] = 2));
-    assert!(!in_shape(|room, _| room.rows[5] = 0));
-    assert!(!in_shape(|room, _| room.rows[5] = u32::MAX));
-    assert!(!in_shape(|room, _| room.rows[..6].copy_from_slice(&[0, u32::MAX, u32::MAX, 3, 2, 0])));
-    assert!(in_shape(|room, _| room.rows[..6].copy_from_slice(&[0, 0, 0, 2, 2, 0])));
+    assert!(!in_shape(|room, _| room.rows[3] = 0));
+    assert!(!in_shape(|room, _| room.rows[6] = 2));
+    assert!(!in_shape(|room, _| room.rows[7] = 0));
+    assert!(!in_shape(|room, _| room.rows[7] = u32::MAX));
+    let round = [0, u32::MAX, 1, u32::MAX, 3, 1, 2, 0, 0];
+    assert!(!in_shape(|room, _| room.rows[..9].copy_from_slice(&round)), "lengths that go round");
+    assert!(in_shape(|room, _| room.rows[..9].copy_from_slice(&[0, 0, 0, 0, 2, 1, 2, 0, 0])));
     assert!(in_shape(|room, _| room.pool[1] = 5));
     assert!(!in_shape(|room, _| room.pool[1] = 6));
     assert!(!in_shape(|room, _| room.pool[0] = u32::MAX));
-    assert!(in_shape(|room, _| room.pool[..2].copy_from_slice(&[4, 4])), "codes that do not rise");
+    let falling = |room: &mut Room, _: &mut [u32; 7]| {
+        room.rows[..9].copy_from_slice(&[0, 2, 1, 2, 0, 0, 2, 0, 0]);
+        room.pool[..2].copy_from_slice(&[4, 2]);
+    };
+    assert!(in_shape(falling), "codes that do not rise");
     assert!(!in_shape(|room, _| room.cells[23] = 6));
     assert!(!in_shape(|room, _| room.cells[0] = u32::MAX));
     for place in 0..24 {
@@ -426,10 +436,38 @@ fn number_25_is_about_the_places_in_use() {
     }
     let rubbish = |room: &mut Room, _: &mut [u32; 7]| {
         room.cells[24] = u32::MAX;
-        room.rows[6] = u32::MAX;
+        room.rows[9] = u32::MAX;
         room.pool[2] = u32::MAX;
     };
     assert!(in_shape(rubbish));
+}
+
+#[test]
+fn number_25_is_a_stored_verdict_that_the_codes_do_not_say() {
+    for (row, right) in [1, 0, 0].into_iter().enumerate() {
+        for stored in [0, 1, 2, 3, 256, 65_537, 1 << 31, u32::MAX] {
+            let passes = in_shape(|room, _| room.rows[3 * row + 2] = stored);
+            assert_eq!(passes, stored == right, "row {row} with {stored}");
+        }
+    }
+    assert!(!in_shape(|room, _| room.rows[..9].copy_from_slice(&[0, 0, 0, 0, 2, 0, 2, 0, 0])), "moved codes");
+    assert!(!in_shape(|room, _| room.rows[..9].copy_from_slice(&[0, 0, 1, 0, 2, 1, 2, 0, 0])), "moved codes");
+    assert!(!in_shape(|room, _| room.pool[1] = 2), "another code");
+    assert!(in_shape(|room, _| (room.pool[1], room.rows[8]) = (2, 1)), "another code");
+    assert!(!in_shape(|_, built| built[2] = 4), "other locations of the codes");
+}
+
+#[test]
+fn number_25_takes_the_final_set_as_it_is() {
+    for (finals, right) in [(0, [0, 0]), (1, [1, 0]), (2, [0, 1]), (3, [1, 1]), (!1, [0, 1]), (!2, [1, 0])] {
+        for stored in [[0, 0], [0, 1], [1, 0], [1, 1]] {
+            let passes = in_shape(|room, built| {
+                (room.rows[2], room.rows[8]) = (stored[0], stored[1]);
+                built[4] = finals;
+            });
+            assert_eq!(passes, stored == right, "finals {finals}, stored {stored:?}");
+        }
+    }
 }
 
 #[test]
@@ -571,7 +609,7 @@ fn decide_in(
 
 #[test]
 fn decide_ends_at_the_first_refusal() {
-    let new = || Room::new(7, 25, 7, 3, 9);
+    let new = || Room::new(7, 25, 10, 3, 9);
     let mut ready = new();
     let head = ready.read(&whole_case()).unwrap();
     let read = ready.clone();
@@ -589,9 +627,9 @@ fn decide_ends_at_the_first_refusal() {
     short.scratch.truncate(5);
     assert_eq!(decide_in(short.clone(), &whole_case(), 0, &[], &[]), (refusal(22, 0), short));
 
-    let mut zero = Room::new(7, 25, 7, 1, 0);
+    let mut zero = Room::new(7, 25, 10, 1, 0);
     zero.edges.copy_from_slice(&read.edges);
-    let few = Room::new(7, 25, 7, 1, 9);
+    let few = Room::new(7, 25, 10, 1, 9);
     assert_eq!(decide_in(few, &whole_case(), 0, &[], &[]), (refusal(24, 0), zero));
 
     assert_eq!(decide_in(new(), &whole_case(), 0, &[], &[]), (refusal(30, 0), ready.clone()));

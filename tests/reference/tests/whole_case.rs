@@ -34,6 +34,8 @@ fn the_file_is_read_as_it_says() {
     assert_eq!(room.edges[29..38], [1, 0, 1, 0, 1, 0, 3, 1, 0]);
     assert_eq!(room.edges.iter().map(|&number| usize::from(number)).sum::<usize>(), 13);
     assert_eq!(built.to_numbers(), [2, 2, 1, 1, 1, 3, 2]);
+    assert_eq!(room.rows[..9], [0, 1, 1, 1, 0, 0, 1, 1, 0]);
+    assert_eq!(room.rows[9..], [0; 2039]);
 }
 
 #[test]
@@ -123,7 +125,8 @@ fn p9_moves_the_bases_of_branches_without_a_reset_too() {
     let cell = room.cells[2] as usize;
     assert_eq!(room.pool[0], 0);
     assert_eq!(cell % 2, 1, "the timer is reset");
-    let (start, length) = (room.rows[cell / 2 * 2] as usize, room.rows[cell / 2 * 2 + 1] as usize);
+    let row = cell / 2 * 3;
+    let (start, length) = (room.rows[row] as usize, room.rows[row + 1] as usize);
     assert_eq!(room.pool[start..start + length], [1, 3]);
     assert_eq!(built.largest, 1);
 }
