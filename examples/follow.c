@@ -14,7 +14,7 @@
 
 static uint32_t scratch[ALDERSKEIN_CODES];
 static uint32_t cells[CELLS];
-static uint32_t rows[2 * ALDERSKEIN_ROWS];
+static uint32_t rows[ALDERSKEIN_ROW_TABLE];
 static uint32_t pool[POOL];
 
 /* The rule's table. */
@@ -23,7 +23,7 @@ static alderskein_built build(const char *name)
     alderskein_head head = read_rule(name);
     alderskein_building building =
         alderskein_build_table(head, edges, ALDERSKEIN_EDGE_TABLE, scratch, ALDERSKEIN_CODES, cells, CELLS,
-                               rows, 2 * ALDERSKEIN_ROWS, pool, POOL);
+                               rows, ALDERSKEIN_ROW_TABLE, pool, POOL);
     if (building.number != 0)
         refuse(name, building.number, building.place);
     fprintf(stderr, "%s: %u rows\n", name, (unsigned)building.built.rows);
@@ -36,7 +36,7 @@ static void follow(alderskein_built built, alderskein_follower follower)
     alderskein_stamp stamp;
     while (next_event(&symbol, &stamp.at)) {
         alderskein_moved moved = alderskein_follow_in_place(
-            &follower, built, cells, CELLS, rows, 2 * ALDERSKEIN_ROWS, pool, POOL, symbol, stamp);
+            &follower, built, cells, CELLS, rows, ALDERSKEIN_ROW_TABLE, pool, POOL, symbol, stamp);
         if (moved.number != 0)
             refuse("event", moved.number, moved.place);
         puts(moved.yes ? "0" : "blank");

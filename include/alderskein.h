@@ -26,13 +26,13 @@
  *   20  edge table shorter than 7,424 numbers
  *   21  head record and edge table are not what reading some accepted file leaves
  *   22  build scratch shorter than N numbers
- *   23  the first row, by number, that does not fit: its number is not below the least of 4,096, half the row
- *       table and the cell table over S * W, both rounded down
+ *   23  the first row, by number, that does not fit: its number is not below the least of 4,096, a third of
+ *       the row table and the cell table over S * W, both rounded down
  *   24  or, with a number below that, the pool is too short for it
  *   25  built record or its tables out of shape: a size out of range, N over 65,536, R outside 1 to 4,096,
  *       tables shorter than R and P need, a row that does not start where the one before it ends (row 0
  *       at 0), lengths that do not add up to P, a code not below N, a cell's row not below R, a timer reset
- *       at an odd interval number
+ *       at an odd interval number, a stored verdict that differs from what the row's codes say
  *   26  more configurations than room after event i; place: i, 0 before the first event
  *   27  output shorter than the file to be written
  *   34  follower with row not below R, reset stamp above last stamp or no multiple of D, or count over 4,096
@@ -68,6 +68,9 @@ extern "C" {
 /* The most rows of a table, and the largest N. */
 #define ALDERSKEIN_ROWS 4096
 #define ALDERSKEIN_CODES 65536
+/* The numbers of a row in the row table: start, length, verdict; and the row numbers of the most rows. */
+#define ALDERSKEIN_ROW_NUMBERS 3
+#define ALDERSKEIN_ROW_TABLE 12288
 
 /* A time since the start of the word, in D-ths of a second. */
 typedef struct {
@@ -186,8 +189,9 @@ alderskein_answer alderskein_check_word(uint32_t symbol_count, uint32_t grain, u
 /*
  * Builds the table of a rule. Cells: next row * 2, plus 1 if the timer is reset, at
  * (row * S + symbol) * W + interval, where interval 2c is [c], 2c + 1 is (c, c + 1) and 2 * cm + 1 is
- * everything above cm. Rows: start and length in the pool, two numbers each. Pool: the rows' codes, each row
- * ascending, the rows one after another by number from place 0 without gaps.
+ * everything above cm. Rows: start and length in the pool and the verdict, three numbers each; the verdict is
+ * 1 if one of the row's codes has a final location, else 0. Pool: the rows' codes, each row ascending, the
+ * rows one after another by number from place 0 without gaps.
  * Refuses: 20, 21, 22, which leave all four lent tables untouched; then 23 and 24, which leave them all zero.
  * On success unused places of the three tables are zero, and so is the whole scratch.
  */
@@ -203,7 +207,8 @@ alderskein_answer alderskein_check_table(alderskein_built built, const uint32_t 
                                          const uint32_t *pool, size_t pool_length);
 
 /*
- * Runs a word of at most 4,096 events over a table; the value is 1 for yes, 0 for no.
+ * Runs a word of at most 4,096 events over a table; the value is the stored verdict of the last row, 1 for
+ * yes, 0 for no.
  * Refuses: 25, 30, 31, 32, 33. Changes nothing.
  */
 alderskein_answer alderskein_run_table(alderskein_built built, const uint32_t *cells, size_t cells_length,
@@ -245,7 +250,7 @@ alderskein_branch alderskein_run_branches(alderskein_head head, const uint16_t *
 alderskein_started alderskein_start_follower(uint32_t grain);
 
 /*
- * Takes one event, number count + 1, and returns the follower after it and its row's verdict.
+ * Takes one event, number count + 1, and returns the follower after it and its row's stored verdict.
  * Refuses: 25, 30, 34, 31 (count is 4,096), 32, 33. A refused event leaves the follower unchanged.
  */
 alderskein_followed alderskein_follow_event(alderskein_follower follower, alderskein_built built,

@@ -1,6 +1,7 @@
 //! A rule with its table, its room and a word, over which every call can be run.
 
 use alderskein::raw::{Answer, Building, Built, Follower, Head, Moved};
+use alderskein::{ROW_NUMBERS, ROW_TABLE};
 use protocol::{Engine, Event, Reference, Rule, Table, Tables, Word};
 
 /// The event that is followed.
@@ -54,7 +55,7 @@ impl Desk {
             scratch: vec![0; 65_536],
             configurations: vec![0; 1_024],
             cells: vec![0; 1 << 20],
-            rows: vec![0; 8_192],
+            rows: vec![0; ROW_TABLE],
             pool: vec![0; 1 << 18],
             built: Built::default(),
             follower: Follower { grain: 2, ..Follower::default() },
@@ -71,7 +72,7 @@ impl Desk {
     fn cut(&mut self) {
         self.scratch.truncate(self.codes());
         self.cells.truncate(self.row_count() * self.row_cells());
-        self.rows.truncate(2 * self.row_count());
+        self.rows.truncate(ROW_NUMBERS * self.row_count());
         self.pool.truncate(self.built.total as usize);
     }
 

@@ -16,6 +16,7 @@
 //! let rule = Rule::read(&file)?;
 //! let table = rule.build(Room::default())?;
 //! assert_eq!(table.row_count(), 3);
+//! assert_eq!(table.verdict(0), Some(true));
 //!
 //! let word = Word::new(2).with(0, Stamp(2)).with(1, Stamp(4));
 //! assert!(table.run(&word)?);
@@ -43,5 +44,5 @@ pub use follower::Follower;
 pub use raw::Stamp;
 pub use refusal::{Cause, Refusal};
 pub use rule::{LeastRun, Rule, Run, EDGE_TABLE, LONGEST_FILE};
-pub use table::{decide, Cell, Room, Table};
+pub use table::{decide, Cell, Room, Table, ROW_NUMBERS, ROW_TABLE};
 pub use word::Word;

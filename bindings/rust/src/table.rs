@@ -3,6 +3,11 @@
 use crate::raw::{self, Built, Head};
 use crate::{Follower, Refusal, Word, EDGE_TABLE};
 
+/// How many numbers a row takes in the row table: start and length in the pool, verdict.
+pub const ROW_NUMBERS: usize = 3;
+/// The row numbers of the most rows, 4,096.
+pub const ROW_TABLE: usize = 12_288;
+
 /// How many numbers a builder is lent. They are allocated as asked; without memory for them the program
 /// ends, as with every `Vec`.
 #[derive(Clone, Copy, Debug, PartialEq, Eq)]
@@ -11,21 +16,21 @@ pub struct Room {
     pub scratch: usize,
     /// For the cells: R · S · W.
     pub cells: usize,
-    /// For the rows: 2 · R.
+    /// For the rows: 3 · R.
     pub rows: usize,
     /// For the pool: P.
     pub pool: usize,
 }
 
 impl Room {
-    /// What the listing program lends.
+    /// What the listing program lends: enough for 682 rows.
     pub const LISTING: Room = Room { scratch: 16_384, cells: 16_384, rows: 2_048, pool: 8_192 };
 }
 
 impl Default for Room {
     /// Room for every scratch, for 4,096 rows, and for a million each of cells and codes.
     fn default() -> Self {
-        Room { scratch: 65_536, cells: 1 << 20, rows: 8_192, pool: 1 << 20 }
+        Room { scratch: 65_536, cells: 1 << 20, rows: ROW_TABLE, pool: 1 << 20 }
     }
 }
 
@@ -72,7 +77,7 @@ impl Table {
     /// The table without its unused places.
     fn cut(mut self) -> Self {
         self.cells.truncate(self.row_count() * self.row_cells());
-        self.rows.truncate(2 * self.row_count());
+        self.rows.truncate(ROW_NUMBERS * self.row_count());
         self.pool.truncate(self.built.total as usize);
         for table in [&mut self.cells, &mut self.rows, &mut self.pool] {
             table.shrink_to_fit();
@@ -104,18 +109,21 @@ impl Table {
         self.built.symbols as usize * self.interval_count()
     }
 
+    /// The numbers of a row: start, length, verdict.
+    fn row(&self, row: usize) -> Option<&[u32]> {
+        self.rows[..ROW_NUMBERS * self.row_count()].chunks_exact(ROW_NUMBERS).nth(row)
+    }
+
     /// The codes of a row, nothing past the last one.
     pub fn codes(&self, row: usize) -> Option<&[u32]> {
-        let start_and_length = self.rows[..2 * self.row_count()].chunks_exact(2).nth(row)?;
-        let (start, length) = (start_and_length[0] as usize, start_and_length[1] as usize);
+        let numbers = self.row(row)?;
+        let (start, length) = (numbers[0] as usize, numbers[1] as usize);
         self.pool.get(start..start + length)
     }
 
-    /// A row's verdict: whether it holds a final location.
+    /// A row's stored verdict: whether it holds a final location.
     pub fn verdict(&self, row: usize) -> Option<bool> {
-        let per_location = (self.built.top + 2).pow(self.built.clocks);
-        let is_final = |code: &u32| self.built.ends >> (code / per_location) & 1 == 1;
-        Some(self.codes(row)?.iter().any(is_final))
+        Some(self.row(row)?[2] == 1)
     }
 
     /// The cell of a row, symbol and interval.

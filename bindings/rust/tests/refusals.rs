@@ -49,11 +49,11 @@ fn the_caller_22_to_24() {
         let room = Room { scratch, cells, rows, pool };
         worked_rule().build(room).map(|table| table.row_count())
     };
-    assert_eq!(build(6, 24, 6, 2), Ok(3));
-    assert_eq!(build(5, 24, 6, 2), refused(22, 0));
-    assert_eq!(build(6, 23, 6, 2), refused(23, 0));
-    assert_eq!(build(6, 24, 5, 2), refused(23, 0));
-    assert_eq!(build(6, 24, 6, 1), refused(24, 0));
+    assert_eq!(build(6, 24, 9, 2), Ok(3));
+    assert_eq!(build(5, 24, 9, 2), refused(22, 0));
+    assert_eq!(build(6, 23, 9, 2), refused(23, 0));
+    assert_eq!(build(6, 24, 8, 2), refused(23, 0));
+    assert_eq!(build(6, 24, 9, 1), refused(24, 0));
 }
 
 #[test]

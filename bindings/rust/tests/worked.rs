@@ -108,7 +108,8 @@ fn the_table_by_its_places() {
     assert_eq!(table.interval_count(), 4);
     assert_eq!(table.codes(2), Some([3].as_slice()));
     assert_eq!(table.codes(3), None);
-    assert_eq!(table.verdict(0), Some(true));
+    assert_eq!(table.parts()[1], [0, 1, 1, 1, 0, 0, 1, 1, 0], "start, length and verdict of each row");
+    assert_eq!([0, 1, 2, 3].map(|row| table.verdict(row)), [Some(true), Some(false), Some(false), None]);
     assert_eq!(table.cell(0, 0, 2), Some(Cell { next: 2, resets: true }));
     assert_eq!(table.cell(0, 0, 4), None);
     assert_eq!(table.cell(0, 2, 0), None);
@@ -132,7 +133,7 @@ fn the_largest_rule_is_built() {
     let file = [record(1, &[16, 1, 3]), record(2, &[0]), edge].concat();
     let table = Rule::read(&file).unwrap().build(Room::default()).unwrap();
     assert_eq!((table.row_count(), table.built().top), (2, 14));
-    assert_eq!(table.parts().map(<[u32]>::len), [60, 4, 1], "unused places are cut off");
+    assert_eq!(table.parts().map(<[u32]>::len), [60, 6, 1], "unused places are cut off");
 }
 
 #[test]

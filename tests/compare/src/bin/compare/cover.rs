@@ -1,8 +1,10 @@
 //! What came up: refusals call by call, verdicts runner by runner, limits.
 
 use crate::ceiling::{ceilings, less_ceiling, CEILING_BYTES};
+use crate::plain::{only_wrong, Wrong};
 use crate::rules::{code_count, Edge, EDGE_NUMBERS, FIRST_CONSTANT, MOST_CONSTANT};
-use alderskein::raw::{Answer, BranchAnswer};
+use alderskein::raw::{Answer, BranchAnswer, Built};
+use alderskein::ROW_NUMBERS;
 use protocol::{Call, Reply, State, What, Word};
 use std::collections::BTreeMap;
 use std::fmt;
@@ -28,7 +30,7 @@ const REFUSALS: [(&str, &[u8]); 13] = [
 const RUNNERS: [&str; 6] = ["exact", "branch", "table", "follow", "follow_in_place", "decide"];
 
 /// The limits and corners that must come up.
-const LIMITS: [&str; 47] = [
+const LIMITS: [&str; 61] = [
     "read: L = 32",
     "read: S = 16",
     "read: K = 4",
@@ -57,9 +59,23 @@ const LIMITS: [&str; 47] = [
     "build: row table full",
     "build: cell table full",
     "build: just fits",
+    "build: just 3 R row numbers",
+    "build: one row number less than 3 R",
+    "check_table: only a verdict differs, 0 for yes",
+    "check_table: only a verdict differs, 1 for no",
+    "check_table: only a verdict differs, 2",
+    "check_table: only a verdict differs, over 2",
+    "check_table: only a verdict differs, row 4,095",
+    "table: only a verdict differs",
+    "table: a verdict put right again",
+    "follow: only a verdict differs",
+    "follow: a verdict put right again",
+    "follow_in_place: only a verdict differs",
+    "follow_in_place: a verdict put right again",
     "table: filled by hand",
     "table: filled by hand, R = 4,096",
     "table: filled by hand, cm = 30",
+    "table: filled by hand, N = 65,536",
     "follow: timer reset",
     "follow: event 4,096",
     "exact: 4,096 events",
@@ -89,6 +105,10 @@ pub struct Cover {
     by_hand: bool,
     /// What the state's rule is written as, if it was read from a file with a ceiling and not changed since.
     written_as: Option<Vec<u8>>,
+    /// 3 R, if the state's rule was built and not changed since.
+    row_numbers: Option<usize>,
+    /// Whether a call was refused for a verdict alone since the table was built, brought back or cut.
+    was_wrong: bool,
 }
 
 impl Cover {
@@ -103,6 +123,8 @@ impl Cover {
             limits: LIMITS.iter().map(|&name| (name, 0)).collect(),
             by_hand: false,
             written_as: None,
+            row_numbers: None,
+            was_wrong: false,
         }
     }
 
@@ -110,12 +132,16 @@ impl Cover {
     pub fn count(&mut self, call: &Call, reply: &Reply, state: &State) {
         if matches!(call, Call::Poke { .. } | Call::Resize { .. } | Call::Restore) {
             self.written_as = None;
+            self.row_numbers = None;
         }
         match (call, reply) {
             (Call::Poke { what, .. }, _) => self.by_hand |= !matches!(what, What::Follower | What::Head),
-            (_, Reply::Built(..)) => self.by_hand = false,
+            (Call::Restore | Call::Resize { .. }, _) => self.was_wrong = false,
+            (_, Reply::Built(..)) => (self.by_hand, self.was_wrong) = (false, false),
+            (_, Reply::Read(_)) => self.row_numbers = None,
             (_, Reply::Walked(steps)) => {
                 for step in steps {
+                    self.count_verdict("follow", step.number, state);
                     self.count_answer("follow", step.number, Some(step.yes));
                     self.mark("follow: timer reset", step.follower.reset.0 > 0);
                     self.mark("follow: event 4,096", step.number == 0 && step.follower.count == 4_096);
@@ -126,6 +152,7 @@ impl Cover {
         }
         if let Some((number, _)) = reply.refusal() {
             self.count_answer(call.name(), number, reply.verdict());
+            self.count_verdict(call.name(), number, state);
             self.count_limits(call, reply, state);
         }
     }
@@ -162,6 +189,7 @@ impl Cover {
                 self.mark("table: filled by hand", by_hand);
                 self.mark("table: filled by hand, R = 4,096", by_hand && built.rows == 4_096);
                 self.mark("table: filled by hand, cm = 30", by_hand && built.top == 30);
+                self.mark("table: filled by hand, N = 65,536", by_hand && largest(&built));
                 self.mark("table: 4,096 events", word.symbols.len() == 4_096);
                 self.mark("table: stamp over 2^31", word.stamps.last().is_some_and(|&stamp| stamp > 1 << 31));
             }
@@ -176,6 +204,37 @@ impl Cover {
             (_, Reply::Followed(_) | Reply::Moved(_)) => {
                 let whole = reply.refusal() == Some((0, 0));
                 self.mark("follow: event 4,096", whole && state.follower.count == 4_096);
+            }
+            _ => {}
+        }
+    }
+
+    /// A verdict for which alone a call over a table is refused, or that was put right after that.
+    fn count_verdict(&mut self, call: &str, number: u8, state: &State) {
+        let over_a_table = ["check_table", "table", "follow", "follow_in_place"].contains(&call);
+        let wrong = if over_a_table && number == 25 { only_wrong(state) } else { None };
+        let righted = self.was_wrong && number == 0;
+        self.was_wrong |= wrong.is_some();
+        match call {
+            "check_table" => {
+                let Some(Wrong { row, stored, said }) = wrong else { return };
+                self.mark("check_table: only a verdict differs, 0 for yes", (stored, said) == (0, 1));
+                self.mark("check_table: only a verdict differs, 1 for no", (stored, said) == (1, 0));
+                self.mark("check_table: only a verdict differs, 2", stored == 2);
+                self.mark("check_table: only a verdict differs, over 2", stored > 2);
+                self.mark("check_table: only a verdict differs, row 4,095", row == 4_095);
+            }
+            "table" => {
+                self.mark("table: only a verdict differs", wrong.is_some());
+                self.mark("table: a verdict put right again", righted);
+            }
+            "follow" => {
+                self.mark("follow: only a verdict differs", wrong.is_some());
+                self.mark("follow: a verdict put right again", righted);
+            }
+            "follow_in_place" => {
+                self.mark("follow_in_place: only a verdict differs", wrong.is_some());
+                self.mark("follow_in_place: a verdict put right again", righted);
             }
             _ => {}
         }
@@ -255,17 +314,21 @@ impl Cover {
 
     fn count_build(&mut self, number: u8, state: &State) {
         let built = state.built;
-        let rows = state.rows.len() / 2;
+        let rows = state.rows.len() / ROW_NUMBERS;
         let rows_of_cells = state.cells.len() / row_cells(state);
         if number == 23 {
+            let one_less = self.row_numbers == Some(state.rows.len() + 1) && rows < rows_of_cells;
+            self.mark("build: one row number less than 3 R", one_less);
             self.mark("build: more than 4,096 rows", rows > 4_096 && rows_of_cells > 4_096);
             self.mark("build: row table full", rows < rows_of_cells);
             self.mark("build: cell table full", rows_of_cells < rows);
         } else if number == 0 {
             let total = state.pool.len() == built.total as usize;
             let rows_fit = rows == built.rows as usize && rows_of_cells == rows;
+            self.row_numbers = Some(ROW_NUMBERS * built.rows as usize);
+            self.mark("build: just 3 R row numbers", self.row_numbers == Some(state.rows.len()));
             self.mark("build: cm = 30", built.top == 30);
-            self.mark("build: N = 65,536", built.locations * (built.top + 2).pow(built.clocks) == 65_536);
+            self.mark("build: N = 65,536", largest(&built));
             self.mark("build: R = 4,096", built.rows == 4_096);
             self.mark("build: just fits", rows_fit && total);
         }
@@ -294,6 +357,11 @@ fn lowest_edge(state: &State, locations: u32, symbol: u16) -> Option<(usize, Edg
 fn top(state: &State) -> u16 {
     let edges = state.edges.chunks_exact(EDGE_NUMBERS).take(state.head.count as usize);
     edges.flat_map(|edge| edge[FIRST_CONSTANT..].iter().step_by(3)).copied().max().unwrap_or(0)
+}
+
+/// Whether N is 65,536.
+fn largest(built: &Built) -> bool {
+    built.locations * (built.top + 2).pow(built.clocks) == 65_536
 }
 
 /// S · W of the rule in the state.

@@ -3,10 +3,11 @@
 use crate::random::Random;
 use crate::rules::{any_atom, any_edge, largest_top, record, some_ends, Edge, Rule, CEILING, MOST_CONSTANT};
 use crate::scene::Scene;
+use alderskein::ROW_TABLE;
 use protocol::{Call, Room, Word};
 
 /// Room for some rows of any rule, so that a build ends soon.
-const FEW_ROWS: Room = Room { scratch: 65_536, cells: 3_000, rows: 24, pool: 300 };
+const FEW_ROWS: Room = Room { scratch: 65_536, cells: 3_000, rows: 36, pool: 300 };
 
 /// Files at a limit, read, written and decided over.
 pub fn at_limit(scene: &mut Scene) {
@@ -143,7 +144,7 @@ pub fn largest(scene: &mut Scene) {
     scene.read_surely(&rule);
     let scratch = 65_536 - scene.random.pick(&[0, 0, 0, 0, 0, 1]);
     let cells = 150 * 2 * rule.intervals() + scene.random.below(40);
-    let rows = scene.random.pick(&[300, 160]);
+    let rows = scene.random.pick(&[450, 240]);
     scene.build(Room { scratch, cells, rows, pool: 6_000 });
     scene.add(Call::CheckTable);
     for _ in 0..2 {
@@ -162,14 +163,15 @@ fn edge_for_top(random: &mut Random, rule: &Rule) -> Edge {
 pub fn many_rows(scene: &mut Scene) {
     let rule = back_in_the_word(12);
     scene.read_surely(&rule);
-    let exact = Room { scratch: 26, cells: 16_384, rows: 8_192, pool: 28_672 };
+    let exact = Room { scratch: 26, cells: 16_384, rows: ROW_TABLE, pool: 28_672 };
     scene.build(exact);
     scene.add(Call::CheckTable);
     let word = scene.word(&rule, 30);
     scene.run_everywhere(&rule, &word);
+    scene.build(Room { rows: ROW_TABLE - 1, ..exact });
     let rule = back_in_the_word(13);
     scene.read_surely(&rule);
-    scene.build(Room { scratch: 28, cells: 40_000, rows: 20_000, pool: 200_000 });
+    scene.build(Room { scratch: 28, cells: 40_000, rows: 30_000, pool: 200_000 });
 }
 
 /// Accepts the words whose symbol so far back from the end is 1.

@@ -10,12 +10,14 @@ mod cover;
 mod damage;
 mod held;
 mod limits;
+mod plain;
 mod random;
 mod rules;
 mod scene;
 mod scenes;
 mod side;
 mod tables;
+mod verdicts;
 mod words;
 
 use cover::Cover;

@@ -1,9 +1,11 @@
 //! A scene: commands over one rule or table, with random room, fills and words.
 
 use crate::ceiling::less_ceiling;
+use crate::plain::Plain;
 use crate::random::Random;
 use crate::rules::Rule;
 use crate::words::{branch_steps, live_word, spoil};
+use alderskein::ROW_NUMBERS;
 use protocol::{Call, Room, Word};
 
 /// The most steps of a search by branch.
@@ -154,23 +156,21 @@ impl Scene<'_> {
     }
 }
 
-/// What a rule's table needs, number for number.
+/// A rule's table, and what it needs, number for number.
 pub struct Needs {
     pub room: Room,
-    /// Where each row starts in the pool.
-    starts: Vec<usize>,
+    pub table: Plain,
 }
 
 impl Needs {
     /// Room in which the row with this number finds neither a place among the rows nor one in the pool.
     pub fn short_of_both(&self, random: &mut Random, row: usize) -> Room {
-        let row_count = self.starts.len();
-        let (row_cells, start) = (self.room.cells / row_count, self.starts[row]);
-        let end = self.starts.get(row + 1).copied().unwrap_or(self.room.pool);
+        let row_cells = self.room.cells / self.row_count();
+        let [start, length] = [0, 1].map(|place| self.table.rows[ROW_NUMBERS * row + place] as usize);
         let mut room = self.room;
-        room.pool = start + random.below((end - start).max(1));
+        room.pool = start + random.below(length.max(1));
         if random.chance(50) {
-            room.rows = 2 * row + random.below(2);
+            room.rows = ROW_NUMBERS * row + random.below(ROW_NUMBERS);
         } else {
             room.cells = row * row_cells + random.below(row_cells);
         }
@@ -178,26 +178,28 @@ impl Needs {
     }
 
     pub fn row_count(&self) -> usize {
-        self.starts.len()
+        self.table.row_count()
     }
 }
 
-/// What the rule's table needs; nothing if the listing program's room is too small for it.
+/// The rule's table and what it needs; nothing if the listing program's room is too small for it.
 pub fn needs(rule: &Rule) -> Option<Needs> {
     let mut edges = vec![0; EDGE_TABLE];
     let [mut scratch, mut cells, mut rows, mut pool] =
-        [16_384, 16_384, 2_048, 8_192].map(|length| vec![0; length]);
+        [LISTING.scratch, LISTING.cells, LISTING.rows, LISTING.pool].map(|length| vec![0; length]);
     let head = reference::read_rule(&rule.file(), &mut edges).ok()?;
     let built = reference::build_table(&head, &edges, &mut scratch, &mut cells, &mut rows, &mut pool).ok()?;
     let row_count = built.rows as usize;
     let room = Room {
         scratch: rule.code_count(),
         cells: row_count * usize::from(rule.symbols) * rule.intervals(),
-        rows: 2 * row_count,
+        rows: ROW_NUMBERS * row_count,
         pool: built.pool as usize,
     };
-    let starts = rows[..room.rows].chunks_exact(2).map(|row| row[0] as usize).collect();
-    Some(Needs { room, starts })
+    cells.truncate(room.cells);
+    rows.truncate(room.rows);
+    pool.truncate(room.pool);
+    Some(Needs { room, table: Plain { built: built.to_numbers(), cells, rows, pool } })
 }
 
 /// The room that the rule's table needs, or the listing program's.

@@ -8,13 +8,14 @@ use crate::random::Random;
 use crate::rules::{any_rule, Rule, EDGE_NUMBERS, FIRST_CONSTANT, MIDDLE, SMALL, WIDE};
 use crate::scene::{needs, room_for, Needs, Scene, EDGE_TABLE, LISTING};
 use crate::tables;
+use crate::verdicts;
 use crate::words::spoil;
 use protocol::{Call, Room, What, Word};
 
 type Kind = fn(&mut Scene);
 
 /// The common kinds with their weights.
-const COMMON: [(&str, usize, Kind); 12] = [
+const COMMON: [(&str, usize, Kind); 13] = [
     ("whole rules", 30, whole_rule),
     ("damaged files", 25, damaged),
     ("changed rules", 15, changed_rule),
@@ -22,6 +23,7 @@ const COMMON: [(&str, usize, Kind); 12] = [
     ("tables filled by hand", 12, tables::by_hand),
     ("changed tables", 12, tables::changed),
     ("tables at limits", 6, tables::at_limit),
+    ("verdicts wrong and right", 10, verdicts::wrong_and_right),
     ("bad words", 15, bad_words),
     ("followers", 10, tables::followers),
     ("loose words", 8, loose_words),
@@ -87,15 +89,18 @@ fn whole_rule(scene: &mut Scene) {
     decide_somehow(scene, &rule, exact);
 }
 
-/// Builds in room that is too short by one table or by two.
+/// Builds in room that just fits, and that is too short by some row numbers, by one table or by two.
 fn build_tightly(scene: &mut Scene, needs: Option<&Needs>, exact: Room) {
-    let room = scene.less(exact);
-    scene.build(room);
     if let Some(needs) = needs {
+        scene.build(exact);
+        let rows = exact.rows - scene.random.pick(&[1, 1, 2, 3]);
+        scene.build(Room { rows, ..exact });
         let row = scene.random.below(needs.row_count());
         let room = needs.short_of_both(scene.random, row);
         scene.build(room);
     }
+    let room = scene.less(exact);
+    scene.build(room);
 }
 
 /// All three calls in a row, in room that is enough or not.
@@ -113,7 +118,7 @@ fn wide_rule(scene: &mut Scene) {
     scene.read(rule.file());
     scene.add(Call::CheckRule);
     scene.write(&rule.file());
-    scene.build(Room { scratch: rule.code_count(), cells: 30_000, rows: 300, pool: 20_000 });
+    scene.build(Room { scratch: rule.code_count(), cells: 30_000, rows: 450, pool: 20_000 });
     for _ in 0..3 {
         let word = scene.word(&rule, 8);
         scene.run_everywhere(&rule, &word);
@@ -153,7 +158,7 @@ fn changed_rule(scene: &mut Scene) {
         }
         scene.add(Call::CheckRule);
         scene.write(&rule.file());
-        scene.build(Room { scratch: 65_536, cells: 2_000, rows: 100, pool: 500 });
+        scene.build(Room { scratch: 65_536, cells: 2_000, rows: 150, pool: 500 });
         let word = scene.any_word(&rule, 3);
         scene.exact(&rule, word.clone());
         scene.branch(&rule, &word);
