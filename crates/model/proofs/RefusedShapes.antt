@@ -71,7 +71,7 @@ unfolding inShape shapeRefusal worked-tables allMet with-built with-rows with-po
 chains-met = refl
 
 -- a stored verdict is what the row's codes say, of the first row and of the last, of one with codes and of one without;
--- no other number is. The final set is location 0: codes 0 to 2 say yes, 3 to 5 no, and one that says yes is enough.
+-- no other number is; no row past R is looked at. The final set is location 0: codes 0 to 2 say yes, 3 to 5 no, and one that says yes is enough.
 verdicts : List Case
 verdicts =
     case (shapeRefusal (with-rows (0 ∷ 1 ∷ 0 ∷ 1 ∷ 0 ∷ 0 ∷ 1 ∷ 1 ∷ 0 ∷ []))) (refusal 25 0)
@@ -80,6 +80,7 @@ verdicts =
     ∷ case (shapeRefusal (with-rows (0 ∷ 1 ∷ 1 ∷ 1 ∷ 0 ∷ 2 ∷ 1 ∷ 1 ∷ 0 ∷ []))) (refusal 25 0)
     ∷ case (shapeRefusal (with-rows (0 ∷ 1 ∷ 1 ∷ 1 ∷ 0 ∷ 0 ∷ 1 ∷ 1 ∷ 1 ∷ []))) (refusal 25 0)
     ∷ case (shapeRefusal (with-rows (0 ∷ 1 ∷ 1 ∷ 1 ∷ 0 ∷ 0 ∷ 1 ∷ 1 ∷ 2 ∷ []))) (refusal 25 0)
+    ∷ case (shapeRefusal (with-rows (0 ∷ 1 ∷ 1 ∷ 1 ∷ 0 ∷ 0 ∷ 1 ∷ 1 ∷ 0 ∷ 0 ∷ 1 ∷ 0 ∷ []))) fine
     ∷ case (shapeRefusal (with-pool (2 ∷ 3 ∷ []))) fine
     ∷ case (shapeRefusal (with-pool (3 ∷ 3 ∷ []))) (refusal 25 0)
     ∷ case (shapeRefusal (with-pool (0 ∷ 2 ∷ []))) (refusal 25 0)
