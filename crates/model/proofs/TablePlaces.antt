@@ -15,11 +15,11 @@ use Rattle.model.specs.Rules.{Rule}
 use Rattle.model.specs.Construction.{width, rowsOf, rowAt, cellOf, locationOf, holdsFinal}
 use Rattle.model.specs.Tables.{cellsFrom, symbolCells, cellNumbers, rowWidth, rowNumbers, poolNumbers}
 use Rattle.model.specs.Tables.{rowVerdict, builtBy, tablesBy, tablesOf}
-use Rattle.model.specs.Walks.{rowCodes, anyFinal, codesSay, verdict, cellAt}
+use Rattle.model.specs.Walks.{rowCodes, codesSay, verdict, cellAt}
 use Rattle.model.specs.Claims.{Every-place}
 use Rattle.model.proofs.Logic.{first-part}
 use Rattle.model.proofs.Masks.{Asc, mask-bits}
-use Rattle.model.proofs.Valid.{Valid, valid-of}
+use Rattle.model.proofs.Valid.{Valid}
 use Rattle.model.proofs.Rising.{rising-asc}
 
 -- a place past the first of two lists

@@ -22,7 +22,6 @@ use model::EDGE_NEED;
 use model::EDGE_WIDTH;
 use model::Head;
 use model::MOST_ATOMS;
-use model::MOST_CONSTANT;
 use model::MOST_EDGES;
 use model::MOST_PAIRS;
 use numbers::wide32;

@@ -2,7 +2,7 @@
 use mathlib.Core.Path.{_≡_, refl, sym, _∙_, ap}
 use mathlib.Core.Bool.{Bool, true, false, _&&_, _||_}
 use mathlib.Core.List.{List, [], _∷_}
-use Prim.Native.Nat.{ℕ, zero, suc, _+_, _-_, _*_, _/_, _^_, _≤_, _<_}
+use Prim.Native.Nat.{ℕ, zero, suc, _+_, _-_, _*_, _/_, _≤_, _<_}
 use native.Mathlib.Omega.{arith}
 use native.Mathlib.Numerals.{add-one}
 use native.Mathlib.Nat.{one-le-pow, mul-le-mul-right}
@@ -14,12 +14,11 @@ use Rattle.model.specs.declared.Built.{Built}
 use Rattle.model.specs.Basics.{oneIf, bit, within, allBelow}
 use Rattle.model.specs.Rules.{mostPairs, mostConstant, sizesOk}
 use Rattle.model.specs.Construction.{mostRows}
-use Rattle.model.specs.Tables.{Tables, tables, rowWidth, rowStart, rowLength, rowVerdict, codesAt}
-use Rattle.model.specs.Walks.{locationWeight, builtPairs, builtSizesOk, rowsChain, rowCodes, anyFinal, codesSay}
-use Rattle.model.specs.Walks.{verdictsOk}
+use Rattle.model.specs.Tables.{rowWidth, rowStart, rowLength, rowVerdict, codesAt}
+use Rattle.model.specs.Walks.{locationWeight, builtPairs, rowsChain, anyFinal, codesSay, verdictsOk}
 use Rattle.model.proofs.Logic.{and-left, and-right}
 use Rattle.model.proofs.Valid.{sizes-of}
-use Rattle.shape.specs.Ranges.{sizesInRange, rowsOk}
+use Rattle.shape.specs.Ranges.{sizesInRange}
 use Rattle.shape.specs.Verdicts.{whole, reciprocal, finalBy, ProductsFit, Settled}
 use Rattle.shape.proofs.Reciprocal.{by-reciprocal, product-fits}
 
@@ -94,9 +93,10 @@ pub chain-most : (n p : ℕ) (rows : List ℕ) (total : ℕ) → rowsChain n p r
 chain-most zero p rows total e = omega (arith, eqb-true p total e)
 chain-most (suc n) p rows total e =
     let rest = rowsChain n (p + rowLength rows 0) (drop rowWidth rows) total in
-    omega
-    (arith,
-      chain-most n (p + rowLength rows 0) (drop rowWidth rows) total (and-right (eqb (rowStart rows 0) p) rest e))
+    omega (
+      arith,
+      chain-most n (p + rowLength rows 0) (drop rowWidth rows) total (and-right (eqb (rowStart rows 0) p) rest e),
+    )
 
 pub row-ends :
     (n p : ℕ) (rows : List ℕ) (total i : ℕ) → rowsChain n p rows total ≡ true → i < n
@@ -105,9 +105,11 @@ row-ends zero p rows total i e h = absurd (omega arith)
 row-ends (suc n) p rows total zero e h =
     let rest = rowsChain n (p + rowLength rows 0) (drop rowWidth rows) total in
     let start : rowStart rows 0 ≡ p = eqb-true (rowStart rows 0) p (and-left (eqb (rowStart rows 0) p) rest e) in
-    omega
-    (arith, start,
-      chain-most n (p + rowLength rows 0) (drop rowWidth rows) total (and-right (eqb (rowStart rows 0) p) rest e))
+    omega (
+      arith,
+      start,
+      chain-most n (p + rowLength rows 0) (drop rowWidth rows) total (and-right (eqb (rowStart rows 0) p) rest e),
+    )
 row-ends (suc n) p rows total (suc i) e h =
     let rest = rowsChain n (p + rowLength rows 0) (drop rowWidth rows) total in
     let a : rowStart rows (suc i) ≡ rowStart (drop rowWidth rows) i =
