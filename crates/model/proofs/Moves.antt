@@ -70,7 +70,8 @@ answers f symbol t answer =
 
 short-answers : Follower → ℕ → ℕ → Followed → Type 0
 short-answers f symbol t answer =
-    FollowsEvent f (worked-tables .built) (worked-tables .cells) (0 ∷ 1 ∷ 1 ∷ 1 ∷ 0 ∷ 0 ∷ []) (worked-tables .pool) symbol
+    FollowsEvent f (worked-tables .built) (worked-tables .cells) (0 ∷ 1 ∷ 1 ∷ 1 ∷ 0 ∷ 0 ∷ []) (worked-tables .pool)
+    symbol
     (at t)
     answer
 

@@ -71,7 +71,8 @@ unfolding inShape shapeRefusal worked-tables allMet with-built with-rows with-po
 chains-met = refl
 
 -- a stored verdict is what the row's codes say, of the first row and of the last, of one with codes and of one without;
--- no other number is; no row past R is looked at. The final set is location 0: codes 0 to 2 say yes, 3 to 5 no, and one that says yes is enough.
+-- no other number is; no row past R is looked at. The final set is location 0: codes 0 to 2 say yes, 3 to 5 no, and
+-- one that says yes is enough.
 verdicts : List Case
 verdicts =
     case (shapeRefusal (with-rows (0 ∷ 1 ∷ 0 ∷ 1 ∷ 0 ∷ 0 ∷ 1 ∷ 1 ∷ 0 ∷ []))) (refusal 25 0)

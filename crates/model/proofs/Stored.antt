@@ -20,21 +20,23 @@ module _ (t : Tables) where
   said : ℕ → ℕ
   said n = oneIf (codesSay (t .built) (rowCodes t n))
 
-  pub stored-at :
+  is-said : ℕ → Bool
+  is-said n = eqb (rowVerdict (t .rows) n) (said n)
+
+  said-from : ℕ → ℕ → Bool
+  said-from n i = verdictsOk n i (t .built) (t .rows) (t .pool)
+
+  stored-at :
       (n i k : ℕ) → verdictsOk n i (t .built) (t .rows) (t .pool) ≡ true → k < n
       → rowVerdict (t .rows) (i + k) ≡ oneIf (codesSay (t .built) (rowCodes t (i + k)))
-  unfolding said
+  unfolding said is-said said-from
   stored-at zero i k h l = absurd (omega arith)
   stored-at (suc n) i zero h l =
       let e : i + 0 ≡ i = omega arith in
-      rw e
-      (eqb-true (rowVerdict (t .rows) i) (said i)
-      (and-left (eqb (rowVerdict (t .rows) i) (said i)) (verdictsOk n (suc i) (t .built) (t .rows) (t .pool)) h))
+      rw e (eqb-true (rowVerdict (t .rows) i) (said i) (and-left (is-said i) (said-from n (suc i)) h))
   stored-at (suc n) i (suc k) h l =
       let e : i + suc k ≡ suc i + k = omega arith in
-      rw e
-      (stored-at n (suc i) k (and-right (eqb (rowVerdict (t .rows) i) (said i)) (verdictsOk n (suc i) (t .built) (t .rows) (t .pool)) h)
-      (omega arith))
+      rw e (stored-at n (suc i) k (and-right (is-said i) (said-from n (suc i)) h) (omega arith))
 
   pub stored-said :
       (n : ℕ) → inShape t ≡ true → n < t .built .rows

@@ -40,8 +40,7 @@ pub(crate) fn row_says(codes: &[u32], reciprocal: usize, ends: u32) -> u32
     says
 }
 
-// Every row stores what its codes say. The rows are known to lie in their table, so no place is tested here, as `tables`
-// does.
+// Every row stores what its codes say. The rows are known to lie in their table, so no place is tested.
 pub(crate) fn verdicts_ok(built: Built, weight: usize, rows: &[u32], pool: &[u32]) -> bool
     requires { ⌜ Settled built (now rows) (now pool) ⌝ }
     requires { ⌜ weight ≡ locationWeight built ⌝ }

@@ -12,8 +12,8 @@ use Rattle.shape.proofs.Shape.{settled, all-but-verdicts}
 use Rattle.shape.proofs.in_shape.Statement.{statement}
 use Rattle.shape.proofs.in_shape.Tie as tie
 
--- where the ranges are in order, what was lent; the weight that N is counted by; where the counts are, N as counted; where P is read, the lengths;
--- where the codes are looked at, P
+-- where the ranges are in order, what was lent; where N is counted, the weight; where the counts are in order, N as
+-- counted; where P is read, the lengths; where the codes are looked at, P
 abbrev lent : tie.Else1 → tie.Start
 lent c = c .before .before .before .before .before
 
@@ -130,7 +130,8 @@ cells-ok-requires : tie.Need-cells-ok-requires
 cells-ok-requires c κs = rows-most (coded-at (c .before))
 
 returns-6 : tie.Need-returns-6
-returns-6 c = cell-out (coded-at (c .before .before .before)) (is-false (c .before .cells-ok .ensures _) (c .if6 .taken))
+returns-6 c =
+    cell-out (coded-at (c .before .before .before)) (is-false (c .before .cells-ok .ensures _) (c .if6 .taken))
 
 verdicts-ok-requires : tie.Need-verdicts-ok-requires
 verdicts-ok-requires c κs =
