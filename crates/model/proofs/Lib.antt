@@ -59,7 +59,8 @@ pub mod Agreement
 pub mod RowsKeep
 pub mod RowNumbers
 pub mod Discovery
--- The tables: room, places, row 0, walk, shape, what a row stores; the follower against the runs
+-- The tables: room, places, row 0, walk, shape, what a row stores, the walk over any table in shape; the
+-- follower against the runs
 pub mod CodeBounds
 pub mod TableRoom
 pub mod TablePlaces
@@ -67,6 +68,7 @@ pub mod StartRow
 pub mod TableWalk
 pub mod Shape
 pub mod Stored
+pub mod ShapeWalk
 pub mod FollowerWalk
 -- Rule files: numbers as bytes; one record read; the writing of a valid rule is accepted and spells it; an accepted
 -- file spells a valid rule and has the bytes of its writing
