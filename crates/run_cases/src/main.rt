@@ -172,7 +172,7 @@ fn main() {
     let head = reading.head;
     let mut scratch = [7u32; 6];
     let mut cells = [7u32; 24];
-    let mut rows = [7u32; 6];
+    let mut rows = [7u32; 9];
     let mut pool = [7u32; 2];
     let building = build_table(head, &edges, &mut scratch, &mut cells, &mut rows, &mut pool);
     let built = building.built;
