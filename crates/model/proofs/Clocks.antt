@@ -10,13 +10,14 @@ use lib.Dec.{eqb, ltb, leb}
 use lib.ListN.{length, getD}
 use borrow.Author.Tests.{eqb-true, ltb-true, leb-true}
 use Rattle.model.specs.Basics.{pick, zeros, bit}
-use Rattle.model.specs.Rules.{Atom, hasEqual}
+use Rattle.model.specs.Rules.{Atom, isPinned}
 use Rattle.model.specs.Guards.{related, meets, guard}
 use Rattle.model.specs.Runs.{older, zeroedFrom}
 use Rattle.model.specs.Construction.{intervalOf, regionOf, regionsOf, regionsHold, advanced}
 use Rattle.model.specs.Claims.{tracks, tracksAll, atomsWithin, Guards-agree}
-use Rattle.model.proofs.Logic.{no-way, by-test, and-left, and-right, In, here, there, Some, some-either}
-use Rattle.model.proofs.Guards.{same-tests, met-each}
+use Rattle.model.proofs.Logic.{no-way, by-test, and-left, and-right, In, here, there}
+use Rattle.model.proofs.Guards.{same-tests}
+use Rattle.model.proofs.Pins.{pinned-reads}
 use Rattle.model.proofs.Regions.{Tracks, near, far, side, related-agrees, even-region, Whole, advance-one}
 use Rattle.model.proofs.Regions.{zero-one, older-one}
 
@@ -92,25 +93,17 @@ guards-agree c d t bs ages xs hd r w =
     tracked-guards c d t bs ages xs (leb-true 1 d hd) (tracks-each c d t bs ages r)
     (λ a i. atom-within (length bs) c xs w a i .0) (λ a i. atom-within (length bs) c xs w a i .1)
 
--- a guard with an equality holds at even intervals only: it asks that a region is an even number
-equal-in : (xs : List Atom) → hasEqual xs ≡ true → Some (λ a. a .relation ≡ 2) xs
-equal-in [] h = no-way h
-equal-in (a ∷ xs) h =
-    some-either (eqb (a .relation) 2) (hasEqual xs) h (eqb-true (a .relation) 2) (equal-in xs)
-
+-- a pinned guard holds at even intervals only: some clock's region is twice a constant
 pub even-guard :
-    (c i : ℕ) (bs : List ℕ) (xs : List Atom) → ((a : Atom) → In a xs → a .clock < length bs) → hasEqual xs ≡ true
+    (c i : ℕ) (bs : List ℕ) (xs : List Atom) → ((a : Atom) → In a xs → a .clock < length bs) → isPinned xs ≡ true
     → regionsHold c i bs xs ≡ true
     → i % 2 ≡ 0
 even-guard c i bs xs clock-in h m =
-    let p = equal-in xs h in
+    let p = pinned-reads 2 (regionsOf c i bs) xs m h in
     let a : Atom = p .member in
-    let x : ℕ = regionOf c (getD bs (a .clock) 0) i in
-    let holds-it : related (a .relation) (getD (regionsOf c i bs) (a .clock) 0) (a .constant * 2) ≡ true =
-    met-each 0 (meets 2 (regionsOf c i bs)) xs m a (p .is-in) in
-    let e : a .constant * 2 ≡ 2 * a .constant = omega arith in
-    even-region c (getD bs (a .clock) 0) i (a .constant)
-    (eqb-true x (2 * a .constant) (rw (p .such, region-at c i bs (a .clock) (clock-in a (p .is-in)), e) at holds-it))
+    let region-is : regionOf c (getD bs (a .clock) 0) i ≡ a .constant * 2 =
+    rw (region-at c i bs (a .clock) (clock-in a (p .is-in))) at (p .such) in
+    even-region c (getD bs (a .clock) 0) i (a .constant) (omega (arith, region-is))
 
 -- a timer reset
 advance-half :

@@ -1,5 +1,5 @@
 -- P1 to P9 of document 01 as one list with one claim, and the whole tables of the worked case and of a second rule that
--- tells apart what the first does not. All by computation from the definitions.
+-- tells apart what the first does not, by equalities and from both sides. All by computation from the definitions.
 use mathlib.Core.Path.{_≡_, refl}
 use mathlib.Core.Bool.{Bool, true, false}
 use mathlib.Core.List.{List, [], _∷_, _++_}
@@ -139,6 +139,27 @@ unfolding maskOf cm pairCount recordRefusal withRecord atEnd readFrom readRule
     codeOf locationOf basesOf startRow allows rowResets targetOf nextRow byIntervals bySymbols rowsFrom rowsOf cellOf
     holdsFinal tablesBy tablesOf second-locations second-records second-file second second-tables
 second-table-is = refl
+
+-- The same rule pinned from both sides (2.4): in the place of each equality an at-least and an at-most, once apart and
+-- in the other order. The same table.
+unfoldable pub sided-file : List ℕ
+sided-file =
+    second-locations
+    ++ numbers
+    ((26 ∷ 5 ∷ 0 ∷ 1 ∷ 1 ∷ 2 ∷ 0 ∷ 1 ∷ 1 ∷ 1 ∷ 1 ∷ 1 ∷ 0 ∷ 3 ∷ 1 ∷ [])
+    ++ ((20 ∷ 5 ∷ 1 ∷ 2 ∷ 0 ∷ 0 ∷ 1 ∷ 0 ∷ 1 ∷ 0 ∷ 3 ∷ 1 ∷ [])
+    ++ ((20 ∷ 5 ∷ 1 ∷ 0 ∷ 0 ∷ 1 ∷ 0 ∷ 3 ∷ 1 ∷ 0 ∷ 1 ∷ 1 ∷ [])
+    ++ ((20 ∷ 5 ∷ 2 ∷ 2 ∷ 1 ∷ 0 ∷ 1 ∷ 4 ∷ 1 ∷ 0 ∷ 4 ∷ 0 ∷ [])
+    ++ (20 ∷ 5 ∷ 2 ∷ 0 ∷ 0 ∷ 0 ∷ 0 ∷ 0 ∷ 0 ∷ 0 ∷ 1 ∷ 2 ∷ [])))))
+
+unfoldable pub sided : Rule
+sided = readRule sided-file .rule-is
+
+pub sided-table-is : tablesOf sided 72 18 7 ≡ second-tables
+unfolding maskOf cm pairCount recordRefusal withRecord atEnd readFrom readRule
+    codeOf locationOf basesOf startRow allows rowResets targetOf nextRow byIntervals bySymbols rowsFrom rowsOf cellOf
+    holdsFinal tablesBy tablesOf second-locations sided-file sided second-tables
+sided-table-is = refl
 
 -- cm: the largest constant in any atom of any edge; 0 where there is none, and where 0 is the largest
 abbrev pub timeless : List Atom → Edge

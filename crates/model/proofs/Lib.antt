@@ -44,9 +44,10 @@ pub mod LeastRun
 pub mod Configs
 pub mod Reaching
 pub mod Counted
--- Guards, atom by atom; what held a rule back (2.1)
+-- Guards, atom by atom; what held a rule back (2.1); what pins a guard (2.4)
 pub mod Guards
 pub mod HeldBack
+pub mod Pins
 -- Rows: bases track ages, codes give their pairs back, the successor row is the paper's set
 pub mod Regions
 pub mod Clocks

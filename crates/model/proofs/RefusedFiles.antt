@@ -109,7 +109,8 @@ unfolding cm pairCount recordRefusal withRecord atEnd readFrom readRule allMet r
     times orders
 orders-met = refl
 
--- 5 and 6: each number on both sides of its range; 7; 8 at the file's length, for which a ceiling counts for nothing
+-- 5 and 6: each number on both sides of its range; 6 before 7, 7 before 8; 8 at the file's length, for which a ceiling
+-- counts for nothing
 ranges : List Case
 ranges =
     case (reads (sized 32 16 4)) fine
@@ -143,9 +144,6 @@ ranges =
     ∷ case (reads (sizes ++ edge 20 0 (0 ∷ 2 ∷ 1 ∷ 1 ∷ 2 ∷ 1 ∷ []))) (refusal 6 10)
     ∷ case (reads (sized 2 2 4 ++ edge 14 15 (3 ∷ 2 ∷ 1 ∷ []))) fine
     ∷ case (reads (sized 2 2 4 ++ edge 14 16 (3 ∷ 2 ∷ 1 ∷ []))) (refusal 6 10)
-    ∷ case (reads (sizes ++ edge 20 1 (0 ∷ 3 ∷ 3 ∷ 0 ∷ 1 ∷ 3 ∷ []))) (refusal 7 10)
-    ∷ case (reads (sizes ++ edge 20 1 (0 ∷ 3 ∷ 3 ∷ 0 ∷ 2 ∷ 3 ∷ []))) fine
-    ∷ case (reads (sizes ++ edge 20 0 (0 ∷ 3 ∷ 3 ∷ 0 ∷ 1 ∷ 3 ∷ []))) fine
     ∷ case (reads (sized 16 1 3 ++ edge 14 0 (0 ∷ 1 ∷ 14 ∷ []))) fine
     ∷ case (reads (sized 17 1 3 ++ edge 14 0 (0 ∷ 1 ∷ 14 ∷ []))) (refusal 8 28)
     ∷ case (reads (sized 9 1 4 ++ edge 14 0 (0 ∷ 1 ∷ 7 ∷ []))) fine
@@ -168,3 +166,47 @@ ranges-met : allMet ranges ≡ true
 unfolding cm pairCount recordRefusal withRecord atEnd readFrom readRule allMet reads sized sizes location edge bare
     times ranges
 ranges-met = refl
+
+-- 7: pinned by an equality wherever it stands, or from both sides in either order, side by side or apart, on the clock
+-- that is reset or on another (2.4 corrects 01: at-least 3 with at-most 3). A side alone is no pin, nor is a partner
+-- with a constant one off, on another clock, strict, or the same once more. Without resets no pin is asked.
+apart : List ℕ
+apart = 0 ∷ 4 ∷ 2 ∷ 0 ∷ 0 ∷ 4 ∷ 0 ∷ 1 ∷ 5 ∷ 0 ∷ 3 ∷ 1 ∷ 0 ∷ 4 ∷ 2 ∷ 0 ∷ 0 ∷ 4 ∷ []
+
+sides : List Case
+sides =
+    case (reads (sizes ++ edge 14 1 (0 ∷ 2 ∷ 3 ∷ []))) fine
+    ∷ case (reads (sizes ++ edge 20 1 (0 ∷ 3 ∷ 3 ∷ 0 ∷ 2 ∷ 3 ∷ []))) fine
+    ∷ case (reads (sizes ++ edge 20 1 (0 ∷ 2 ∷ 3 ∷ 0 ∷ 3 ∷ 3 ∷ []))) fine
+    ∷ case (reads (sized 2 2 2 ++ edge 14 1 (1 ∷ 2 ∷ 3 ∷ []))) fine
+    ∷ case (reads (sizes ++ edge 20 1 (0 ∷ 3 ∷ 3 ∷ 0 ∷ 1 ∷ 3 ∷ []))) fine
+    ∷ case (reads (sizes ++ edge 20 1 (0 ∷ 1 ∷ 3 ∷ 0 ∷ 3 ∷ 3 ∷ []))) fine
+    ∷ case (reads (sizes ++ edge 20 1 (0 ∷ 3 ∷ 0 ∷ 0 ∷ 1 ∷ 0 ∷ []))) fine
+    ∷ case (reads (sizes ++ edge 20 1 (0 ∷ 3 ∷ 30 ∷ 0 ∷ 1 ∷ 30 ∷ []))) fine
+    ∷ case (reads (sizes ++ edge 56 1 ((0 ∷ 3 ∷ 3 ∷ []) ++ (apart ++ (0 ∷ 1 ∷ 3 ∷ []))))) fine
+    ∷ case (reads (sizes ++ edge 56 1 ((0 ∷ 1 ∷ 3 ∷ []) ++ (apart ++ (0 ∷ 3 ∷ 3 ∷ []))))) fine
+    ∷ case (reads (sizes ++ edge 56 1 ((0 ∷ 3 ∷ 3 ∷ []) ++ (apart ++ (0 ∷ 1 ∷ 2 ∷ []))))) (refusal 7 10)
+    ∷ case (reads (sizes ++ edge 26 1 (0 ∷ 3 ∷ 3 ∷ 0 ∷ 1 ∷ 4 ∷ 0 ∷ 3 ∷ 4 ∷ []))) fine
+    ∷ case (reads (sizes ++ edge 26 1 (0 ∷ 3 ∷ 3 ∷ 0 ∷ 1 ∷ 4 ∷ 0 ∷ 3 ∷ 5 ∷ []))) (refusal 7 10)
+    ∷ case (reads (sizes ++ edge 20 1 (0 ∷ 3 ∷ 3 ∷ 0 ∷ 1 ∷ 4 ∷ []))) (refusal 7 10)
+    ∷ case (reads (sizes ++ edge 20 1 (0 ∷ 3 ∷ 3 ∷ 0 ∷ 1 ∷ 2 ∷ []))) (refusal 7 10)
+    ∷ case (reads (sizes ++ edge 20 1 (0 ∷ 3 ∷ 3 ∷ 0 ∷ 0 ∷ 3 ∷ []))) (refusal 7 10)
+    ∷ case (reads (sizes ++ edge 20 1 (0 ∷ 4 ∷ 3 ∷ 0 ∷ 1 ∷ 3 ∷ []))) (refusal 7 10)
+    ∷ case (reads (sizes ++ edge 20 1 (0 ∷ 4 ∷ 2 ∷ 0 ∷ 0 ∷ 4 ∷ []))) (refusal 7 10)
+    ∷ case (reads (sizes ++ edge 20 1 (0 ∷ 1 ∷ 3 ∷ 0 ∷ 1 ∷ 3 ∷ []))) (refusal 7 10)
+    ∷ case (reads (sizes ++ edge 20 1 (0 ∷ 3 ∷ 3 ∷ 0 ∷ 3 ∷ 3 ∷ []))) (refusal 7 10)
+    ∷ case (reads (sizes ++ edge 14 1 (0 ∷ 3 ∷ 3 ∷ []))) (refusal 7 10)
+    ∷ case (reads (sizes ++ edge 14 1 (0 ∷ 1 ∷ 3 ∷ []))) (refusal 7 10)
+    ∷ case (reads (sizes ++ edge 14 1 (0 ∷ 1 ∷ 0 ∷ []))) (refusal 7 10)
+    ∷ case (reads (sized 2 2 2 ++ edge 20 1 (1 ∷ 3 ∷ 3 ∷ 1 ∷ 1 ∷ 3 ∷ []))) fine
+    ∷ case (reads (sized 2 2 2 ++ edge 20 1 (0 ∷ 3 ∷ 3 ∷ 1 ∷ 1 ∷ 3 ∷ []))) (refusal 7 10)
+    ∷ case (reads (sized 2 2 2 ++ edge 20 3 (1 ∷ 3 ∷ 3 ∷ 0 ∷ 1 ∷ 3 ∷ []))) (refusal 7 10)
+    ∷ case (reads (sized 2 2 2 ++ edge 32 3 (0 ∷ 3 ∷ 3 ∷ 1 ∷ 1 ∷ 3 ∷ 1 ∷ 3 ∷ 4 ∷ 0 ∷ 1 ∷ 4 ∷ []))) (refusal 7 10)
+    ∷ case (reads (sizes ++ edge 20 1 (0 ∷ 3 ∷ 3 ∷ 0 ∷ 1 ∷ 31 ∷ []))) (refusal 6 10)
+    ∷ case (reads (sizes ++ edge 20 0 (0 ∷ 3 ∷ 3 ∷ 0 ∷ 1 ∷ 4 ∷ []))) fine
+    ∷ case (reads (sizes ++ edge 8 0 [])) fine
+    ∷ []
+
+sides-met : allMet sides ≡ true
+unfolding cm pairCount recordRefusal withRecord atEnd readFrom readRule allMet reads sized sizes edge apart sides
+sides-met = refl

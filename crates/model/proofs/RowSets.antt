@@ -15,7 +15,7 @@ use Rattle.model.specs.Construction.{startRow, allows, pairResets, rowRe
 use Rattle.model.specs.Construction.{nextRow, holdsFinal}
 use Rattle.model.proofs.Logic.{no-way, by-test, and-left, and-right, or-left, or-right, In, here, there}
 use Rattle.model.proofs.Logic.{not-in-nil, Some, first-some, later-some, some-either, two, less, least}
-use Rattle.model.proofs.Valid.{Valid, has-equal}
+use Rattle.model.proofs.Valid.{Valid, is-pinned}
 use Rattle.model.proofs.Clocks.{even-guard}
 use Rattle.model.proofs.Codes.{digits-length, code-bases}
 
@@ -222,7 +222,7 @@ module _ (r : Rule) (s i : ℕ) where
       (λ a j.
       rw (digits-length (code-bases r (reset-of xs h .member)))
       (v .edges-in e (m .is-in) .atoms-in a j .clock-below))
-      (has-equal e (v .edges-in e (m .is-in) .pinned) (m .such .some-clock))
+      (is-pinned e (v .edges-in e (m .is-in) .pinned) (m .such .some-clock))
       (guard-of (reset-of xs h .member) e (m .such .allowed))
 
 -- a row holds a final location

@@ -10,7 +10,7 @@ use lib.ListN.{length}
 use borrow.Author.Tests.{ltb-true, leb-true, eqb-true}
 use Rattle.model.specs.Basics.{within}
 use Rattle.model.specs.Rules.{Atom, Edge, Rule, largestConstant, largestOf, cm, pairCount, mostPairs, mostEdges}
-use Rattle.model.specs.Rules.{mostAtoms, sizesOk, atomOk, atomsOk, edgeOk, hasEqual, integerReset, rising}
+use Rattle.model.specs.Rules.{mostAtoms, sizesOk, atomOk, atomsOk, edgeOk, isPinned, integerReset, rising}
 use Rattle.model.specs.Rules.{edgesOk, validRule}
 use Rattle.model.proofs.Logic.{and-left, and-right, or-cases, within-least, within-most, larger-left}
 use Rattle.model.proofs.Logic.{larger-right, larger-most, In, here, there}
@@ -200,10 +200,10 @@ cm-most r v =
     edges-largest (r .edges) 30
     (λ e i. atoms-largest (e .atoms) 30 (λ a j. v .edges-in e i .atoms-in a j .constant-most))
 
--- an edge that resets a clock has an equality
-pub has-equal : (e : Edge) → integerReset e ≡ true → 1 ≤ e .resets → hasEqual (e .atoms) ≡ true
-has-equal e h p =
-    elim (or-cases (eqb (e .resets) 0) (hasEqual (e .atoms)) h) [
+-- an edge that resets a clock is pinned
+pub is-pinned : (e : Edge) → integerReset e ≡ true → 1 ≤ e .resets → isPinned (e .atoms) ≡ true
+is-pinned e h p =
+    elim (or-cases (eqb (e .resets) 0) (isPinned (e .atoms)) h) [
       | inl z ↦ absurd (omega (arith, eqb-true (e .resets) 0 z))
       | inr q ↦ q
     ]

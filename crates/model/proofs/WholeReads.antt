@@ -14,6 +14,7 @@ use Rattle.model.specs.Files.{fileWith, ruleBytes}
 use Rattle.model.specs.Layout.{edgesNumbers, edgeTable, ruleIn, isReadable, ruleRefusal}
 use Rattle.model.specs.Promises.{ChecksRule, readRefusal, ReadsRule, writeRefusal, WritesRule}
 use Rattle.model.proofs.Examples.{worked-file, second-locations, second-records, second-file, second-less}
+use Rattle.model.proofs.Examples.{sided-file}
 use Rattle.model.proofs.Cases.{worked-head, worked-edges, zero-head}
 
 -- the head record and the edge table of the second rule
@@ -27,6 +28,15 @@ second-edges =
     ++ ((1 ∷ 0 ∷ 0 ∷ 1 ∷ 1 ∷ 0 ∷ 2 ∷ 1 ∷ replicate 21 0)
     ++ ((2 ∷ 2 ∷ 1 ∷ 0 ∷ 2 ∷ 1 ∷ 4 ∷ 1 ∷ 0 ∷ 4 ∷ 0 ∷ replicate 18 0)
     ++ ((2 ∷ 0 ∷ 0 ∷ 0 ∷ 2 ∷ 0 ∷ 0 ∷ 0 ∷ 0 ∷ 1 ∷ 2 ∷ replicate 18 0) ++ replicate 7281 0))))
+
+-- pinned from both sides; the first edge's at-most with any constant
+sided-edges : ℕ → List ℕ
+sided-edges constant =
+    (0 ∷ 1 ∷ 1 ∷ 2 ∷ 3 ∷ 0 ∷ 1 ∷ constant ∷ 1 ∷ 1 ∷ 1 ∷ 0 ∷ 3 ∷ 1 ∷ replicate 15 0)
+    ++ ((1 ∷ 2 ∷ 0 ∷ 0 ∷ 2 ∷ 1 ∷ 0 ∷ 1 ∷ 0 ∷ 3 ∷ 1 ∷ replicate 18 0)
+    ++ ((1 ∷ 0 ∷ 0 ∷ 1 ∷ 2 ∷ 0 ∷ 3 ∷ 1 ∷ 0 ∷ 1 ∷ 1 ∷ replicate 18 0)
+    ++ ((2 ∷ 2 ∷ 1 ∷ 0 ∷ 2 ∷ 1 ∷ 4 ∷ 1 ∷ 0 ∷ 4 ∷ 0 ∷ replicate 18 0)
+    ++ ((2 ∷ 0 ∷ 0 ∷ 0 ∷ 2 ∷ 0 ∷ 0 ∷ 0 ∷ 0 ∷ 1 ∷ 2 ∷ replicate 18 0) ++ replicate 7279 0))))
 
 -- the widest rule: 32 locations, 16 symbols, 4 clocks, an edge with eight atoms; the last location in both sets
 eight-atoms : List ℕ
@@ -107,14 +117,16 @@ reads-filled =
     ReadsRule worked-file (replicate 7424 5) (worked-edges 7366) (reading 0 0 worked-head)
     × ReadsRule second-file (replicate 7426 5) second-edges (reading 0 0 second-head)
     × ReadsRule second-less (replicate 7426 5) second-edges (reading 0 0 second-head)
+    × ReadsRule sided-file (replicate 7424 5) (sided-edges 1) (reading 0 0 second-head)
     × ReadsRule widest-file (replicate 7425 5) widest-edges (reading 0 0 widest-head)
     × ReadsRule (widest-with (2 ∷ 4 ∷ 30 ∷ [])) (replicate 7425 5) widest-edges (reading 0 0 widest-head)
 
 reads-filled-are : reads-filled
 unfolding maskOf cm pairCount recordRefusal withRecord atEnd readFrom readRule edgesNumbers edgeTable readRefusal
-    worked-file second-locations second-records second-file second-less second-head second-edges eight-atoms
-    widest-with widest-file widest-head widest-edges reading reads-filled
+    worked-file second-locations second-records second-file second-less second-head second-edges sided-file sided-edges
+    eight-atoms widest-with widest-file widest-head widest-edges reading reads-filled
 reads-filled-are = (
+  record { answer-is = refl; edges-are = refl },
   record { answer-is = refl; edges-are = refl },
   record { answer-is = refl; edges-are = refl },
   record { answer-is = refl; edges-are = refl },
@@ -142,11 +154,17 @@ checks =
     × ChecksRule (other-head 1 1 3) (worked-edges 7366) (answer 0 0)
     × ChecksRule worked-head (2 ∷ drop 1 (worked-edges 7366)) (answer 21 0)
     × ChecksRule worked-head (worked-edges 7366 ++ (1 ∷ [])) (answer 21 0)
+    × ChecksRule second-head (sided-edges 1) (answer 0 0)
+    × ChecksRule second-head (sided-edges 0) (answer 21 0)
+    × ChecksRule second-head (sided-edges 2) (answer 21 0)
 
 checks-are : checks
-unfolding maskOf bitsFrom cm pairCount validRule edgesNumbers edgeTable ruleIn isReadable ruleRefusal other-head
-    answer checks
+unfolding maskOf bitsFrom cm pairCount validRule edgesNumbers edgeTable ruleIn isReadable ruleRefusal second-head
+    sided-edges other-head answer checks
 checks-are = (
+  record { answer-is = refl },
+  record { answer-is = refl },
+  record { answer-is = refl },
   record { answer-is = refl },
   record { answer-is = refl },
   record { answer-is = refl },

@@ -7,15 +7,15 @@ use lib.ListN.{getD}
 use Rattle.model.specs.declared.Guard.{Guard}
 use Rattle.model.specs.declared.Guard.the-variants.{Holds, Fails}
 use Rattle.model.specs.Basics.{pick}
-use Rattle.model.specs.Rules.{Atom}
+use Rattle.model.specs.Rules.{Atom, less, atMost, equal, atLeast}
 
--- the relations by their codes: 0 less, 1 at most, 2 equal, 3 at least, 4 greater
+-- what each relation asks of a value and a limit
 abbrev pub related : ℕ → ℕ → ℕ → Bool
 related relation value limit =
-    pick (eqb relation 0) (ltb value limit)
-    (pick (eqb relation 1) (leb value limit)
-    (pick (eqb relation 2) (eqb value limit)
-    (pick (eqb relation 3) (leb limit value) (ltb limit value))))
+    pick (eqb relation less) (ltb value limit)
+    (pick (eqb relation atMost) (leb value limit)
+    (pick (eqb relation equal) (eqb value limit)
+    (pick (eqb relation atLeast) (leb limit value) (ltb limit value))))
 
 -- an atom over what the clocks read: ages, where one of a constant is `unit` = D, or regions, where it is 2
 abbrev pub meets : ℕ → List ℕ → Atom → Bool
