@@ -1,20 +1,19 @@
 -- What each test of an edge's numbers says of its definition, over plain variables.
 use mathlib.Core.Path.{_≡_, refl, sym, _∙_, ap, ap₂}
-use mathlib.Core.Bool.{Bool, true, false, _&&_, _||_}
+use mathlib.Core.Bool.{Bool, true, false}
 use mathlib.Core.List.{List, [], _∷_}
 use Prim.Native.Nat.{ℕ, zero, suc, _+_, _-_, _*_, _/_, _^_, _≤_, _<_}
 use native.Mathlib.Omega.{arith}
-use lib.Dec.{eqb, ltb, leb}
+use lib.Dec.{ltb}
 use lib.ListN.{length, getD, take, drop}
 use lib.Seq.{length-take-le}
-use borrow.Author.Tests.{lt-ltb, le-ltb, le-leb, lt-leb, eq-eqb, ne-eqb}
+use borrow.Author.Tests.{lt-ltb, le-ltb, le-leb, lt-leb}
 use Rattle.model.specs.declared.Head.{Head}
-use Rattle.model.specs.Rules.{Atom, mostConstant, mostRelation, atomsOk, hasEqual}
+use Rattle.model.specs.Rules.{Atom, mostConstant, mostRelation, atomsOk}
 use Rattle.model.specs.Files.{atomNumbers}
 use Rattle.model.specs.Layout.{atomWidth, atomsIn}
-use Rattle.model.proofs.Logic.{or-right}
 use Rattle.model.proofs.EdgeTable.{atoms-rest}
-use Rattle.edges.specs.Checks.{fieldsOk}
+use Rattle.edges.specs.Checks.{fieldsOk, wholeAtoms}
 
 -- The fields in turn: l, s and the fields as they were read.
 module _
@@ -48,97 +47,72 @@ module _
             )
             (e ∙ ap₂ (λ (m n : ℕ). ltb m (2 ^ n)) resets-is k-is)
 
--- The atoms from number j on, with their ranges.
-pub record Atoms (clocks count j : ℕ) (t : List ℕ) : Type 0 where
+-- A test of the atoms, one after the other: what it says of those from number j on is what it says of all.
+pub record Left (test : List Atom → Bool) (count j : ℕ) (t : List ℕ) : Type 0 where
   pub turns : j ≤ count
-  pub rest-is : atomsOk clocks (atomsIn (count - j) (drop (atomWidth * j) t)) ≡ atomsOk clocks (atomsIn count t)
+  pub rest-is : test (atomsIn (count - j) (drop (atomWidth * j) t)) ≡ test (atomsIn count t)
 
-pub atoms-start : (clocks count : ℕ) (t : List ℕ) → Atoms clocks count 0 t
-atoms-start clocks count t =
+pub left-start : (test : List Atom → Bool) (count : ℕ) (t : List ℕ) → Left test count 0 t
+left-start test count t =
     let z : count - 0 ≡ count = omega arith in
     record { turns = omega arith; rest-is = rw z }
 
-module _ {clocks count j : ℕ} {t : List ℕ} (inv : Atoms clocks count j t) (h : j < count) where
-  atoms-at :
-      atomsOk clocks (atomsIn count t)
-      ≡ (ltb (getD t (atomWidth * j) 0) clocks && leb (getD t (atomWidth * j + 1) 0) mostRelation
-      && leb (getD t (atomWidth * j + 2) 0) mostConstant
-      && atomsOk clocks (atomsIn (count - (j + 1)) (drop (atomWidth * (j + 1)) t)))
-  atoms-at = sym (inv .rest-is) ∙ ap (atomsOk clocks) (atoms-rest count j t h)
+pub left-end :
+    {test : List Atom → Bool} {count j : ℕ} {t : List ℕ} → Left test count j t → count ≤ j
+    → test [] ≡ test (atomsIn count t)
+left-end {test} {count} {j} {t} inv h =
+    let z : count - j ≡ 0 = omega arith in
+    rw z at (inv .rest-is)
 
+module _ {test : List Atom → Bool} {count j : ℕ} {t : List ℕ} (inv : Left test count j t) (h : j < count) where
+  -- the atom at number j, and those behind it
+  abbrev pub present : Atom
+  present = record {
+    clock = getD t (atomWidth * j) 0;
+    relation = getD t (atomWidth * j + 1) 0;
+    constant = getD t (atomWidth * j + 2) 0;
+  }
+
+  abbrev pub behind : List Atom
+  behind = atomsIn (count - (j + 1)) (drop (atomWidth * (j + 1)) t)
+
+  pub left-at : test (atomsIn count t) ≡ test (present ∷ behind)
+  left-at = sym (inv .rest-is) ∙ ap test (atoms-rest count j t h)
+
+  pub left-next : test (present ∷ behind) ≡ test behind → Left test count (j + 1) t
+  left-next e = record { turns = omega arith; rest-is = sym (left-at ∙ e) }
+
+-- Each atom in its ranges.
+module _ {clocks count j : ℕ} {t : List ℕ} (inv : Left (atomsOk clocks) count j t) (h : j < count) where
   pub atoms-clock : clocks ≤ getD t (atomWidth * j) 0 → false ≡ atomsOk clocks (atomsIn count t)
-  atoms-clock a = sym (atoms-at ∙ rw (le-ltb (getD t (atomWidth * j) 0) clocks a))
+  atoms-clock a = sym (left-at inv h ∙ rw (le-ltb (getD t (atomWidth * j) 0) clocks a))
 
   module _ (a : getD t (atomWidth * j) 0 < clocks) where
     pub atoms-relation : mostRelation < getD t (atomWidth * j + 1) 0 → false ≡ atomsOk clocks (atomsIn count t)
     atoms-relation b =
         sym
-        (atoms-at
+        (left-at inv h
         ∙ rw (lt-ltb (getD t (atomWidth * j) 0) clocks a, lt-leb (getD t (atomWidth * j + 1) 0) mostRelation b))
 
     module _ (b : getD t (atomWidth * j + 1) 0 ≤ mostRelation) where
       pub atoms-constant : mostConstant < getD t (atomWidth * j + 2) 0 → false ≡ atomsOk clocks (atomsIn count t)
       atoms-constant d =
           sym
-          (atoms-at
+          (left-at inv h
           ∙ rw (
             lt-ltb (getD t (atomWidth * j) 0) clocks a,
             le-leb (getD t (atomWidth * j + 1) 0) mostRelation b,
             lt-leb (getD t (atomWidth * j + 2) 0) mostConstant d,
           ))
 
-      pub atoms-next : getD t (atomWidth * j + 2) 0 ≤ mostConstant → Atoms clocks count (j + 1) t
-      atoms-next d = record {
-        turns = omega arith;
-        rest-is =
-            sym
-            (atoms-at
-            ∙ rw (
-              lt-ltb (getD t (atomWidth * j) 0) clocks a,
-              le-leb (getD t (atomWidth * j + 1) 0) mostRelation b,
-              le-leb (getD t (atomWidth * j + 2) 0) mostConstant d,
-            ));
-      }
-
-pub atoms-end :
-    {clocks count j : ℕ} {t : List ℕ} → Atoms clocks count j t → count ≤ j
-    → true ≡ atomsOk clocks (atomsIn count t)
-atoms-end {clocks} {count} {j} {t} inv h =
-    let z : count - j ≡ 0 = omega arith in
-    rw z at (inv .rest-is)
-
--- The atoms from number j on, none before it an equality.
-pub record Unpinned (count j : ℕ) (t : List ℕ) : Type 0 where
-  pub turns : j ≤ count
-  pub rest-is : hasEqual (atomsIn (count - j) (drop (atomWidth * j) t)) ≡ hasEqual (atomsIn count t)
-
-pub unpinned-start : (count : ℕ) (t : List ℕ) → Unpinned count 0 t
-unpinned-start count t = let z : count - 0 ≡ count = omega arith in record { turns = omega arith; rest-is = rw z }
-
-module _ {count j : ℕ} {t : List ℕ} (inv : Unpinned count j t) (h : j < count) where
-  equal-at :
-      hasEqual (atomsIn count t)
-      ≡ (eqb (getD t (atomWidth * j + 1) 0) 2 || hasEqual (atomsIn (count - (j + 1)) (drop (atomWidth * (j + 1)) t)))
-  equal-at = sym (inv .rest-is) ∙ ap hasEqual (atoms-rest count j t h)
-
-  pub equal-found :
-      (resets : ℕ) → getD t (atomWidth * j + 1) 0 ≡ 2 → true ≡ (eqb resets 0 || hasEqual (atomsIn count t))
-  equal-found resets e =
-      sym
-      (or-right (eqb resets 0) (hasEqual (atomsIn count t)) (equal-at ∙ rw (eq-eqb (getD t (atomWidth * j + 1) 0) 2 e)))
-
-  pub unpinned-next : (getD t (atomWidth * j + 1) 0 ≡ 2 → ⊥) → Unpinned count (j + 1) t
-  unpinned-next n = record {
-    turns = omega arith;
-    rest-is = sym (equal-at ∙ rw (ne-eqb (getD t (atomWidth * j + 1) 0) 2 n));
-  }
-
-pub unpinned-end :
-    {count j : ℕ} {t : List ℕ} (resets : ℕ) → Unpinned count j t → count ≤ j → (resets ≡ 0 → ⊥)
-    → false ≡ (eqb resets 0 || hasEqual (atomsIn count t))
-unpinned-end {count} {j} {t} resets inv h n =
-    let z : count - j ≡ 0 = omega arith in
-    rw (ne-eqb resets 0 n) (rw z at (inv .rest-is))
+      pub atoms-next : getD t (atomWidth * j + 2) 0 ≤ mostConstant → Left (atomsOk clocks) count (j + 1) t
+      atoms-next d =
+          left-next inv h
+          (rw (
+            lt-ltb (getD t (atomWidth * j) 0) clocks a,
+            le-leb (getD t (atomWidth * j + 1) 0) mostRelation b,
+            le-leb (getD t (atomWidth * j + 2) 0) mostConstant d,
+          ))
 
 -- the first four numbers are the fields
 pub fields-taken :
@@ -171,7 +145,7 @@ atoms-taken (suc n) (x ∷ y ∷ z ∷ t) h =
 
 pub atoms-part :
     (n : ℕ) (t : List ℕ) → atomWidth * n ≤ length t
-    → atomsIn (length (take (atomWidth * n) t) / atomWidth) (take (atomWidth * n) t) ≡ atomsIn n t
+    → wholeAtoms (take (atomWidth * n) t) ≡ atomsIn n t
 atoms-part n t h =
     let count : length (take (atomWidth * n) t) / atomWidth ≡ n =
     rw (length-take-le (atomWidth * n) t h) (omega arith) in

@@ -1,13 +1,8 @@
 // The checks of an edge over its numbers: its fields, and its atoms one after the other.
 // A place past the end of the fields holds 0; numbers past the last whole atom are no atom.
 ghost use mathlib.Core.Path.{_≡_};
-ghost use mathlib.Core.Bool.{_||_};
-ghost use Prim.Native.Nat.{_/_};
-ghost use lib.Dec.{eqb};
-ghost use lib.ListN.{length};
-ghost use Rattle.model.specs.Rules.{atomsOk, hasEqual};
-ghost use Rattle.model.specs.Layout.{atomWidth, atomsIn};
-ghost use Rattle.edges.specs.Checks.{fieldsOk};
+ghost use Rattle.model.specs.Rules.{atomsOk};
+ghost use Rattle.edges.specs.Checks.{fieldsOk, wholeAtoms};
 use crate::mask_ok;
 use model::ATOM_CONSTANT;
 use model::ATOM_RELATION;
@@ -42,9 +37,7 @@ pub fn fields_ok(head: Head, fields: &[u16]) -> bool
 
 // Clock, relation and constant of each atom in range.
 pub fn atoms_ok(atoms: &[u16], clocks: usize) -> bool
-    ensures { λ r. ⌜
-        r ≡ atomsOk clocks (atomsIn (length (now (atoms .entry)) / atomWidth) (now (atoms .entry)))
-        ⌝ }
+    ensures { λ r. ⌜ r ≡ atomsOk clocks (wholeAtoms (now (atoms .entry))) ⌝ }
 {
     let count = atoms.len() / ATOM_WIDTH;
     let mut j: usize = 0;
@@ -62,24 +55,4 @@ pub fn atoms_ok(atoms: &[u16], clocks: usize) -> bool
         j += 1;
     }
     true
-}
-
-// An edge that resets any clock has an atom with relation 2.
-pub fn pinned(resets: usize, atoms: &[u16]) -> bool
-    ensures { λ r. ⌜
-        r ≡ (eqb resets 0 || hasEqual (atomsIn (length (now (atoms .entry)) / atomWidth) (now (atoms .entry))))
-        ⌝ }
-{
-    if resets == 0 {
-        return true;
-    }
-    let count = atoms.len() / ATOM_WIDTH;
-    let mut j: usize = 0;
-    while j < count {
-        if atoms[ATOM_WIDTH * j + ATOM_RELATION] == 2 {
-            return true;
-        }
-        j += 1;
-    }
-    false
 }

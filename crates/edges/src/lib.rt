@@ -22,6 +22,7 @@ use numbers::wide32;
 
 pub mod checks;
 pub mod fields;
+pub mod pins;
 
 // base ^ exponent, for a base below 65,536 and an exponent of at most 4.
 pub fn power(base: usize, exponent: usize) -> usize

@@ -18,6 +18,13 @@ pub const MOST_RELATION: usize = 4;
 
 pub const MOST_CONSTANT: usize = 30;
 
+// The relations that pin, by their codes in an atom.
+pub const AT_MOST: u16 = 1;
+
+pub const EQUAL: u16 = 2;
+
+pub const AT_LEAST: u16 = 3;
+
 pub const MOST_PAIRS: usize = 65536;
 
 pub const MOST_GRAIN: usize = 1000;

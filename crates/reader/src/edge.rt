@@ -7,7 +7,7 @@ ghost use Rattle.reader.specs.State.{Places, Standing, edgeFault};
 use crate::bytes::copy_numbers;
 use edges::checks::atoms_ok;
 use edges::checks::fields_ok;
-use edges::checks::pinned;
+use edges::pins::integer_reset;
 use model::ATOM_BODY;
 use model::ATOM_WIDTH;
 use model::EDGE_COUNT;
@@ -31,7 +31,7 @@ pub(crate) fn store_edge(size: usize, body: &[u8], edge: &mut [u16])
     copy_numbers(&body[FIELDS_BODY..], &mut edge[EDGE_FIELDS..past]);
 }
 
-// 6 for a number outside its range, 7 for resets with no relation 2; 0 for none.
+// 6 for a number outside its range, 7 for resets that are not pinned; 0 for none.
 pub(crate) fn edge_fault(head: Head, edge: &[u16]) -> u8
     requires { ⌜ Standing (now edge) ⌝ }
     ensures { λ n. ⌜ ((r : Rule) → head ≡ headOf r → n ≡ edgeFault r (edgeIn (now (edge .entry)))) ⌝ }
@@ -44,7 +44,7 @@ pub(crate) fn edge_fault(head: Head, edge: &[u16]) -> u8
     if !atoms_ok(atoms, wide32(head.clocks)) {
         return 6;
     }
-    if !pinned(wide16(edge[EDGE_RESETS]), atoms) {
+    if !integer_reset(wide16(edge[EDGE_RESETS]), atoms) {
         return 7;
     }
     0

@@ -9,11 +9,11 @@ ghost use Rattle.model.specs.Promises.{ChecksRule};
 ghost use Rattle.rule.specs.Checks.{allZero, headGood, edgeGood, edgesGood};
 use edges::checks::atoms_ok;
 use edges::checks::fields_ok;
-use edges::checks::pinned;
 use edges::fields::count_of;
 use edges::fields::resets_of;
 use edges::mask_ok;
 use edges::pairs_of;
+use edges::pins::integer_reset;
 use edges::sizes_ok;
 use model::ATOM_WIDTH;
 use model::Answer;
@@ -117,7 +117,7 @@ pub(crate) fn edge_ok(head: Head, edge: &[u16]) -> bool
     if !atoms_ok(atoms, wide32(head.clocks)) {
         return false;
     }
-    if !pinned(resets_of(edge, 0), atoms) {
+    if !integer_reset(resets_of(edge, 0), atoms) {
         return false;
     }
     all_zero(&edge[past..EDGE_WIDTH])

@@ -2,19 +2,20 @@
 use Prim.Native.Nat.{_-_}
 use native.Mathlib.Omega.{arith}
 use borrow.Author.Needs.{needs}
-use Rattle.edges.proofs.EdgeChecks.{Atoms, atoms-start, atoms-clock, atoms-relation, atoms-constant}
-use Rattle.edges.proofs.EdgeChecks.{atoms-next, atoms-end}
+use Rattle.model.specs.Rules.{atomsOk}
+use Rattle.edges.proofs.EdgeChecks.{Left, left-start, left-end, atoms-clock, atoms-relation, atoms-constant}
+use Rattle.edges.proofs.EdgeChecks.{atoms-next}
 use Rattle.edges.proofs.checks.atoms_ok.Statement.{statement}
 use Rattle.edges.proofs.checks.atoms_ok.Tie as tie
 
 abbrev Inv-loop : tie.InvT-loop
-Inv-loop atoms clocks count j₀ j = Atoms clocks count j atoms
+Inv-loop atoms clocks count j₀ j = Left (atomsOk clocks) count j atoms
 
 abbrev μ-loop : tie.MeasureT-loop
 μ-loop atoms clocks count j₀ j = count - j
 
 loop-holds : tie.Need-loop-holds Inv-loop μ-loop
-loop-holds c = atoms-start _ _ _
+loop-holds c = left-start _ _ _
 
 mul-at : tie.Need-mul-at Inv-loop μ-loop
 mul-at c = search needs
@@ -79,7 +80,7 @@ loop-again c =
     atoms-next (inside .before .loop .inv) (search needs) (omega arith) (omega arith) (omega arith)
 
 returns-4 : tie.Need-returns-4 Inv-loop μ-loop
-returns-4 c = atoms-end (c .before .loop .inv) (search needs)
+returns-4 c = left-end (c .before .loop .inv) (search needs)
 
 pub atoms-ok-spec : {M : Type 1} → statement M
 atoms-ok-spec =
