@@ -1,17 +1,17 @@
 -- What each test of an edge's numbers says of its definition, over plain variables.
 use mathlib.Core.Path.{_≡_, refl, sym, _∙_, ap, ap₂}
-use mathlib.Core.Bool.{Bool, true, false}
+use mathlib.Core.Bool.{Bool, false}
 use mathlib.Core.List.{List, [], _∷_}
 use Prim.Native.Nat.{ℕ, zero, suc, _+_, _-_, _*_, _/_, _^_, _≤_, _<_}
 use native.Mathlib.Omega.{arith}
 use lib.Dec.{ltb}
-use lib.ListN.{length, getD, take, drop}
+use lib.ListN.{length, getD, take, drop, length-drop}
 use lib.Seq.{length-take-le}
 use borrow.Author.Tests.{lt-ltb, le-ltb, le-leb, lt-leb}
 use Rattle.model.specs.declared.Head.{Head}
 use Rattle.model.specs.Rules.{Atom, mostConstant, mostRelation, atomsOk}
 use Rattle.model.specs.Files.{atomNumbers}
-use Rattle.model.specs.Layout.{atomWidth, atomsIn}
+use Rattle.model.specs.Layout.{edgeFields, atomWidth, atomsIn}
 use Rattle.model.proofs.EdgeTable.{atoms-rest}
 use Rattle.edges.specs.Checks.{fieldsOk, wholeAtoms}
 
@@ -150,3 +150,11 @@ atoms-part n t h =
     let count : length (take (atomWidth * n) t) / atomWidth ≡ n =
     rw (length-take-le (atomWidth * n) t h) (omega arith) in
     rw count (atoms-taken n t h)
+
+-- the numbers from an edge's fields to the end of its n atoms hold those atoms
+pub edge-part :
+    (n : ℕ) (t : List ℕ) → edgeFields + atomWidth * n ≤ length t
+    → wholeAtoms (take (edgeFields + atomWidth * n - edgeFields) (drop edgeFields t)) ≡ atomsIn n (drop edgeFields t)
+edge-part n t h =
+    let e : edgeFields + atomWidth * n - edgeFields ≡ atomWidth * n = omega arith in
+    rw e (atoms-part n (drop edgeFields t) (rw (length-drop edgeFields t) (omega arith)))

@@ -1,12 +1,12 @@
 -- What each test of a pin says of its definition, over plain variables.
-use mathlib.Core.Path.{_≡_, sym, _∙_}
-use mathlib.Core.Bool.{Bool, true, false, _&&_, _||_}
+use mathlib.Core.Path.{_≡_, sym, _∙_, ap₂}
+use mathlib.Core.Bool.{Bool, true, false, _||_}
 use mathlib.Core.List.{List}
 use Prim.Native.Nat.{ℕ, _+_, _*_, _<_}
 use lib.Dec.{eqb}
 use lib.ListN.{getD}
 use borrow.Author.Tests.{eq-eqb, ne-eqb}
-use Rattle.model.specs.Rules.{Atom, equal, atLeast, atMost, hasAtom, pins, anyPins}
+use Rattle.model.specs.Rules.{Atom, Edge, hasAtom, pins, anyPins, isPinned, integerReset}
 use Rattle.model.specs.Layout.{atomWidth, atomsIn}
 use Rattle.edges.proofs.EdgeChecks.{Left, left-at, left-next}
 
@@ -50,3 +50,10 @@ module _
 
     pub no-pin : x ≡ false → Left (anyPins all) count (j + 1) t
     no-pin q = left-next inv h (rw (sym known ∙ q))
+
+-- the test of a mask and of atoms that are those of an edge
+pub reset-known :
+    {x : Bool} {resets : ℕ} {atoms : List Atom} (e : Edge) → x ≡ (eqb resets 0 || isPinned atoms) → resets ≡ e .resets
+    → atoms ≡ e .atoms
+    → x ≡ integerReset e
+reset-known e q r a = q ∙ ap₂ (λ (n : ℕ) (as-are : List Atom). eqb n 0 || isPinned as-are) r a

@@ -11,7 +11,7 @@ use lib.ListN.{length, getD}
 use borrow.Author.Tests.{eqb-true, ltb-true, leb-true}
 use Rattle.model.specs.Basics.{pick, zeros, bit}
 use Rattle.model.specs.Rules.{Atom, isPinned}
-use Rattle.model.specs.Guards.{related, meets, guard}
+use Rattle.model.specs.Guards.{meets, guard}
 use Rattle.model.specs.Runs.{older, zeroedFrom}
 use Rattle.model.specs.Construction.{intervalOf, regionOf, regionsOf, regionsHold, advanced}
 use Rattle.model.specs.Claims.{tracks, tracksAll, atomsWithin, Guards-agree}

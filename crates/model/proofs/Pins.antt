@@ -1,19 +1,18 @@
 -- What pins a guard, and that a pinned guard holds only where some clock reads its constant.
-use mathlib.Core.Path.{_≡_, refl, sym, _∙_, ap}
-use mathlib.Core.Bool.{Bool, true, _&&_, _||_}
+use mathlib.Core.Path.{_≡_, refl, _∙_, ap}
+use mathlib.Core.Bool.{Bool, true, _&&_}
 use mathlib.Core.List.{List, [], _∷_}
 use mathlib.Core.Logic.{inl, inr}
-use Prim.Native.Nat.{ℕ, _*_, _<_}
+use Prim.Native.Nat.{ℕ, _*_}
 use native.Mathlib.Omega.{arith}
 use lib.Dec.{eqb, leb}
 use lib.ListN.{length, getD}
 use borrow.Author.Tests.{eqb-true, leb-true, ltb-true, eq-eqb, lt-ltb}
 use Rattle.model.specs.Rules.{Atom, atMost, equal, atLeast, hasAtom, pins, anyPins, isPinned}
 use Rattle.model.specs.Guards.{related, meets, guard, isMet}
-use Rattle.model.specs.Claims.{noAtom, Equality, Both-sides, Pinned, by-equality, from-both-sides, At-constant}
-use Rattle.model.specs.Claims.{Pins-are}
-use Rattle.model.proofs.Logic.{no-way, and-left, and-right, and-both, or-left, or-right, or-cases, In, here, there}
-use Rattle.model.proofs.Logic.{in-at, in-number, Some, some-either}
+use Rattle.model.specs.Claims.{noAtom, Pinned, by-equality, from-both-sides, Pins-are}
+use Rattle.model.proofs.Logic.{no-way, and-left, and-right, and-both, or-left, or-right, or-cases, In, here}
+use Rattle.model.proofs.Logic.{there, in-at, in-number, Some, some-either}
 use Rattle.model.proofs.Guards.{met-each}
 
 -- an atom with that clock, relation and constant

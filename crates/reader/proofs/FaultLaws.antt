@@ -1,22 +1,28 @@
 -- Each fault of a record, as the code tests it: 1 to 7, over plain variables.
-use mathlib.Core.Path.{_≡_, refl, _∙_, ap, ap₂}
+use mathlib.Core.Path.{_≡_, refl, sym, _∙_, ap, ap₂}
 use mathlib.Core.Bool.{Bool, true, false, _||_, not}
 use mathlib.Core.List.{List}
-use Prim.Native.Nat.{ℕ, _+_, _-_, _*_, _/_, _≤_, _<_}
+use Prim.Native.Nat.{ℕ, _+_, _-_, _*_, _≤_, _<_}
 use native.Mathlib.Omega.{arith}
 use lib.Dec.{eqb, ltb, leb}
-use lib.ListN.{length, getD, take, drop, length-drop}
+use lib.ListN.{getD, take, drop}
 use borrow.Author.Tests.{lt-ltb, le-ltb, le-leb, lt-leb, ne-eqb}
 use Rattle.model.specs.declared.Head.{Head}
-use Rattle.model.specs.Rules.{Atom, Rule, mostConstant, edgeOk, atomsOk, hasEqual, integerReset}
+use Rattle.model.specs.Basics.{pick}
+use Rattle.model.specs.Rules.{Atom, Rule, mostConstant, edgeOk, atomsOk, isPinned}
 use Rattle.model.specs.Files.{numberAt, edgeBody, bodyOk, outOfOrder, oneTooMany, badSizes, outOfRange}
 use Rattle.model.specs.Layout.{edgeFields, atomWidth, atomsIn, edgeIn, headOf}
 use Rattle.numbers.proofs.Answers.{failed, passed}
-use Rattle.edges.specs.Checks.{fieldsOk}
-use Rattle.edges.proofs.EdgeChecks.{atoms-part}
+use Rattle.edges.specs.Checks.{fieldsOk, wholeAtoms}
+use Rattle.edges.proofs.EdgeChecks.{edge-part}
+use Rattle.edges.proofs.PinLaws.{reset-known}
 use Rattle.reader.specs.declared.Cursor.{Cursor}
 use Rattle.model.specs.Files.{numberBytes, sizesBody}
 use Rattle.reader.specs.State.{Holds, orderFault, edgeFault, Standing}
+
+turned : (z : Bool) → _≡_ {A = ℕ} (pick z 0 7) (pick (not z) 7 0)
+turned true = refl
+turned false = refl
 
 or-none : (a : Bool) → a ≡ (a || false)
 or-none true = refl
@@ -139,41 +145,27 @@ module _
     edge-fields q = rw (failed fields-known q)
 
     module _ (fields-fine : not x ≡ false) (m : ℕ) (m-is : m ≡ getD v 4 0) where
-      abbrev part : List ℕ
-      part = take (edgeFields + atomWidth * m - edgeFields) (drop edgeFields v)
+      abbrev part-atoms : List Atom
+      part-atoms = wholeAtoms (take (edgeFields + atomWidth * m - edgeFields) (drop edgeFields v))
 
-      part-is : atomsIn (length part / atomWidth) part ≡ edgeIn v .atoms
+      part-is : part-atoms ≡ edgeIn v .atoms
       part-is =
-          let n : edgeFields + atomWidth * m - edgeFields ≡ atomWidth * m = omega arith in
-          let fits : atomWidth * m ≤ length (drop edgeFields v) =
-          omega (arith, length-drop edgeFields v, standing .wide, standing .few) in
-          rw n
-          (atoms-part m (drop edgeFields v) fits ∙ ap (λ (j : ℕ). atomsIn j (drop edgeFields v)) m-is)
+          edge-part m v (omega (arith, standing .wide, standing .few))
+          ∙ ap (λ (j : ℕ). atomsIn j (drop edgeFields v)) m-is
 
-      module _
-          (k : ℕ) (k-is : k ≡ h .clocks) {y : Bool} (atoms : y ≡ atomsOk k (atomsIn (length part / atomWidth) part))
-        where
-          ok-known : y ≡ edgeOk r (edgeIn v)
-          ok-known =
-              let clocks : k ≡ r .clocks = k-is ∙ ap (λ (y : Head). y .clocks) h-is in
-              rw (passed fields-known fields-fine) (atoms ∙ ap₂ atomsOk clocks part-is)
+      module _ (k : ℕ) (k-is : k ≡ h .clocks) {y : Bool} (atoms : y ≡ atomsOk k part-atoms) where
+        ok-known : y ≡ edgeOk r (edgeIn v)
+        ok-known =
+            let clocks : k ≡ r .clocks = k-is ∙ ap (λ (y : Head). y .clocks) h-is in
+            rw (passed fields-known fields-fine) (atoms ∙ ap₂ atomsOk clocks part-is)
 
-          pub edge-atoms : not y ≡ true → _≡_ {A = ℕ} 6 (edgeFault r (edgeIn v))
-          unfolding edgeFault
-          edge-atoms q = rw (failed ok-known q)
+        pub edge-atoms : not y ≡ true → _≡_ {A = ℕ} 6 (edgeFault r (edgeIn v))
+        unfolding edgeFault
+        edge-atoms q = rw (failed ok-known q)
 
-          module _
-              (atoms-fine : not y ≡ false) (resets : ℕ) (resets-is : resets ≡ getD v 3 0) {z : Bool}
-              (pins : z ≡ (eqb resets 0 || hasEqual (atomsIn (length part / atomWidth) part)))
-            where
-              pins-known : z ≡ integerReset (edgeIn v)
-              pins-known =
-                  pins ∙ ap₂ (λ (j : ℕ) (l : List Atom). eqb j 0 || hasEqual l) resets-is part-is
-
-              pub edge-pins : not z ≡ true → _≡_ {A = ℕ} 7 (edgeFault r (edgeIn v))
-              unfolding edgeFault
-              edge-pins q = rw (passed ok-known atoms-fine, failed pins-known q)
-
-              pub edge-fine : not z ≡ false → _≡_ {A = ℕ} 0 (edgeFault r (edgeIn v))
-              unfolding edgeFault
-              edge-fine q = rw (passed ok-known atoms-fine, passed pins-known q)
+        pub edge-resets :
+            not y ≡ false → {z : Bool} (resets : ℕ) → resets ≡ getD v 3 0 → z ≡ (eqb resets 0 || isPinned part-atoms)
+            → edgeFault r (edgeIn v) ≡ pick (not z) 7 0
+        unfolding edgeFault
+        edge-resets atoms-fine {z} resets resets-is pins =
+            rw (passed ok-known atoms-fine, sym (reset-known (edgeIn v) pins resets-is part-is)) (turned z)

@@ -11,14 +11,15 @@ use lib.ListN.{length, getD, take, drop, drop-of-length-le, length-drop}
 use lib.Seq.{drop-at, drop-cons, drop-drop, length-take-le, take-add, take-take}
 use borrow.Author.Tests.{eqb-true, eqb-false, le-leb, leb-true, lt-leb, ne-eqb}
 use Rattle.model.specs.declared.Head.{Head}
-use Rattle.model.specs.Rules.{Atom, Edge, mostAtoms, sizesOk, atomsOk, hasEqual, integerReset}
+use Rattle.model.specs.Rules.{Atom, Edge, mostAtoms, sizesOk, atomsOk, isPinned, integerReset}
 use Rattle.model.specs.Layout.{edgeFields, atomWidth, edgeWidth, atomsIn, edgeIn, edgeAt}
 use Rattle.model.proofs.Logic.{by-test}
 use Rattle.model.proofs.EdgeTable.{atoms-length}
 use Rattle.numbers.proofs.Answers.{failed, passed}
 use Rattle.numbers.proofs.Parts.{part-rest, part-whole}
-use Rattle.edges.specs.Checks.{fieldsOk}
-use Rattle.edges.proofs.EdgeChecks.{atoms-part}
+use Rattle.edges.specs.Checks.{fieldsOk, wholeAtoms}
+use Rattle.edges.proofs.EdgeChecks.{atoms-part, edge-part}
+use Rattle.edges.proofs.PinLaws.{reset-known}
 use Rattle.rule.specs.Checks.{allZero, unusedZero, edgeGood, edgesGood}
 
 -- no bit seen up to a place, and zeros from there on
@@ -68,28 +69,19 @@ module _ (h : Head) (t : List ℕ) (long : edgeWidth ≤ length t) (n : ℕ) (n-
     pub count-low : leb (getD t 4 0) mostAtoms ≡ true
     count-low = le-leb (getD t 4 0) mostAtoms (omega (arith, count-is))
 
-    part-is :
-        let part = take (edgeFields + atomWidth * n - edgeFields) (drop edgeFields t) in
-        atomsIn (length part / atomWidth) part ≡ edgeIn t .atoms
-    part-is =
-        let m : edgeFields + atomWidth * n - edgeFields ≡ atomWidth * n = omega arith in
-        rw m
-        (atoms-part n (drop edgeFields t) (rw (length-drop edgeFields t) (omega arith))
-        ∙ ap (λ (k : ℕ). atomsIn k (drop edgeFields t)) count-is)
+    abbrev part-atoms : List Atom
+    part-atoms = wholeAtoms (take (edgeFields + atomWidth * n - edgeFields) (drop edgeFields t))
+
+    part-is : part-atoms ≡ edgeIn t .atoms
+    part-is = edge-part n t (omega arith) ∙ ap (λ (k : ℕ). atomsIn k (drop edgeFields t)) count-is
 
     pub edge-atoms :
-        {x : Bool} (k : ℕ) → k ≡ h .clocks
-        → (let part = take (edgeFields + atomWidth * n - edgeFields) (drop edgeFields t) in
-        x ≡ atomsOk k (atomsIn (length part / atomWidth) part))
-        → x ≡ atomsOk (h .clocks) (edgeIn t .atoms)
+        {x : Bool} (k : ℕ) → k ≡ h .clocks → x ≡ atomsOk k part-atoms → x ≡ atomsOk (h .clocks) (edgeIn t .atoms)
     edge-atoms k e q = q ∙ ap₂ atomsOk e part-is
 
-    pub edge-pinned :
-        {x : Bool} (m : ℕ) → m ≡ edgeAt 0 t .resets
-        → (let part = take (edgeFields + atomWidth * n - edgeFields) (drop edgeFields t) in
-        x ≡ (eqb m 0 || hasEqual (atomsIn (length part / atomWidth) part)))
-        → x ≡ integerReset (edgeIn t)
-    edge-pinned m e q = q ∙ ap₂ (λ (r : ℕ) (as-are : List Atom). eqb r 0 || hasEqual as-are) e part-is
+    pub edge-reset :
+        {x : Bool} (m : ℕ) → m ≡ edgeAt 0 t .resets → x ≡ (eqb m 0 || isPinned part-atoms) → x ≡ integerReset (edgeIn t)
+    edge-reset m e q = reset-known (edgeIn t) q e part-is
 
     pub edge-unused :
         {x : Bool} → x ≡ allZero (take (edgeWidth - (edgeFields + atomWidth * n)) (drop (edgeFields + atomWidth * n) t))
@@ -119,7 +111,7 @@ atoms-front :
     (n m : ℕ) (t : List ℕ) → atomWidth * n ≤ m → m ≤ length t → atomsIn n (take m t) ≡ atomsIn n t
 atoms-front n m t a b =
     sym (atoms-part n (take m t) (rw (length-take-le m t b) a))
-    ∙ (ap (λ (l : List ℕ). atomsIn (length l / atomWidth) l) (take-take (atomWidth * n) m t a)
+    ∙ (ap wholeAtoms (take-take (atomWidth * n) m t a)
     ∙ atoms-part n t (omega arith))
 
 pub edge-front : (t : List ℕ) → edgeWidth ≤ length t → getD t 4 0 ≤ mostAtoms → edgeIn (take edgeWidth t) ≡ edgeIn t

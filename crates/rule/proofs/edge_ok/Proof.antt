@@ -1,13 +1,32 @@
 -- `rule::edge_ok` meets its contract: its tests in the definition's order.
-use mathlib.Core.Path.{_≡_}
+use mathlib.Core.Path.{_≡_, sym, _∙_}
+use mathlib.Core.Bool.{_&&_}
 use borrow.Author.Needs.{needs}
 use Rattle.model.specs.Rules.{atomsOk, integerReset}
 use Rattle.model.specs.Layout.{edgeIn}
 use Rattle.numbers.proofs.Answers.{failed, passed}
-use Rattle.rule.specs.Checks.{edgeGood}
-use Rattle.rule.proofs.Laws.{count-high, count-low, edge-atoms, edge-pinned, edge-unused}
+use Rattle.rule.specs.Checks.{unusedZero, edgeGood}
+use Rattle.rule.proofs.Laws.{count-high, count-low, edge-atoms, edge-reset, edge-unused}
 use Rattle.rule.proofs.edge_ok.Statement.{statement}
 use Rattle.rule.proofs.edge_ok.Tie as tie
+
+-- fields in range and at most 8 atoms: the rest decides
+few-at :
+    (c : tie.Else2)
+    → let a = c .before .before .before .before .before .args in
+    edgeGood (a .head) (a .edge .now)
+    ≡ (atomsOk (a .head .clocks) (edgeIn (a .edge .now) .atoms) && integerReset (edgeIn (a .edge .now))
+    && unusedZero (a .edge .now))
+unfolding edgeGood
+few-at c =
+    let counted = c .before in
+    let fields = counted .before .before in
+    let start = fields .before .before in
+    rw (
+      passed (fields .fields-ok .ensures) (counted .before .if1 .left),
+      count-low (start .args .head) (start .args .edge .now) (start .pre) _ (counted .count-of .ensures .0)
+          (c .if2 .left),
+    )
 
 -- what the tests of the atoms found
 atoms-at :
@@ -20,17 +39,26 @@ atoms-at c =
     edge-atoms (start .args .head) (start .args .edge .now) (start .pre) _ (counted .count-of .ensures .0)
     (c .before .before .before .if2 .left) _ (c .before .wide32 .ensures .0) (c .atoms-ok .ensures)
 
-pinned-at :
-    (c : tie.After-pinned)
-    → let counted = c .before .before .before .before .before .before .before in
-    let a = counted .before .before .before .before .args in
-    c .pinned .result ≡ integerReset (edgeIn (a .edge .now))
-pinned-at c =
+-- each atom in range: the resets and the unused places decide
+ranged-at :
+    (c : tie.Else3)
+    → let a = c .before .before .before .before .before .before .before .before .before .args in
+    edgeGood (a .head) (a .edge .now) ≡ (integerReset (edgeIn (a .edge .now)) && unusedZero (a .edge .now))
+ranged-at c =
+    let atoms = c .before in
+    few-at (atoms .before .before .before) ∙ rw (passed (atoms-at atoms) (c .if3 .left))
+
+-- what the test of the resets found
+reset-at :
+    (c : tie.After-integer-reset)
+    → let a = c .before .before .before .before .before .before .before .before .before .before .before .args in
+    c .integer-reset .result ≡ integerReset (edgeIn (a .edge .now))
+reset-at c =
     let few = c .before .before .before .before .before .before in
     let counted = few .before in
     let start = counted .before .before .before .before in
-    edge-pinned (start .args .head) (start .args .edge .now) (start .pre) _ (counted .count-of .ensures .0)
-    (few .if2 .left) _ (c .before .resets-of .ensures .0) (c .pinned .ensures)
+    edge-reset (start .args .head) (start .args .edge .now) (start .pre) _ (counted .count-of .ensures .0)
+    (few .if2 .left) _ (c .before .resets-of .ensures .0) (c .integer-reset .ensures)
 
 fields-ok-requires : tie.Need-fields-ok-requires
 fields-ok-requires c κs = search needs
@@ -76,42 +104,20 @@ atoms-ok-requires : tie.Need-atoms-ok-requires
 atoms-ok-requires c κs = search needs
 
 returns-3 : tie.Need-returns-3
-unfolding edgeGood
 returns-3 c =
     let atoms = c .before in
-    let few = atoms .before .before .before in
-    let counted = few .before in
-    let fields = counted .before .before in
-    let start = fields .before .before in
-    rw (
-      passed (fields .fields-ok .ensures) (counted .before .if1 .left),
-      count-low (start .args .head) (start .args .edge .now) (start .pre) _ (counted .count-of .ensures .0)
-          (few .if2 .left),
-      failed (atoms-at atoms) (c .if3 .taken),
-    )
+    sym (few-at (atoms .before .before .before) ∙ rw (failed (atoms-at atoms) (c .if3 .taken)))
 
 resets-of-requires : tie.Need-resets-of-requires
 resets-of-requires c κs = search needs
 
-pinned-requires : tie.Need-pinned-requires
-pinned-requires c κs = search needs
+integer-reset-requires : tie.Need-integer-reset-requires
+integer-reset-requires c κs = search needs
 
 returns-4 : tie.Need-returns-4
-unfolding edgeGood
 returns-4 c =
-    let pins = c .before in
-    let atoms = pins .before .before .before in
-    let few = atoms .before .before .before in
-    let counted = few .before in
-    let fields = counted .before .before in
-    let start = fields .before .before in
-    rw (
-      passed (fields .fields-ok .ensures) (counted .before .if1 .left),
-      count-low (start .args .head) (start .args .edge .now) (start .pre) _ (counted .count-of .ensures .0)
-          (few .if2 .left),
-      passed (atoms-at atoms) (pins .before .before .if3 .left),
-      failed (pinned-at pins) (c .if4 .taken),
-    )
+    let reset = c .before in
+    sym (ranged-at (reset .before .before) ∙ rw (failed (reset-at reset) (c .if4 .taken)))
 
 mul-all-zero : tie.Need-mul-all-zero
 mul-all-zero c = search needs
@@ -129,23 +135,14 @@ all-zero-requires : tie.Need-all-zero-requires
 all-zero-requires c κs = search needs
 
 returns-5 : tie.Need-returns-5
-unfolding edgeGood
 returns-5 c =
-    let pins = c .before .before .before in
-    let atoms = pins .before .before .before in
-    let few = atoms .before .before .before in
+    let reset = c .before .before .before in
+    let few = reset .before .before .before .before .before .before in
     let counted = few .before in
-    let fields = counted .before .before in
-    let start = fields .before .before in
-    rw (
-      passed (fields .fields-ok .ensures) (counted .before .if1 .left),
-      count-low (start .args .head) (start .args .edge .now) (start .pre) _ (counted .count-of .ensures .0)
-          (few .if2 .left),
-      passed (atoms-at atoms) (pins .before .before .if3 .left),
-      passed (pinned-at pins) (c .before .before .if4 .left),
-    )
-    (edge-unused (start .args .head) (start .args .edge .now) (start .pre) _ (counted .count-of .ensures .0)
-    (few .if2 .left) (c .all-zero .ensures))
+    let start = counted .before .before .before .before in
+    edge-unused (start .args .head) (start .args .edge .now) (start .pre) _ (counted .count-of .ensures .0)
+    (few .if2 .left) (c .all-zero .ensures)
+    ∙ sym (ranged-at (reset .before .before) ∙ rw (passed (reset-at reset) (c .before .before .if4 .left)))
 
 pub edge-ok-spec : {M : Type 1} → statement M
 edge-ok-spec =
@@ -164,7 +161,7 @@ edge-ok-spec =
     atoms-ok-requires
     returns-3
     resets-of-requires
-    pinned-requires
+    integer-reset-requires
     returns-4
     mul-all-zero
     sub-all-zero

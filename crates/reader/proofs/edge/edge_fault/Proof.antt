@@ -1,6 +1,12 @@
 -- `reader::edge::edge_fault` meets its contract: the fields, the atoms, the resets.
+use mathlib.Core.Path.{_≡_, sym, _∙_}
+use mathlib.Core.Bool.{not}
 use borrow.Author.Needs.{needs}
-use Rattle.reader.proofs.FaultLaws.{edge-fields, edge-atoms, edge-pins, edge-fine}
+use Rattle.model.specs.Basics.{pick}
+use Rattle.model.specs.Rules.{Rule}
+use Rattle.model.specs.Layout.{headOf, edgeIn}
+use Rattle.reader.specs.State.{edgeFault}
+use Rattle.reader.proofs.FaultLaws.{edge-fields, edge-atoms, edge-resets}
 use Rattle.reader.proofs.edge.edge_fault.Statement.{statement}
 use Rattle.reader.proofs.edge.edge_fault.Tie as tie
 
@@ -55,34 +61,30 @@ shared-slice-read-wide16-2 c = search needs
 wide16-requires-2 : tie.Need-wide16-requires-2
 wide16-requires-2 c κs = search needs
 
-pinned-requires : tie.Need-pinned-requires
-pinned-requires c κs = search needs
+integer-reset-requires : tie.Need-integer-reset-requires
+integer-reset-requires c κs = search needs
+
+-- fields and atoms in range: the resets decide
+resets-at :
+    (c : tie.After-integer-reset)
+    → let a = c .before .before .before .before .before .before .before .before .before .before .before .before .args in
+    (r : Rule) → a .head ≡ headOf r → edgeFault r (edgeIn (a .edge .now)) ≡ pick (not (c .integer-reset .result)) 7 0
+resets-at c =
+    let ranged = c .before .before .before in
+    let atoms = ranged .before in
+    let count = atoms .before .before .before in
+    let checked = count .before .before in
+    let fields = checked .before in
+    let start = fields .before .before in
+    λ r e. edge-resets (start .args .head) r e (start .pre) (fields .fields-ok .ensures) (checked .if1 .left) _
+    (count .wide16 .ensures .0) _ (atoms .before .wide32 .ensures .0) (atoms .atoms-ok .ensures)
+    (ranged .if2 .left) _ (c .before .wide162 .ensures .0) (c .integer-reset .ensures)
 
 returns-3 : tie.Need-returns-3
-returns-3 c =
-    let pins = c .before in
-    let ranged = pins .before .before .before in
-    let atoms = ranged .before in
-    let count = atoms .before .before .before in
-    let checked = count .before .before in
-    let fields = checked .before in
-    let start = fields .before .before in
-    λ r e. edge-pins (start .args .head) r e (start .pre) (fields .fields-ok .ensures) (checked .if1 .left) _
-    (count .wide16 .ensures .0) _ (atoms .before .wide32 .ensures .0) (atoms .atoms-ok .ensures)
-    (ranged .if2 .left) _ (pins .before .wide162 .ensures .0) (pins .pinned .ensures) (c .if3 .taken)
+returns-3 c = λ r e. sym (resets-at (c .before) r e ∙ rw (c .if3 .taken))
 
 returns-4 : tie.Need-returns-4
-returns-4 c =
-    let pins = c .before in
-    let ranged = pins .before .before .before in
-    let atoms = ranged .before in
-    let count = atoms .before .before .before in
-    let checked = count .before .before in
-    let fields = checked .before in
-    let start = fields .before .before in
-    λ r e. edge-fine (start .args .head) r e (start .pre) (fields .fields-ok .ensures) (checked .if1 .left) _
-    (count .wide16 .ensures .0) _ (atoms .before .wide32 .ensures .0) (atoms .atoms-ok .ensures)
-    (ranged .if2 .left) _ (pins .before .wide162 .ensures .0) (pins .pinned .ensures) (c .if3 .left)
+returns-4 c = λ r e. sym (resets-at (c .before) r e ∙ rw (c .if3 .left))
 
 pub edge-fault-spec : {M : Type 1} → statement M
 edge-fault-spec =
@@ -102,6 +104,6 @@ edge-fault-spec =
     returns-2
     shared-slice-read-wide16-2
     wide16-requires-2
-    pinned-requires
+    integer-reset-requires
     returns-3
     returns-4)
