@@ -18,7 +18,9 @@ pub(crate) const MOST_CODES: u32 = 65_536;
 /// Numbers of an edge before its atoms.
 pub(crate) const EDGE_FRONT: usize = 5;
 
+const AT_MOST: u16 = 1;
 const EQUAL: u16 = 2;
+const AT_LEAST: u16 = 3;
 const MOST_RELATION: u16 = 4;
 
 /// The head record of a rule.
@@ -87,6 +89,17 @@ impl<'a> Edge<'a> {
         self.0[EDGE_FRONT..end].chunks_exact(3).map(Atom::new)
     }
 
+    /// Whether the atoms pin a clock to a constant: by an equality, or from both sides, by an at-least and an
+    /// at-most with the same clock and constant.
+    fn pinned(self) -> bool {
+        let from_above = |atom| self.atoms().any(|other| other == Atom { relation: AT_MOST, ..atom });
+        self.atoms().any(|atom| match atom.relation {
+            EQUAL => true,
+            AT_LEAST => from_above(atom),
+            _ => false,
+        })
+    }
+
     /// The guard's answer, given the clocks' values and the constants' worth on the same scale: the position
     /// from 0 of the first atom that does not hold, or nothing if all hold.
     pub fn first_failing<T: Ord>(
@@ -100,7 +113,7 @@ impl<'a> Edge<'a> {
 }
 
 /// One atom of a guard.
-#[derive(Clone, Copy)]
+#[derive(Clone, Copy, PartialEq, Eq)]
 pub(crate) struct Atom {
     clock: u16,
     relation: u16,
@@ -189,8 +202,8 @@ pub(crate) fn edge_flaw(head: &Head, edge: Edge) -> Option<u8> {
     if !in_range {
         return Some(6);
     }
-    let resets_at_any_time = edge.resets() != 0 && edge.atoms().all(|atom| atom.relation != EQUAL);
-    resets_at_any_time.then_some(7)
+    let resets_unpinned = edge.resets() != 0 && !edge.pinned();
+    resets_unpinned.then_some(7)
 }
 
 /// Checks that a head record and an edge table are what reading some accepted file leaves: 20, 21.

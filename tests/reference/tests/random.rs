@@ -34,7 +34,7 @@ fn twelve_events() {
 #[test]
 fn what_held_random_rules_back() {
     let mut random = Random(4);
-    let (mut held_at, mut held_by_nothing) = ([0; 4], 0);
+    let (mut held_at, mut held_by_nothing) = ([0; 5], 0);
     for _ in 0..1000 {
         let rule = random_rule(&mut random, &WIDER);
         let mut room = Room::listing(2);
@@ -51,7 +51,8 @@ fn what_held_random_rules_back() {
         }
     }
     println!("held at {held_at:?}, by nothing {held_by_nothing}");
-    assert!(held_at.iter().all(|&count| count > 50) && held_by_nothing > 1000, "too few of some kind");
+    assert!(held_at[..4].iter().all(|&count| count > 50) && held_at[4] > 0, "too few of some kind");
+    assert!(held_by_nothing > 1000, "too few held by nothing");
 }
 
 fn careless_word(random: &mut Random, rule: &PlainRule) -> PlainWord {
@@ -67,7 +68,7 @@ fn careless_word(random: &mut Random, rule: &PlainRule) -> PlainWord {
 
 fn cross_check(seed: u64, rules: usize, bounds: &Bounds, words: usize, events: u64) {
     let mut random = Random(seed);
-    let (mut accepted, mut refused, mut resets, mut ceilings) = (0, 0, 0, 0);
+    let (mut accepted, mut refused, mut resets, mut ceilings, mut between_sides) = (0, 0, 0, 0, 0);
     for _ in 0..rules {
         let rule = random_rule(&mut random, bounds);
         let Some((room, head, built)) = build_and_compare(&rule) else { continue };
@@ -75,15 +76,24 @@ fn cross_check(seed: u64, rules: usize, bounds: &Bounds, words: usize, events: u
         ceilings += usize::from(rule.ceiling.is_some_and(|ceiling| u64::from(ceiling) > rule.largest()));
         for _ in 0..words {
             let word = random_word(&mut random, &rule, events);
-            match run_and_compare(&rule, &word, &room, &head, &built) {
-                true => accepted += 1,
-                false => refused += 1,
+            let runs = run_and_compare(&rule, &word, &room, &head, &built);
+            match runs.accepting.is_empty() {
+                true => refused += 1,
+                false => accepted += 1,
             }
+            between_sides += usize::from(some_run_resets_between_sides(&rule, &runs));
         }
     }
     println!("{accepted} accepted, {refused} not, {resets} cells with a reset, {ceilings} ceilings above cm");
+    println!("{between_sides} accepted with a reset that is pinned from both sides");
     assert!(accepted > rules && refused > rules && resets > rules / 2, "too few of some kind");
     assert!(ceilings > rules / 8, "too few ceilings");
+    assert!(between_sides > rules / 8, "too few pins from both sides");
+}
+
+fn some_run_resets_between_sides(rule: &PlainRule, runs: &Runs) -> bool {
+    let mut taken = runs.accepting.iter().flat_map(|(_, edges)| edges);
+    taken.any(|&edge| rule.edges[edge as usize].resets_between_sides())
 }
 
 /// Reads, writes and builds a rule and compares each with what the plain rule says.
@@ -206,8 +216,8 @@ fn compare_listing(rule: &PlainRule, room: &Room, built: &Built) {
     assert_eq!(listed, lines);
 }
 
-/// Runs a word by every runner, compares with all its runs, and returns the verdict.
-fn run_and_compare(rule: &PlainRule, word: &PlainWord, room: &Room, head: &Head, built: &Built) -> bool {
+/// Runs a word by every runner, compares with all its runs, and returns these.
+fn run_and_compare(rule: &PlainRule, word: &PlainWord, room: &Room, head: &Head, built: &Built) -> Runs {
     let runs = enumerate(rule, word);
     let accepted = !runs.accepting.is_empty();
     let about = || format!("{rule:?} {word:?}");
@@ -226,7 +236,7 @@ fn run_and_compare(rule: &PlainRule, word: &PlainWord, room: &Room, head: &Head,
         assert_eq!(room.exact(head, word, &mut scratch), refusal(26, place), "{}", about());
         assert!(scratch.iter().all(|&number| number == 0));
     }
-    accepted
+    runs
 }
 
 /// The least accepting run, or what held the rule back, as the branch runner returns it.

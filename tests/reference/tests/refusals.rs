@@ -166,10 +166,12 @@ fn number_6_is_a_number_out_of_range() {
 }
 
 #[test]
-fn number_7_is_a_reset_at_any_time() {
+fn number_7_is_a_reset_without_a_pin() {
     assert_eq!(refused(&file(&[record(5, &[0, 0, 0, 1])])), (7, 10));
-    assert_eq!(refused(&file(&[record(5, &[0, 0, 0, 2, 0, 3, 3, 0, 1, 3])])), (7, 10));
+    assert_eq!(refused(&file(&[record(5, &[0, 0, 0, 2, 0, 3, 3, 0, 1, 4])])), (7, 10));
     assert!(accepted(&file(&[record(5, &[0, 0, 0, 2, 0, 2, 3])])));
+    // 2.4 corrects 01, where this was 7.
+    assert!(accepted(&file(&[record(5, &[0, 0, 0, 2, 0, 3, 3, 0, 1, 3])])));
 }
 
 #[test]

@@ -148,8 +148,11 @@ fn the_other_cases_to_be_run() {
     let eight = &nine[..28];
     assert!(room.read(&[sizes.clone(), record(5, eight)].concat()).is_ok());
     assert_eq!(room.read(&[sizes.clone(), record(5, &[0, 0, 0, 0, 0, 0, 31])].concat()), refusal(6, 10));
+    // 2.4 corrects 01: at-least 3 with at-most 3 and a reset, 7 there, is accepted; with at-most 4 it is 7.
     let squeezed = [0, 0, 0, 1, 0, 3, 3, 0, 1, 3];
-    assert_eq!(room.read(&[sizes, record(5, &squeezed)].concat()), refusal(7, 10));
+    assert!(room.read(&[sizes.clone(), record(5, &squeezed)].concat()).is_ok());
+    let loose = [0, 0, 0, 1, 0, 3, 3, 0, 1, 4];
+    assert_eq!(room.read(&[sizes, record(5, &loose)].concat()), refusal(7, 10));
     assert_eq!(room.edges, [0; 7424]);
 }
 

@@ -35,14 +35,16 @@ impl Random {
     }
 }
 
+/// Clock, relation, constant.
+pub type PlainAtom = (u16, u16, u16);
+
 #[derive(Clone, Debug)]
 pub struct PlainEdge {
     pub source: u16,
     pub target: u16,
     pub symbol: u16,
     pub resets: Vec<u16>,
-    /// Clock, relation, constant.
-    pub atoms: Vec<(u16, u16, u16)>,
+    pub atoms: Vec<PlainAtom>,
 }
 
 #[derive(Clone, Debug)]
@@ -122,9 +124,23 @@ impl PlainEdge {
     fn holds(&self, values: &[u64], unit: u64) -> bool {
         self.atoms.iter().all(|&atom| atom_holds(atom, values, unit))
     }
+
+    /// Whether the edge resets and has no equality, so that it must be pinned from both sides.
+    pub fn resets_between_sides(&self) -> bool {
+        !self.resets.is_empty() && self.atoms.iter().all(|atom| atom.1 != 2)
+    }
 }
 
-fn atom_holds((clock, relation, constant): (u16, u16, u16), values: &[u64], unit: u64) -> bool {
+/// Whether some clock and constant have an equality, or both an at-most and an at-least.
+pub fn pinned(atoms: &[PlainAtom]) -> bool {
+    let at = |clock, constant| {
+        let [most, equal, least] = [1, 2, 3].map(|relation| atoms.contains(&(clock, relation, constant)));
+        equal || (most && least)
+    };
+    (0..4).any(|clock| (0..=30).any(|constant| at(clock, constant)))
+}
+
+fn atom_holds((clock, relation, constant): PlainAtom, values: &[u64], unit: u64) -> bool {
     let (value, bound) = (values[usize::from(clock)], u64::from(constant) * unit);
     match relation {
         0 => value < bound,
@@ -335,14 +351,19 @@ pub fn random_rule(random: &mut Random, bounds: &Bounds) -> PlainRule {
 
 fn random_edge(random: &mut Random, locations: u16, symbols: u16, clocks: u16, constant: u64) -> PlainEdge {
     let resets: Vec<u16> = if random.chance(50) { Vec::new() } else { random_clocks(random, clocks) };
-    let mut atoms: Vec<(u16, u16, u16)> = (0..random.pick(&[0u64, 0, 1, 1, 2, 3]))
+    let mut atoms: Vec<PlainAtom> = (0..random.pick(&[0u64, 0, 1, 1, 2, 3]))
         .map(|_| {
             let relation = random.pick(&[0, 1, 2, 3, 3, 4]);
             (random.below(clocks.into()) as u16, relation, random.below(constant + 1) as u16)
         })
         .collect();
-    if !resets.is_empty() && atoms.iter().all(|atom| atom.1 != 2) {
-        atoms.push((random.below(clocks.into()) as u16, 2, random.below(constant + 1) as u16));
+    if !resets.is_empty() && !pinned(&atoms) {
+        let (clock, constant) = (random.below(clocks.into()) as u16, random.below(constant + 1) as u16);
+        let pin: &[u16] = if random.chance(40) { &[2] } else { &[1, 3] };
+        for &relation in pin {
+            let place = random.below(atoms.len() as u64 + 1) as usize;
+            atoms.insert(place, (clock, relation, constant));
+        }
     }
     PlainEdge {
         source: random.below(locations.into()) as u16,
