@@ -19,7 +19,7 @@
  *    4  edge 257
  *    5  L, S or K outside its range
  *    6  location, symbol, clock, mask bit, relation, constant or ceiling outside its range
- *    7  resets with no relation 2
+ *    7  resets that are not pinned
  *    8  N over 65,536; place: the file's length
  *
  *   THE CALLER; place 0, save for 26.
@@ -45,7 +45,8 @@
  *
  * Here L, S, K are the counts of locations, symbols and clocks; cm is the largest constant in any atom, 0 if
  * there is none; N = L * (cm + 2)^K; W = 2 * cm + 2; R and P count the rows and their codes. A ceiling record
- * (kind 4) is read, checked and dropped.
+ * (kind 4) is read, checked and dropped. An edge's resets are pinned if it has an equality (relation 2), or an
+ * at-least (3) and an at-most (1) on one clock with one constant, in any order and anywhere among its atoms.
  */
 #ifndef ALDERSKEIN_H
 #define ALDERSKEIN_H

@@ -49,7 +49,7 @@ impl Refusal {
             4 => "edge 257",
             5 => "locations, symbols or clocks outside their range",
             6 => "location, symbol, clock, mask bit, relation, constant or ceiling outside its range",
-            7 => "resets with no relation 2",
+            7 => "resets that are not pinned",
             8 => "the rule has more than 65,536 codes",
             20 => "edge table shorter than 7,424 numbers",
             21 => "head record and edge table are not what reading some accepted file leaves",

@@ -26,8 +26,8 @@ fn the_author_1_to_8() {
     assert_eq!(read(&[sizes(), many.concat()]), refused(4, 10 + 256 * 12));
     assert_eq!(read(&[record(1, &[33, 1, 1])]), refused(5, 0));
     assert_eq!(read(&[sizes(), record(5, &[0, 0, 0, 0, 0, 0, 31])]), refused(6, 10), "constant 31");
-    let squeezed = record(5, &[0, 0, 0, 1, 0, 3, 3, 0, 1, 3]);
-    assert_eq!(read(&[sizes(), squeezed]), refused(7, 10), "at least 3 with at most 3 and a reset");
+    let not_pinned = record(5, &[0, 0, 0, 1, 0, 3, 3, 0, 1, 4]);
+    assert_eq!(read(&[sizes(), not_pinned]), refused(7, 10), "at least 3 with at most 4 and a reset");
     let at_most_14 = record(5, &[0, 0, 0, 0, 0, 1, 14]);
     assert!(read(&[record(1, &[16, 1, 3]), at_most_14.clone()]).is_ok());
     assert_eq!(read(&[record(1, &[17, 1, 3]), at_most_14]), refused(8, 28));

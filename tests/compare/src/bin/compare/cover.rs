@@ -1,8 +1,10 @@
 //! What came up: refusals call by call, verdicts runner by runner, limits.
 
 use crate::ceiling::{ceilings, less_ceiling, CEILING_BYTES};
+use crate::partners::{edge_at, lacks_partner, only_unpinned, WrongIn};
+use crate::pins::{from_both_sides, Sides};
 use crate::plain::{only_wrong, Wrong};
-use crate::rules::{code_count, Edge, EDGE_NUMBERS, FIRST_CONSTANT, MOST_CONSTANT};
+use crate::rules::{code_count, edges_in, Edge, EDGE_NUMBERS, FIRST_CONSTANT, MOST_CONSTANT};
 use alderskein::raw::{Answer, BranchAnswer, Built};
 use alderskein::ROW_NUMBERS;
 use protocol::{Call, Reply, State, What, Word};
@@ -30,7 +32,7 @@ const REFUSALS: [(&str, &[u8]); 13] = [
 const RUNNERS: [&str; 6] = ["exact", "branch", "table", "follow", "follow_in_place", "decide"];
 
 /// The limits and corners that must come up.
-const LIMITS: [&str; 61] = [
+const LIMITS: [&str; 72] = [
     "read: L = 32",
     "read: S = 16",
     "read: K = 4",
@@ -49,6 +51,16 @@ const LIMITS: [&str; 61] = [
     "read: second ceiling refused",
     "read: a ceiling after an edge refused",
     "read: again what was written less a ceiling",
+    "read: pinned from both sides",
+    "read: pinned from both sides, at most first",
+    "read: pinned from both sides, other atoms between",
+    "read: refused for the partner's clock",
+    "read: refused for the partner's constant",
+    "read: refused for the partner's relation",
+    "check_rule: pinned from both sides",
+    "check_rule: refused for the partner's clock alone",
+    "check_rule: refused for the partner's constant alone",
+    "check_rule: refused for the partner's relation alone",
     "write: just fits",
     "write: less a ceiling, just fits",
     "write: less a ceiling, one byte short",
@@ -81,6 +93,7 @@ const LIMITS: [&str; 61] = [
     "exact: 4,096 events",
     "exact: no room at the start",
     "branch: 12 events",
+    "branch: a run by an edge pinned from both sides",
     "branch: accepted though the lowest edge's guard fails",
     "branch: no run, no events",
     "branch: no run, no edge on the first symbol",
@@ -176,10 +189,13 @@ impl Cover {
             (Call::Read { file, .. }, Reply::Read(reading)) if reading.number == 0 => {
                 self.count_read(file, state);
                 self.count_dropped(file, state);
+                self.count_pinned(state);
             }
             (Call::Read { file, .. }, Reply::Read(reading)) => {
                 self.count_refused(file, reading.number, reading.place);
+                self.count_unpinned(file, reading.number, reading.place);
             }
+            (Call::CheckRule, Reply::Checked(answer)) => self.count_checked(answer.number, state),
             (_, Reply::Written(answer, out)) => self.count_write(answer, out),
             (_, Reply::Built(building, _)) if matches!(building.number, 0 | 23) => {
                 self.count_build(building.number, state);
@@ -197,7 +213,11 @@ impl Cover {
                 self.mark("exact: 4,096 events", answer.number == 0 && word.symbols.len() == 4_096);
                 self.mark("exact: no room at the start", answer.number == 26 && answer.place == 0);
             }
-            (Call::Branch { word }, Reply::Branch(answer, _)) if answer.number == 0 => {
+            (Call::Branch { word }, Reply::Branch(answer, taken)) if answer.number == 0 => {
+                let run = if answer.found { &taken[..word.symbols.len()] } else { &[] };
+                let mut edges = run.iter().filter_map(|&edge| edges_in(state).nth(edge.into()));
+                let pinned = edges.any(|edge| from_both_sides(&edge).is_some());
+                self.mark("branch: a run by an edge pinned from both sides", pinned);
                 self.mark("branch: 12 events", word.symbols.len() == 12);
                 self.count_held(word, answer, state);
             }
@@ -303,6 +323,35 @@ impl Cover {
         self.mark("read: a ceiling after an edge refused", number == 3 && !second && place > 0);
     }
 
+    /// How the resets of a rule that was read are pinned from both sides.
+    fn count_pinned(&mut self, state: &State) {
+        let pinned: Vec<Sides> = edges_in(state).filter_map(|edge| from_both_sides(&edge)).collect();
+        let (first, apart) = (pinned.iter().any(|pin| pin.at_most_first), pinned.iter().any(|pin| pin.apart));
+        self.mark("read: pinned from both sides", !pinned.is_empty());
+        self.mark("read: pinned from both sides, at most first", first);
+        self.mark("read: pinned from both sides, other atoms between", apart);
+    }
+
+    /// A wrong partner for which a file was refused.
+    fn count_unpinned(&mut self, file: &[u8], number: u8, place: usize) {
+        let Some(edge) = edge_at(file, place).filter(|_| number == 7) else { return };
+        self.mark("read: refused for the partner's clock", lacks_partner(&edge, WrongIn::Clock));
+        self.mark("read: refused for the partner's constant", lacks_partner(&edge, WrongIn::Constant));
+        self.mark("read: refused for the partner's relation", lacks_partner(&edge, WrongIn::Relation));
+    }
+
+    /// Resets pinned from both sides in a rule that was checked, or a wrong partner for which alone it was refused.
+    fn count_checked(&mut self, number: u8, state: &State) {
+        let pinned = number == 0 && edges_in(state).any(|edge| from_both_sides(&edge).is_some());
+        let only = if number == 21 { only_unpinned(state) } else { None };
+        let lacks = |wrong| only.as_ref().is_some_and(|edge| lacks_partner(edge, wrong));
+        let [clock, constant, relation] = [WrongIn::Clock, WrongIn::Constant, WrongIn::Relation].map(lacks);
+        self.mark("check_rule: pinned from both sides", pinned);
+        self.mark("check_rule: refused for the partner's clock alone", clock);
+        self.mark("check_rule: refused for the partner's constant alone", constant);
+        self.mark("check_rule: refused for the partner's relation alone", relation);
+    }
+
     fn count_write(&mut self, answer: &Answer, out: &[u8]) {
         let fits = answer.number == 0 && answer.value == out.len();
         let file = self.written_as.as_deref().unwrap_or_default();
@@ -349,8 +398,7 @@ impl Cover {
 
 /// The lowest edge that leaves one of these locations on this symbol, with its number.
 fn lowest_edge(state: &State, locations: u32, symbol: u16) -> Option<(usize, Edge)> {
-    let edges = state.edges.chunks_exact(EDGE_NUMBERS).take(state.head.count as usize).map(Edge::of_places);
-    edges.enumerate().find(|(_, edge)| locations >> edge.source & 1 == 1 && edge.symbol == symbol)
+    edges_in(state).enumerate().find(|(_, edge)| locations >> edge.source & 1 == 1 && edge.symbol == symbol)
 }
 
 /// cm of the rule in the state.

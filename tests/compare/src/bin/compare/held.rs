@@ -1,14 +1,11 @@
 //! Words that are held back at the first event, or nearly.
 
 use crate::random::Random;
-use crate::rules::{any_atom, holds, Rule};
+use crate::rules::{any_atom, holds, Atom, Rule, AT_LEAST, MOST_ATOMS};
 use crate::scene::{room_for, Scene};
 use crate::scenes::some_rule;
 use crate::words::{any_delay, any_grain, prolonged};
 use protocol::Word;
-
-/// The most atoms of an edge.
-const MOST_ATOMS: usize = 8;
 
 /// A rule with many atoms, and words whose first event comes when most of them hold.
 pub fn held_back(scene: &mut Scene) {
@@ -39,9 +36,9 @@ fn add_atoms(random: &mut Random, rule: &mut Rule, grain: u32, age: u32) {
 }
 
 /// An atom that holds when all clocks have this age.
-fn held_atom(random: &mut Random, rule: &Rule, grain: u32, age: u32) -> [u16; 3] {
+pub fn held_atom(random: &mut Random, rule: &Rule, grain: u32, age: u32) -> Atom {
     let mut tries = (0..6).map(|_| any_atom(random, rule, rule.top()));
-    tries.find(|atom| holds(atom, &[age; 4], grain)).unwrap_or([0, 3, 0])
+    tries.find(|atom| holds(atom, &[age; 4], grain)).unwrap_or([0, AT_LEAST, 0])
 }
 
 /// Mostly the symbol of an edge that leaves an initial location.

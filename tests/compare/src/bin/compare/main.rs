@@ -10,6 +10,8 @@ mod cover;
 mod damage;
 mod held;
 mod limits;
+mod partners;
+mod pins;
 mod plain;
 mod random;
 mod rules;

@@ -1,24 +1,41 @@
 //! Random rules and their files.
 
+use crate::pins::{is_pinned, pin};
 use crate::random::Random;
+use protocol::State;
 
 /// How many numbers an edge takes in the edge table.
 pub const EDGE_NUMBERS: usize = 29;
-/// The place of the first atom's constant among them.
+/// The places of the mask, of the first atom and of its constant among them.
+pub const MASK: usize = 3;
+pub const FIRST_ATOM: usize = 5;
 pub const FIRST_CONSTANT: usize = 7;
+/// How many numbers an atom takes, and the most atoms of an edge.
+pub const ATOM_NUMBERS: usize = 3;
+pub const MOST_ATOMS: usize = 8;
 /// The largest constant of an atom, and the largest ceiling.
 pub const MOST_CONSTANT: u16 = 30;
-/// The kind of a ceiling record.
+/// The kinds of a ceiling record and of an edge record.
 pub const CEILING: u16 = 4;
+pub const EDGE: u16 = 5;
+/// The relations.
+pub const LESS: u16 = 0;
+pub const AT_MOST: u16 = 1;
+pub const EQUAL: u16 = 2;
+pub const AT_LEAST: u16 = 3;
+pub const GREATER: u16 = 4;
 
-/// An edge; an atom is clock, relation, constant.
+/// Clock, relation, constant.
+pub type Atom = [u16; ATOM_NUMBERS];
+
+/// An edge.
 #[derive(Clone, Debug)]
 pub struct Edge {
     pub source: u16,
     pub target: u16,
     pub symbol: u16,
     pub mask: u16,
-    pub atoms: Vec<[u16; 3]>,
+    pub atoms: Vec<Atom>,
 }
 
 /// A rule as its file spells it.
@@ -55,17 +72,17 @@ pub fn record(kind: u16, numbers: &[u16]) -> Vec<u8> {
 impl Edge {
     pub fn record(&self) -> Vec<u8> {
         let front = [self.source, self.target, self.symbol, self.mask];
-        record(5, &[&front, self.atoms.as_flattened()].concat())
+        record(EDGE, &[&front, self.atoms.as_flattened()].concat())
     }
 
     /// An edge from its places in an edge table.
     pub fn of_places(places: &[u16]) -> Self {
-        let atoms = places[5..].chunks_exact(3).take(places[4].into());
+        let atoms = places[FIRST_ATOM..].chunks_exact(ATOM_NUMBERS).take(places[4].into());
         Edge {
             source: places[0],
             target: places[1],
             symbol: places[2],
-            mask: places[3],
+            mask: places[MASK],
             atoms: atoms.map(|atom| [atom[0], atom[1], atom[2]]).collect(),
         }
     }
@@ -76,14 +93,19 @@ impl Edge {
     }
 }
 
+/// The edges of the state's rule.
+pub fn edges_in(state: &State) -> impl Iterator<Item = Edge> + '_ {
+    state.edges.chunks_exact(EDGE_NUMBERS).take(state.head.count as usize).map(Edge::of_places)
+}
+
 /// Whether an atom holds at these ages.
-pub fn holds(&[clock, relation, constant]: &[u16; 3], ages: &[u32], grain: u32) -> bool {
+pub fn holds(&[clock, relation, constant]: &Atom, ages: &[u32], grain: u32) -> bool {
     let (age, bound) = (ages[usize::from(clock)], u32::from(constant) * grain);
     match relation {
-        0 => age < bound,
-        1 => age <= bound,
-        2 => age == bound,
-        3 => age >= bound,
+        LESS => age < bound,
+        AT_MOST => age <= bound,
+        EQUAL => age == bound,
+        AT_LEAST => age >= bound,
         _ => age > bound,
     }
 }
@@ -158,21 +180,18 @@ pub fn any_edge(random: &mut Random, rule: &Rule, constant: u16) -> Edge {
     let resets = random.chance(45);
     let mask = if resets { random.below(1 << rule.clocks) as u16 } else { 0 };
     let atom_count = if random.chance(2) { 8 } else { random.pick(&[0, 0, 1, 1, 1, 2, 3]) };
-    let mut atoms: Vec<[u16; 3]> = (0..atom_count).map(|_| any_atom(random, rule, constant)).collect();
-    if mask != 0 && atoms.iter().all(|atom| atom[1] != 2) {
+    let mut atoms: Vec<Atom> = (0..atom_count).map(|_| any_atom(random, rule, constant)).collect();
+    if mask != 0 && !is_pinned(&atoms) {
         let [clock, _, constant] = any_atom(random, rule, constant);
-        let place = random.below(atoms.len() + 1);
-        atoms.insert(place, [clock, 2, constant]);
-        atoms.truncate(8);
+        pin(random, &mut atoms, clock, constant);
+        atoms.truncate(MOST_ATOMS);
     }
-    if atoms.iter().all(|atom| atom[1] != 2) {
-        return Edge { mask: 0, ..some_ends(random, rule, atoms) };
-    }
+    let mask = if is_pinned(&atoms) { mask } else { 0 };
     Edge { mask, ..some_ends(random, rule, atoms) }
 }
 
 /// An edge with these atoms and no resets.
-pub fn some_ends(random: &mut Random, rule: &Rule, atoms: Vec<[u16; 3]>) -> Edge {
+pub fn some_ends(random: &mut Random, rule: &Rule, atoms: Vec<Atom>) -> Edge {
     Edge {
         source: random.below(rule.locations.into()) as u16,
         target: random.below(rule.locations.into()) as u16,
@@ -183,7 +202,7 @@ pub fn some_ends(random: &mut Random, rule: &Rule, atoms: Vec<[u16; 3]>) -> Edge
 }
 
 /// An atom that the reader accepts.
-pub fn any_atom(random: &mut Random, rule: &Rule, constant: u16) -> [u16; 3] {
-    let relation = random.pick(&[0, 1, 2, 2, 3, 3, 4]);
+pub fn any_atom(random: &mut Random, rule: &Rule, constant: u16) -> Atom {
+    let relation = random.pick(&[LESS, AT_MOST, EQUAL, EQUAL, AT_LEAST, AT_LEAST, GREATER]);
     [random.below(rule.clocks.into()) as u16, relation, random.between(0, constant.into()) as u16]
 }

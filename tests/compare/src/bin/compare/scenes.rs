@@ -4,6 +4,7 @@ use crate::ceiling;
 use crate::damage::{damaged_file, rubbish};
 use crate::held::held_back;
 use crate::limits;
+use crate::pins;
 use crate::random::Random;
 use crate::rules::{any_rule, Rule, EDGE_NUMBERS, FIRST_CONSTANT, MIDDLE, SMALL, WIDE};
 use crate::scene::{needs, room_for, Needs, Scene, EDGE_TABLE, LISTING};
@@ -15,7 +16,7 @@ use protocol::{Call, Room, What, Word};
 type Kind = fn(&mut Scene);
 
 /// The common kinds with their weights.
-const COMMON: [(&str, usize, Kind); 13] = [
+const COMMON: [(&str, usize, Kind); 14] = [
     ("whole rules", 30, whole_rule),
     ("damaged files", 25, damaged),
     ("changed rules", 15, changed_rule),
@@ -29,6 +30,7 @@ const COMMON: [(&str, usize, Kind); 13] = [
     ("loose words", 8, loose_words),
     ("words held back", 15, held_back),
     ("files with a ceiling", 10, ceiling::dropped),
+    ("pins from both sides", 10, pins::both_sides),
 ];
 
 /// The costly kinds: one scene in so many, the first one early.
