@@ -1,6 +1,7 @@
 // The worked rule file and a file for each refusal from 1 to 8, read: number and place of each. Then the same for files
-// with a ceiling of 31, with two, and with one after an edge. Then the worked file, and one with a ceiling that would
-// make N too large, written again: the length, and 1 if the bytes are those of the file less the ceiling.
+// with a ceiling of 31, with two, and with one after an edge. Then the worked file, one that is pinned from both sides,
+// and one with a ceiling that would make N too large, written again: the length, and 1 if the bytes are those of the
+// file less the ceiling.
 use libc::STDOUT_FILENO;
 use model::EDGE_NEED;
 use reader::read_rule;
@@ -83,7 +84,7 @@ fn main() {
     print_reading(b"\x06\0\x01\0\x21\0\x02\0\x01\0");
     print_reading(b"\x06\0\x01\0\x02\0\x02\0\x01\0\x0e\0\x05\0\0\0\x01\0\0\0\0\0\0\0\x02\0\x1f\0");
     print_reading(
-        b"\x06\0\x01\0\x02\0\x02\0\x01\0\x14\0\x05\0\0\0\x01\0\0\0\x01\0\0\0\x03\0\x03\0\0\0\x01\0\x03\0",
+        b"\x06\0\x01\0\x02\0\x02\0\x01\0\x14\0\x05\0\0\0\x01\0\0\0\x01\0\0\0\x03\0\x03\0\0\0\x01\0\x04\0",
     );
     print_reading(b"\x06\0\x01\0\x11\0\x01\0\x03\0\x0e\0\x05\0\0\0\0\0\0\0\0\0\0\0\x01\0\x0e\0");
     print_reading(b"\x06\0\x01\0\x11\0\x01\0\x03\0\x02\0\x04\0\x1f\0");
@@ -92,6 +93,9 @@ fn main() {
         b"\x06\0\x01\0\x11\0\x01\0\x03\0\x08\0\x05\0\0\0\x01\0\0\0\0\0\x02\0\x04\0\x1e\0",
     );
     print_writing(worked, worked);
+    let pinned =
+        b"\x06\0\x01\0\x02\0\x02\0\x01\0\x14\0\x05\0\0\0\x01\0\0\0\x01\0\0\0\x03\0\x03\0\0\0\x01\0\x03\0";
+    print_writing(pinned, pinned);
     print_writing(
         b"\x06\0\x01\0\x11\0\x01\0\x03\0\x02\0\x04\0\x1e\0\x08\0\x05\0\0\0\x01\0\0\0\0\0",
         b"\x06\0\x01\0\x11\0\x01\0\x03\0\x08\0\x05\0\0\0\x01\0\0\0\0\0",
