@@ -47,6 +47,8 @@ fn calls() -> Done {
     line("write, 15,754 bytes", &mut longest(), Call::Write)?;
     line("check rule, 2 edges", &mut worked(), Call::CheckRule)?;
     line("check rule, 256 edges", &mut longest(), Call::CheckRule)?;
+    line("check, 256 equalities", &mut Desk::new(rules::equalities()), Call::CheckRule)?;
+    line("check, 256 both sides", &mut Desk::new(rules::both_sides()), Call::CheckRule)?;
     line("check table, small", &mut worked(), Call::CheckTable)?;
     line("check table, largest", &mut largest(), Call::CheckTable)?;
     line("check word, 4,096 events", &mut middle().with_word(4_096, 3), Call::CheckWord)?;

@@ -52,6 +52,25 @@ pub fn longest() -> Vec<u8> {
     records.concat()
 }
 
+/// 256 edges with a reset and eight atoms: seven at-leasts without a partner, then the equality that pins.
+pub fn equalities() -> Vec<u8> {
+    resetting([0, 2, 30])
+}
+
+/// 256 edges with a reset and eight atoms, pinned from both sides by the last two. Partners are looked for as long as
+/// can be: for each of the seven at-leasts among all atoms.
+pub fn both_sides() -> Vec<u8> {
+    resetting([0, 1, 30])
+}
+
+fn resetting(last: [u16; 3]) -> Vec<u8> {
+    let mut records = vec![record(1, &[32, 16, 2])];
+    let at_leasts = (24..=30).flat_map(|constant| [0, 3, constant]);
+    let edge: Vec<u16> = [31, 31, 15, 1].into_iter().chain(at_leasts).chain(last).collect();
+    records.extend((0..256).map(|_| record(5, &edge)));
+    records.concat()
+}
+
 /// Two edges everywhere and no final location: a search by branch follows them all.
 pub fn forking() -> Vec<u8> {
     let edges = [record(5, &[0, 0, 0, 0]), record(5, &[0, 0, 0, 0, 0, 3, 0])].concat();
