@@ -1,4 +1,5 @@
-// The edge table by place: an edge's fields, its checks, and what the sizes of a rule give, cm, powers and N.
+// The edge table by place: an edge's fields, its checks, the pin of its resets, and what the sizes of a rule give, cm,
+// powers and N.
 // Total: a place past the end of the table holds 0, as in the definitions.
 ghost use mathlib.Core.Path.{_≡_};
 ghost use Prim.Native.Nat.{_^_, _≤_, _<_};

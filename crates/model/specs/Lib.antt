@@ -1,7 +1,7 @@
 -- What a reader must believe, in the order of document 01. What is proved of it stands in proofs/.
 -- Choices, lists of numbers, masks; refusals and the order among them
 pub mod Basics
--- "The rule": locations, clocks, edges, cm and N; which rules a file may spell
+-- "The rule": locations, clocks, edges, cm and N; what pins a reset (2.4); which rules a file may spell
 pub mod Rules
 -- "The rule": words, and what a word may not be (30 to 33)
 pub mod Words
@@ -25,5 +25,5 @@ pub mod Promises
 -- Demands 2 and 3 as claims about the definitions and the promises
 pub mod Demands
 -- Further claims that pin the definitions: runs, configurations, successor sets, the tables by place, the follower,
--- guards and what held a rule back
+-- guards, what held a rule back, what pins a guard
 pub mod Claims
