@@ -11,7 +11,7 @@ use borrow.Author.Tests.{lt-ltb, le-ltb, le-leb, lt-leb}
 use Rattle.model.specs.declared.Head.{Head}
 use Rattle.model.specs.Rules.{Atom, mostConstant, mostRelation, atomsOk}
 use Rattle.model.specs.Files.{atomNumbers}
-use Rattle.model.specs.Layout.{edgeFields, atomWidth, atomsIn}
+use Rattle.model.specs.Layout.{edgeFields, atomWidth, atomsIn, edgeIn}
 use Rattle.model.proofs.EdgeTable.{atoms-rest}
 use Rattle.edges.specs.Checks.{fieldsOk, wholeAtoms}
 
@@ -151,10 +151,12 @@ atoms-part n t h =
     rw (length-take-le (atomWidth * n) t h) (omega arith) in
     rw count (atoms-taken n t h)
 
--- the numbers from an edge's fields to the end of its n atoms hold those atoms
+-- the part of the table behind an edge's fields, as long as its n atoms, holds them
 pub edge-part :
-    (n : ℕ) (t : List ℕ) → edgeFields + atomWidth * n ≤ length t
-    → wholeAtoms (take (edgeFields + atomWidth * n - edgeFields) (drop edgeFields t)) ≡ atomsIn n (drop edgeFields t)
-edge-part n t h =
+    (n : ℕ) (t : List ℕ) → n ≡ getD t 4 0 → edgeFields + atomWidth * n ≤ length t
+    → wholeAtoms (take (edgeFields + atomWidth * n - edgeFields) (drop edgeFields t)) ≡ edgeIn t .atoms
+edge-part n t n-is h =
     let e : edgeFields + atomWidth * n - edgeFields ≡ atomWidth * n = omega arith in
-    rw e (atoms-part n (drop edgeFields t) (rw (length-drop edgeFields t) (omega arith)))
+    rw e
+    (atoms-part n (drop edgeFields t) (rw (length-drop edgeFields t) (omega arith))
+    ∙ ap (λ (k : ℕ). atomsIn k (drop edgeFields t)) n-is)

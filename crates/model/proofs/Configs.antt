@@ -16,7 +16,8 @@ use Rattle.model.specs.Runs.{older, zeroed, canTake, startAges, someEdge
 use Rattle.model.specs.Runs.{accepts, Config, config, hasConfig, withConfig, byEdges, byConfigs, startConfigs}
 use Rattle.model.specs.Claims.{configsAfter, configsOf}
 use Rattle.model.proofs.Ages.{AtMost, older-most, zeroed-most, zeros-most}
-use Rattle.model.proofs.Logic.{no-way, by-test, and-left, and-right, or-left, or-right, or-cases, same-equal}
+use Rattle.model.proofs.Logic.{no-way, by-test, and-left, and-right, or-left, or-right, or-none, or-cases}
+use Rattle.model.proofs.Logic.{same-equal}
 
 -- some configuration passes a test
 abbrev pub someConfig : (Config → Bool) → List Config → Bool
@@ -26,10 +27,6 @@ someConfig f (c ∷ cs) = f c || someConfig f cs
 or-three : (a b c : Bool) → ((a || b) || c) ≡ (a || (b || c))
 or-three true b c = refl
 or-three false b c = refl
-
-or-none : (a : Bool) → (a || false) ≡ a
-or-none true = refl
-or-none false = refl
 
 or-kept : (a b : Bool) → (b ≡ true → a ≡ true) → a ≡ (a || b)
 or-kept true b h = refl

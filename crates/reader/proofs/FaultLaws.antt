@@ -11,7 +11,8 @@ use Rattle.model.specs.declared.Head.{Head}
 use Rattle.model.specs.Basics.{pick}
 use Rattle.model.specs.Rules.{Atom, Rule, mostConstant, edgeOk, atomsOk, isPinned}
 use Rattle.model.specs.Files.{numberAt, edgeBody, bodyOk, outOfOrder, oneTooMany, badSizes, outOfRange}
-use Rattle.model.specs.Layout.{edgeFields, atomWidth, atomsIn, edgeIn, headOf}
+use Rattle.model.specs.Layout.{edgeFields, atomWidth, edgeIn, headOf}
+use Rattle.model.proofs.Logic.{or-none}
 use Rattle.numbers.proofs.Answers.{failed, passed}
 use Rattle.edges.specs.Checks.{fieldsOk, wholeAtoms}
 use Rattle.edges.proofs.EdgeChecks.{edge-part}
@@ -23,10 +24,6 @@ use Rattle.reader.specs.State.{Holds, orderFault, edgeFault, Standing}
 turned : (z : Bool) → _≡_ {A = ℕ} (pick z 0 7) (pick (not z) 7 0)
 turned true = refl
 turned false = refl
-
-or-none : (a : Bool) → a ≡ (a || false)
-or-none true = refl
-or-none false = refl
 
 -- 2: the kinds and their lengths
 module _ (kind n : ℕ) where
@@ -72,14 +69,14 @@ module _ (c : Cursor) (r : Rule) (h : Holds r c) (kind : ℕ) (body : List ℕ) 
         pub order-initial :
             (x : ℕ) → kind ≡ 2 → x ≡ numberAt 0 body → ltb x (c .start) ≡ outOfOrder (c .last) r kind body
         order-initial x e q =
-            rw (ne-eqb kind 1 other, seen, rises, e) (ap₂ ltb q (h .start-is) ∙ or-none _)
+            rw (ne-eqb kind 1 other, seen, rises, e) (ap₂ ltb q (h .start-is) ∙ sym (or-none _))
 
         pub order-final :
             (x : ℕ) → kind ≡ 3 → x ≡ numberAt 0 body → ltb x (c .end) ≡ outOfOrder (c .last) r kind body
         order-final x e q = rw (ne-eqb kind 1 other, seen, rises, e) (ap₂ ltb q (h .end-is))
 
         pub order-ceiling : kind ≡ 4 → eqb (c .last) 4 ≡ outOfOrder (c .last) r kind body
-        order-ceiling e = rw (ne-eqb kind 1 other, seen, rises, e) (or-none _ ∙ or-none _)
+        order-ceiling e = rw (ne-eqb kind 1 other, seen, rises, e) (sym (or-none _) ∙ sym (or-none _))
 
         pub order-other :
             (kind ≡ 2 → ⊥) → (kind ≡ 3 → ⊥) → (kind ≡ 4 → ⊥) → false ≡ outOfOrder (c .last) r kind body
@@ -120,10 +117,10 @@ module _ (h : Head) (r : Rule) (h-is : h ≡ headOf r) (kind n : ℕ) (body : Li
         h-is,
         x-is,
       )
-      (or-none _ ∙ or-none _)
+      (sym (or-none _) ∙ sym (or-none _))
 
   pub range-ceiling : (x : ℕ) → kind ≡ 4 → x ≡ numberAt 0 body → ltb mostConstant x ≡ outOfRange r kind n body
-  range-ceiling x e x-is = rw (e, x-is) (or-none _)
+  range-ceiling x e x-is = rw (e, x-is) (sym (or-none _))
 
   module _ (not-4 : kind ≡ 4 → ⊥) (not-5 : kind ≡ 5 → ⊥) where
     pub range-low : kind < 2 → false ≡ outOfRange r kind n body
@@ -149,9 +146,7 @@ module _
       part-atoms = wholeAtoms (take (edgeFields + atomWidth * m - edgeFields) (drop edgeFields v))
 
       part-is : part-atoms ≡ edgeIn v .atoms
-      part-is =
-          edge-part m v (omega (arith, standing .wide, standing .few))
-          ∙ ap (λ (j : ℕ). atomsIn j (drop edgeFields v)) m-is
+      part-is = edge-part m v m-is (omega (arith, standing .wide, standing .few))
 
       module _ (k : ℕ) (k-is : k ≡ h .clocks) {y : Bool} (atoms : y ≡ atomsOk k part-atoms) where
         ok-known : y ≡ edgeOk r (edgeIn v)

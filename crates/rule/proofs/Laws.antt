@@ -73,7 +73,7 @@ module _ (h : Head) (t : List ℕ) (long : edgeWidth ≤ length t) (n : ℕ) (n-
     part-atoms = wholeAtoms (take (edgeFields + atomWidth * n - edgeFields) (drop edgeFields t))
 
     part-is : part-atoms ≡ edgeIn t .atoms
-    part-is = edge-part n t (omega arith) ∙ ap (λ (k : ℕ). atomsIn k (drop edgeFields t)) count-is
+    part-is = edge-part n t count-is (omega arith)
 
     pub edge-atoms :
         {x : Bool} (k : ℕ) → k ≡ h .clocks → x ≡ atomsOk k part-atoms → x ≡ atomsOk (h .clocks) (edgeIn t .atoms)

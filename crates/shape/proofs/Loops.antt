@@ -14,7 +14,7 @@ use Rattle.model.specs.Basics.{remainder, allBelow}
 use Rattle.model.specs.Construction.{intervalCount}
 use Rattle.model.specs.Tables.{rowWidth, rowStart, rowLength}
 use Rattle.model.specs.Walks.{rowsChain, cellsOk}
-use Rattle.model.proofs.Logic.{remainder-is, or-right, two, less, least}
+use Rattle.model.proofs.Logic.{remainder-is, or-right, or-none, two, less, least}
 use Rattle.shape.specs.Ranges.{rowsOk, resetsOk}
 
 -- the list from place i on
@@ -79,10 +79,6 @@ and-false : (b : Bool) → (b && false) ≡ false
 and-false true = refl
 and-false false = refl
 
-or-false : (b : Bool) → (b || false) ≡ b
-or-false true = refl
-or-false false = refl
-
 -- Codes below N.
 pub record CodesBelow (m : ℕ) (xs : List ℕ) (below : Bool) (i : ℕ) : Type 0 where
   pub turns : i ≤ length xs
@@ -141,7 +137,7 @@ module _ {xs : List ℕ} {none : Bool} {at : ℕ} (inv : ResetsOk xs none at) wh
         let next = even-place xs (at + 1) (omega (arith, inv .odd-place)) in
         sym (inv .rest-is)
         ∙ (ap (λ (l : List ℕ). none && resetsOk at l) (from-place xs at h)
-        ∙ rw (odd, or-false (eqb (getD xs at 0 % 2) 0), ← add-one at, next, two-on))
+        ∙ rw (odd, or-none (eqb (getD xs at 0 % 2) 0), ← add-one at, next, two-on))
 
     resets-next :
         (now : Bool) → (none && (eqb (getD xs at 0 % 2) 0 && resetsOk (at + 2) (drop (at + 2) xs)))

@@ -16,7 +16,7 @@ use Rattle.model.specs.Rules.{mostPairs, mostConstant, sizesOk}
 use Rattle.model.specs.Construction.{mostRows}
 use Rattle.model.specs.Tables.{rowWidth, rowStart, rowLength, rowVerdict, codesAt}
 use Rattle.model.specs.Walks.{locationWeight, builtPairs, rowsChain, anyFinal, codesSay, verdictsOk}
-use Rattle.model.proofs.Logic.{and-left, and-right}
+use Rattle.model.proofs.Logic.{and-left, and-right, or-right, or-none}
 use Rattle.model.proofs.Valid.{sizes-of}
 use Rattle.shape.specs.Ranges.{sizesInRange}
 use Rattle.shape.specs.Verdicts.{whole, reciprocal, finalBy, ProductsFit, Settled}
@@ -28,14 +28,6 @@ pub record Said (m ends : ℕ) (xs : List ℕ) (says i : ℕ) : Type 0 where
   pub found : Bool
   pub says-is : says ≡ oneIf found
   pub rest-is : (found || finalBy m ends (drop i xs)) ≡ finalBy m ends xs
-
-or-none : (b : Bool) → (b || false) ≡ b
-or-none true = refl
-or-none false = refl
-
-or-some : (b : Bool) → (b || true) ≡ true
-or-some true = refl
-or-some false = refl
 
 pub said-start : (m ends : ℕ) (xs : List ℕ) → Said m ends xs 0 0
 said-start m ends xs = record { turns = omega arith; found = false; says-is = refl; rest-is = refl }
@@ -67,7 +59,7 @@ module _ {m ends : ℕ} {xs : List ℕ} {says i : ℕ} (inv : Said m ends xs say
       turns = omega arith;
       found = true;
       says-is = refl;
-      rest-is = sym (said-rest ∙ rw e (or-some (inv .found)));
+      rest-is = sym (said-rest ∙ rw e (or-right (inv .found) true refl));
     }
 
 -- Where all codes are below 65,536, the multiplication finds their locations.
