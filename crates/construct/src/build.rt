@@ -9,7 +9,7 @@ ghost use Rattle.model.specs.Construction.{mostRows};
 ghost use Rattle.model.specs.Layout.{ruleIn, ruleRefusal};
 ghost use Rattle.model.specs.Tables.{rowRoom, rowWidth};
 ghost use Rattle.model.specs.Promises.{BuildsTable};
-ghost use Rattle.pairs.specs.Pairs.{Scaled};
+ghost use Rattle.codes.specs.Codes.{Scaled};
 ghost use Rattle.construct.specs.Rows.{saysBy, saysIn};
 ghost use Rattle.construct.specs.Cells.{AllFilled};
 ghost use Rattle.construct.specs.Builds.{CanPlaceStart, StartPlaced, CanBuild, notBuilt, builtFrom};
@@ -19,8 +19,8 @@ use crate::cells::fill_rows;
 use crate::leaving::link_edges;
 use crate::marks::mark_starts;
 use crate::rows::place_marks;
-use edges::power;
-use edges::top_of;
+use codes::Scale;
+use codes::powers::scale_of;
 use model::Building;
 use model::Built;
 use model::Head;
@@ -28,12 +28,10 @@ use model::MOST_ROWS;
 use model::ROW_WIDTH;
 use numbers::clear32;
 use numbers::lesser;
-use numbers::narrow8;
 use numbers::narrow32;
 use numbers::quotient;
 use numbers::wide8;
 use numbers::wide32;
-use pairs::Scale;
 
 // The least of 4,096, the rows that the row table holds and those that the cell table holds cells for.
 pub(crate) fn row_room(cells: usize, rows: usize, each: usize) -> usize
@@ -96,20 +94,6 @@ pub(crate) fn fill_tables(
     }
     let links = link_edges(head, edges);
     fill_rows(head, edges, &links, scale, marks, cells, rows, pool, p)
-}
-
-// Clocks, cm and the weight of a location.
-pub(crate) fn scale_of(head: Head, edges: &[u16]) -> Scale
-    requires { ⌜ ruleRefusal head (now edges) .number ≡ 0 ⌝ }
-    ensures { λ r. ⌜ Scaled (ruleIn head (now (edges .entry))) r ⌝ }
-{
-    let top = top_of(head, edges);
-    let weight = power(top + 2, wide32(head.clocks));
-    Scale {
-        clocks: head.clocks,
-        top: narrow8(top),
-        weight: narrow32(weight),
-    }
 }
 
 // No table.

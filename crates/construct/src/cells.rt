@@ -15,12 +15,12 @@ use crate::marks::mark_next;
 use crate::rows::length_in;
 use crate::rows::place_marks;
 use crate::rows::start_in;
+use codes::Scale;
 use model::Head;
 use numbers::narrow32;
 use numbers::wide8;
 use numbers::wide32;
 use pairs::Input;
-use pairs::Scale;
 
 // Next row · 2, plus 1 if the timer is reset.
 pub(crate) fn cell_of(row: usize, timer: bool) -> u32

@@ -7,8 +7,10 @@ ghost use lib.ListN.{getD};
 ghost use Rattle.model.specs.Rules.{validRule};
 ghost use Rattle.model.specs.Layout.{ruleIn};
 ghost use Rattle.model.specs.Construction.{pairResets, rowResets};
-ghost use Rattle.pairs.specs.Pairs.{Scaled};
+ghost use Rattle.codes.specs.Codes.{Scaled};
 ghost use Rattle.construct.specs.Leaving.{firstLink, nextPlace, Linked};
+use codes::Scale;
+use codes::unpack;
 use edges::fields::source_of;
 use edges::fields::symbol_of;
 use model::Head;
@@ -19,8 +21,6 @@ use numbers::narrow32;
 use numbers::number_at;
 use numbers::wide32;
 use pairs::Input;
-use pairs::Scale;
-use pairs::codes::unpack;
 use pairs::resets::edge_resets;
 
 // Links in all: to the first edge that leaves each location on each symbol, then from each edge to the next like it.

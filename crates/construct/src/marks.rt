@@ -13,14 +13,14 @@ use crate::Span;
 use crate::leaving::first_edge;
 use crate::leaving::next_edge;
 use crate::leaving::row_resets;
+use codes::Scale;
+use codes::unpack;
 use model::Head;
 use model::MOST_LOCATIONS;
 use numbers::has_bit;
 use numbers::narrow32;
 use numbers::wide32;
 use pairs::Input;
-use pairs::Scale;
-use pairs::codes::unpack;
 use pairs::moves::target;
 use pairs::regions::allows;
 

@@ -1,10 +1,11 @@
 // The target of a pair by an edge.
 ghost use mathlib.Core.Path.{_≡_};
 ghost use Rattle.model.specs.Layout.{edgeAt};
+ghost use Rattle.codes.specs.Codes.{Powered};
 ghost use Rattle.pairs.specs.Pairs.{advancedBase, movedBase, movedBases, pairTarget};
-use crate::Pair;
-use crate::Scale;
-use crate::codes::pack;
+use codes::Pair;
+use codes::Scale;
+use codes::pack;
 use edges::fields::resets_of;
 use edges::fields::target_of;
 use model::MOST_CLOCKS;
@@ -59,6 +60,7 @@ pub fn moved(
 
 // The code of the target of a pair by edge `e`.
 pub fn target(edges: &[u16], e: u32, scale: Scale, interval: u32, timer: bool, pair: Pair) -> usize
+    requires { ⌜ Powered scale ⌝ }
     ensures { λ r. ⌜ r ≡ pairTarget scale interval timer pair (edgeAt e (now (edges .entry))) ⌝ }
 {
     let location = target_of(edges, e);

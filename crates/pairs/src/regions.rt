@@ -4,7 +4,7 @@ ghost use Rattle.model.specs.Construction.{regionOf, regionsOf};
 ghost use Rattle.model.specs.Layout.{edgeAt};
 ghost use Rattle.pairs.specs.Pairs.{pairAllows};
 use crate::Input;
-use crate::Pair;
+use codes::Pair;
 use edges::fields::source_of;
 use edges::fields::symbol_of;
 use guards::guard_holds;

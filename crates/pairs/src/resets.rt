@@ -3,8 +3,8 @@ ghost use mathlib.Core.Path.{_≡_};
 ghost use Rattle.model.specs.Layout.{edgeAt};
 ghost use Rattle.pairs.specs.Pairs.{pairResetsOn};
 use crate::Input;
-use crate::Pair;
 use crate::regions::allows;
+use codes::Pair;
 use edges::fields::resets_of;
 
 // Does edge `e` reset a clock, and does a pair allow it?
