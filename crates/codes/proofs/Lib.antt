@@ -1,0 +1,4 @@
+pub mod PowerLaws
+pub mod Codes
+pub mod Loops
+pub mod Agreement

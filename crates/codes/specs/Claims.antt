@@ -18,9 +18,9 @@ sizesFit l k c =
 -- each is that power, and the places past K are zero
 pub record Powers-by-place (k c : ℕ) : Type 0 where
   pub five : length (scaleOf c k .powers) ≡ powerPlaces
-  pub each : (i : ℕ) → i ≤ k → powerAt (scaleOf c k) i ≡ (c + 2) ^ i
+  pub each : (i : ℕ) → i ≤ k → powerAt (scaleOf c k .powers) i ≡ (c + 2) ^ i
   pub weight-is : scaleOf c k .weight ≡ (c + 2) ^ k
-  pub zero-past : (i : ℕ) → k < i → powerAt (scaleOf c k) i ≡ 0
+  pub zero-past : (i : ℕ) → k < i → powerAt (scaleOf c k .powers) i ≡ 0
 
 abbrev pub Powers-are : Type 0
 Powers-are = (l k c : ℕ) → sizesFit l k c ≡ true → Powers-by-place k c

@@ -1,4 +1,4 @@
-// The powers of cm + 2, worked out once in a build.
+// The scale of a rule, with the powers of cm + 2: worked out once in a build.
 ghost use mathlib.Core.Path.{_≡_};
 ghost use Prim.Native.Nat.{_≤_};
 ghost use Rattle.model.specs.Rules.{mostClocks, mostConstant};

@@ -89,23 +89,28 @@ pub after-bases : (r : Rule) (i : ℕ) (timer : Bool) (x : ℕ) (e : Edge) → B
 after-bases r i true x e = digits-zeroed 0 (e .resets) (digits-advanced (cm r) i (code-bases r x))
 after-bases r i false x e = digits-zeroed 0 (e .resets) (code-bases r x)
 
-weight : (r : Rule) → 0 < baseCount r ^ r .clocks
-weight r = one-le-pow (r .clocks) (baseCount r) (omega arith)
+-- the location and the digits of a code, for any number of values and of clocks
+pub location-out :
+    {m k : ℕ} {bs : List ℕ} (l : ℕ) → 0 < m → Digits m k bs → quotient (l * m ^ k + digitsCode m bs) (m ^ k) ≡ l
+location-out {m} {k} {bs} l p h =
+    quotient-is (l * m ^ k + digitsCode m bs) (m ^ k) (one-le-pow k m p) ∙ digits-div l (code-small h)
+
+pub digits-out :
+    {m k : ℕ} {bs : List ℕ} (l : ℕ) → 0 < m → Digits m k bs
+    → digitsOf k m (remainder (l * m ^ k + digitsCode m bs) (m ^ k)) ≡ bs
+digits-out {m} {k} {bs} l p h =
+    let x : ℕ = l * m ^ k + digitsCode m bs in
+    let e : remainder (l * m ^ k + digitsCode m bs) (m ^ k) ≡ digitsCode m bs =
+    remainder-is x (m ^ k) (one-le-pow k m p) ∙ digits-mod l (code-small h) in
+    rw e (digits-back h)
 
 pub location-back : (r : Rule) (l : ℕ) (bs : List ℕ) → Bases r bs → locationOf r (codeOf r l bs) ≡ l
 unfolding locationOf codeOf
-location-back r l bs h =
-    quotient-is (l * baseCount r ^ r .clocks + digitsCode (baseCount r) bs) (baseCount r ^ r .clocks) (weight r)
-    ∙ digits-div l (code-small h)
+location-back r l bs h = location-out l (omega arith) h
 
 pub bases-back : (r : Rule) (l : ℕ) (bs : List ℕ) → Bases r bs → basesOf r (codeOf r l bs) ≡ bs
 unfolding basesOf codeOf
-bases-back r l bs h =
-    let m : ℕ = baseCount r in
-    let w : ℕ = m ^ r .clocks in
-    let x : ℕ = digitsCode m bs in
-    let e : remainder (l * w + x) w ≡ x = remainder-is (l * w + x) w (weight r) ∙ digits-mod l (code-small h) in
-    rw e (digits-back h)
+bases-back r l bs h = digits-out l (omega arith) h
 
 pub code-below : (r : Rule) (l : ℕ) (bs : List ℕ) → Bases r bs → l < r .locations → codeOf r l bs < pairCount r
 unfolding codeOf pairCount

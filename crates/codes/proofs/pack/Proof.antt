@@ -1,91 +1,118 @@
+-- `codes::pack` meets its contract: the code so far, with the bases to come, is the code.
+use mathlib.Core.Logic.{⊎-elim}
+use Prim.Native.Nat.{_≤_, _-_, _+_, _^_, _*_}
+use native.Mathlib.Omega.{arith}
+use borrow.Author.Needs.{needs}
+use Rattle.model.specs.Rules.{mostClocks}
+use Rattle.codes.proofs.PowerLaws.{raised-of}
+use Rattle.codes.proofs.Loops.{Packing, laterCode, product-most, packing-start, packing-next, packing-skip}
+use Rattle.codes.proofs.Loops.{packing-end, pack-is}
 use Rattle.codes.proofs.pack.Statement.{statement}
 use Rattle.codes.proofs.pack.Tie as tie
-use Rattle.codes.proofs.pack.Reads as reads
-use Rattle.codes.proofs.pack.Lts as lts
-use Rattle.numbers.proofs.wide16.Reads as wide16-reads
-use Rattle.numbers.proofs.wide32.Reads as wide32-reads
 
 abbrev Inv-loop : tie.InvT-loop
-Inv-loop location bases powers clocks code₀ k₀ code k = ?
+Inv-loop location bases powers clocks code₀ k₀ code k =
+    (clocks ≤ mostClocks) × Packing powers clocks k code (code₀ + laterCode powers clocks bases) bases
 
 abbrev μ-loop : tie.MeasureT-loop
-μ-loop location bases powers clocks code₀ k₀ code k = ?
+μ-loop location bases powers clocks code₀ k₀ code k = mostClocks - k
 
--- src/lib.rt:64:9
 wide32-requires : tie.Need-wide32-requires Inv-loop μ-loop
-wide32-requires c κs = ?
+wide32-requires c κs = search needs
 
--- src/lib.rt:65:31
 wide32-requires-2 : tie.Need-wide32-requires-2 Inv-loop μ-loop
-wide32-requires-2 c κs = ?
+wide32-requires-2 c κs = search needs
 
--- src/lib.rt:65:20
 mul-code : tie.Need-mul-code Inv-loop μ-loop
-mul-code c = ?
+mul-code c =
+    let start = c .before .before .before in
+    let h : start .args .location * c .wide322 .result ≤ 2 ^ 48 = product-most _ _ (search needs) (search needs) in
+    search needs
 
--- src/lib.rt:65:61
 array-read-wide16 : tie.Need-array-read-wide16 Inv-loop μ-loop
-array-read-wide16 c = ?
+array-read-wide16 c = search needs
 
--- src/lib.rt:65:54
 wide16-requires : tie.Need-wide16-requires Inv-loop μ-loop
-wide16-requires c κs = ?
+wide16-requires c κs = search needs
 
--- src/lib.rt:65:20
 add-code : tie.Need-add-code Inv-loop μ-loop
-add-code c = ?
+add-code c =
+    let at-weight = c .before in
+    let start = at-weight .before .before .before in
+    let h : start .args .location * at-weight .wide322 .result ≤ 2 ^ 48 = product-most _ _ (search needs)
+    (search needs) in
+    search needs
 
--- src/lib.rt:67:5
 loop-holds : tie.Need-loop-holds Inv-loop μ-loop
-loop-holds c = ?
+loop-holds c =
+    let at-weight = c .before in
+    let start = at-weight .before .before .before in
+    let h : start .args .location * at-weight .wide322 .result ≤ 2 ^ 48 = product-most _ _ (search needs)
+    (search needs) in (
+      omega (arith, at-weight .before .wide32 .ensures .0, start .pre .0 .clocks-most),
+      packing-start _ _ _ _ (search needs) (search needs),
+    )
 
--- src/lib.rt:69:34
 mul-wide16 : tie.Need-mul-wide16 Inv-loop μ-loop
-mul-wide16 c = ?
+mul-wide16 c = search needs
 
--- src/lib.rt:69:34
 array-read-wide16-2 : tie.Need-array-read-wide16-2 Inv-loop μ-loop
-array-read-wide16-2 c = ?
+array-read-wide16-2 c = search needs
 
--- src/lib.rt:69:27
 wide16-requires-2 : tie.Need-wide16-requires-2 Inv-loop μ-loop
-wide16-requires-2 c κs = ?
+wide16-requires-2 c κs = search needs
 
--- src/lib.rt:69:53
 mul-wide32 : tie.Need-mul-wide32 Inv-loop μ-loop
-mul-wide32 c = ?
+mul-wide32 c = search needs
 
--- src/lib.rt:69:53
 array-read-wide32 : tie.Need-array-read-wide32 Inv-loop μ-loop
-array-read-wide32 c = ?
+array-read-wide32 c = search needs
 
--- src/lib.rt:69:46
 wide32-requires-3 : tie.Need-wide32-requires-3 Inv-loop μ-loop
-wide32-requires-3 c κs = ?
+wide32-requires-3 c κs = search needs
 
--- src/lib.rt:69:27
 mul-code-2 : tie.Need-mul-code-2 Inv-loop μ-loop
-mul-code-2 c = ?
+mul-code-2 c =
+    let h : c .before .wide162 .result * c .wide323 .result ≤ 2 ^ 48 = product-most _ _ (search needs)
+    (search needs) in
+    search needs
 
--- src/lib.rt:69:20
 add-code-2 : tie.Need-add-code-2 Inv-loop μ-loop
-add-code-2 c = ?
+add-code-2 c =
+    let l = c .before .before .before .before .loop in
+    let h : c .before .wide162 .result * c .wide323 .result ≤ 2 ^ 48 = product-most _ _ (search needs)
+    (search needs) in
+    omega (arith, l .inv .1 .code-most, l .inv .1 .turns-most)
 
--- src/lib.rt:71:9
 add-k : tie.Need-add-k Inv-loop μ-loop
-add-k c = ?
+add-k c = search needs
 
--- src/lib.rt:67:5
 loop-less : tie.Need-loop-less Inv-loop μ-loop
-loop-less c = ?
+loop-less c = search needs
 
--- src/lib.rt:67:5
 loop-again : tie.Need-loop-again Inv-loop μ-loop
-loop-again c = ?
+loop-again c =
+    let l = c .before .before .loop in (
+      search needs,
+      ⊎-elim
+          (λ w. packing-next (l .inv .1) (w .1 .result) (w .2 .result) _ (search needs) (w .0 .taken)
+          (w .1 .ensures .0) (w .2 .ensures .0) (w .1 .ensures .1) (w .2 .ensures .1) (w .3))
+          (λ w. packing-skip (l .inv .1) _ (search needs) (w .0 .left) (w .1))
+          (c .if1 .came),
+    )
 
--- src/lib.rt:58:1
 returns : tie.Need-returns Inv-loop μ-loop
-returns c = ?
+returns c =
+    let at-loop = c .before in
+    let at-base = at-loop .before in
+    let at-weight = at-base .before in
+    let at-clocks = at-weight .before in
+    let start = at-clocks .before .before in
+    pack-is (start .args .scale) _ _ _ _ _ _ (raised-of (start .pre .0)) (search needs)
+    (at-clocks .wide32 .ensures .0)
+    (at-weight .wide322 .ensures .0)
+    (at-base .wide16 .ensures .0)
+    (packing-end (at-loop .loop .inv .1) (search needs))
 
 pub pack-spec : {M : Type 1} → statement M
 pack-spec =
