@@ -40,7 +40,7 @@ module _ {r : Rule} {z : Scale} (scaled : Scaled r z) where
   code-is l bases = rw (scaled .clocks-are) (ap₂ (λ (w n : ℕ). l * w + n) weight-is (sum-all raised bases))
 
 -- the scale of a rule that passed 20 and 21
-clocks-of : (h : Head) (t : List ℕ) → ruleIn h t .clocks ≡ h .clocks
+pub clocks-of : (h : Head) (t : List ℕ) → ruleIn h t .clocks ≡ h .clocks
 unfolding ruleIn
 clocks-of h t = refl
 

@@ -18,7 +18,7 @@ use Rattle.model.specs.Tables.{symbolCells, cellNumbers}
 use Rattle.model.proofs.RowNumbers.{Extends, extends-length}
 use Rattle.model.proofs.Discovery.{grows-extends, symbols-grow, rows-grow, rows-on, rows-end}
 use Rattle.model.proofs.TablePlaces.{cell-numbers-length, symbols-length}
-use Rattle.pairs.specs.declared.Scale.{Scale}
+use Rattle.codes.specs.declared.Scale.{Scale}
 use Rattle.construct.specs.declared.Progress.{Progress}
 use Rattle.construct.specs.Marks.{Ready}
 use Rattle.construct.specs.Rows.{rowsIn, Held, Grown}

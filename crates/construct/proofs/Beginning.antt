@@ -16,8 +16,8 @@ use Rattle.model.proofs.Logic.{lesser-left, lesser-right}
 use Rattle.model.proofs.Readable.{passes-valid}
 use Rattle.model.proofs.RowNumbers.{Extends}
 use Rattle.model.proofs.Discovery.{grows-extends, rows-grow}
-use Rattle.pairs.specs.declared.Scale.{Scale}
-use Rattle.pairs.specs.Pairs.{Scaled}
+use Rattle.codes.specs.declared.Scale.{Scale}
+use Rattle.codes.specs.Codes.{Scaled}
 use Rattle.construct.specs.declared.Progress.{Progress}
 use Rattle.construct.specs.Marks.{Ready, startCodesBy}
 use Rattle.construct.specs.Rows.{Grown}

@@ -20,11 +20,13 @@ use Rattle.model.proofs.Logic.{by-test, In, here, there, in-at}
 use Rattle.model.proofs.Valid.{valid-of, Valid, EdgeIn}
 use Rattle.model.proofs.RowSets.{even-reset}
 use Rattle.model.proofs.EdgeTable.{edges-length, edge-at}
-use Rattle.pairs.specs.declared.Scale.{Scale}
-use Rattle.pairs.specs.declared.Pair.{Pair}
+use Rattle.codes.specs.declared.Scale.{Scale}
+use Rattle.codes.specs.declared.Pair.{Pair}
 use Rattle.pairs.specs.declared.Input.{Input}
-use Rattle.pairs.specs.Pairs.{Scaled, unpacked, pairAllows, pairResetsOn, pairTarget}
-use Rattle.pairs.proofs.Agreement.{location-is, allows-is, target-is}
+use Rattle.codes.specs.Codes.{Scaled, unpacked}
+use Rattle.pairs.specs.Pairs.{pairAllows, pairResetsOn, pairTarget}
+use Rattle.codes.proofs.Agreement.{location-is}
+use Rattle.pairs.proofs.Agreement.{allows-is, target-is}
 use Rattle.construct.specs.Leaving.{firstLeaving, leavingFrom, edgeOf, nextPlace, firstLink, Linked}
 use Rattle.construct.proofs.LeavingLaws.{Standing, standing-from, next-is, next-later, from-first}
 

@@ -20,8 +20,9 @@ use Rattle.model.specs.Tables.{fitRefusal, tableRefusal}
 use Rattle.model.specs.Promises.{buildRefusal, BuildsTable, ChecksRule}
 use Rattle.model.proofs.Refusals.{on-pass, on-refused, refuse-fine, refuse-met}
 use Rattle.model.proofs.Numbers.{Among, none, some, among-refuse, among-then}
-use Rattle.pairs.specs.declared.Scale.{Scale}
-use Rattle.pairs.specs.Pairs.{Scaled}
+use Rattle.codes.specs.declared.Scale.{Scale}
+use Rattle.codes.specs.Codes.{Scaled}
+use Rattle.codes.proofs.Agreement.{clocks-of}
 use Rattle.construct.specs.declared.Progress.{Progress}
 use Rattle.construct.specs.Rows.{rowsIn, saysIn, Held, Unfit}
 use Rattle.construct.specs.Cells.{AllFilled}
@@ -29,7 +30,7 @@ use Rattle.construct.specs.Builds.{notBuilt, builtFrom}
 use Rattle.construct.proofs.RowSearch.{rows-length}
 use Rattle.construct.proofs.NewRow.{passes-held}
 use Rattle.construct.proofs.SymbolFilling.{symbols-of}
-use Rattle.construct.proofs.StartLaws.{clocks-of, locations-of, final-mask}
+use Rattle.construct.proofs.StartLaws.{locations-of, final-mask}
 use Rattle.construct.proofs.RowVerdicts.{says-rule, numbers-say}
 
 -- the built record, field by field

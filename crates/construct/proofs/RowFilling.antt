@@ -17,7 +17,7 @@ use Rattle.model.specs.Tables.{cellsFrom, symbolCells}
 use Rattle.model.proofs.RowNumbers.{Extends, extends-at, extends-length}
 use Rattle.model.proofs.Discovery.{grows-extends, intervals-grow, symbols-grow, symbols-turn, symbols-over}
 use Rattle.model.proofs.TablePlaces.{symbols-length}
-use Rattle.pairs.specs.declared.Scale.{Scale}
+use Rattle.codes.specs.declared.Scale.{Scale}
 use Rattle.construct.specs.declared.Progress.{Progress}
 use Rattle.construct.specs.Marks.{Ready}
 use Rattle.construct.specs.Rows.{rowsIn, Held, Grown}

@@ -16,8 +16,9 @@ use Rattle.model.specs.Walks.{anyFinal}
 use Rattle.model.proofs.Valid.{valid-of}
 use Rattle.model.proofs.Readable.{passes-valid}
 use Rattle.model.proofs.TablePlaces.{codes-say, final-asc}
-use Rattle.pairs.specs.declared.Scale.{Scale}
-use Rattle.pairs.specs.Pairs.{Scaled}
+use Rattle.codes.specs.declared.Scale.{Scale}
+use Rattle.codes.specs.Codes.{Scaled}
+use Rattle.codes.proofs.Agreement.{weight-is}
 use Rattle.construct.specs.declared.Finals.{Finals}
 use Rattle.construct.specs.Rows.{saysBy, saysIn}
 use Rattle.construct.proofs.StartLaws.{final-mask}
@@ -55,7 +56,7 @@ pub says-rule :
     (h : Head) (t : List ℕ) {z : Scale} (xs : List ℕ) → ruleRefusal h t .number ≡ 0 → Scaled (ruleIn h t) z
     → saysIn h z xs ≡ holdsFinal (ruleIn h t) xs
 says-rule h t xs passed scaled =
-    ap₂ (λ (w e : ℕ). anyFinal w e xs) (scaled .weight-is) (final-mask h t passed)
+    ap₂ (λ (w e : ℕ). anyFinal w e xs) (weight-is scaled) (final-mask h t passed)
     ∙ codes-say (ruleIn h t) [] 0 0 0 xs (final-asc (ruleIn h t) (valid-of (ruleIn h t) (passes-valid h t passed)))
 
 -- the same numbers, where codes say the same

@@ -21,9 +21,9 @@ use Rattle.model.proofs.Valid.{Valid, valid-of, cm-most}
 use Rattle.model.proofs.Readable.{readable-of, passes-valid}
 use Rattle.model.proofs.Rising.{rises-below}
 use Rattle.model.proofs.Codes.{start-bases, code-below}
-use Rattle.edges.specs.Powers.{smallPower}
-use Rattle.pairs.specs.declared.Scale.{Scale}
-use Rattle.pairs.specs.Pairs.{Scaled}
+use Rattle.codes.specs.declared.Scale.{Scale}
+use Rattle.codes.specs.Codes.{Scaled}
+use Rattle.codes.proofs.Agreement.{weight-is}
 use Rattle.construct.specs.declared.Span.{Span}
 use Rattle.construct.specs.declared.Placed.{Placed}
 use Rattle.construct.specs.Marks.{codesIn, MarksAre, startCodesBy, CanStart, Ready}
@@ -31,10 +31,6 @@ use Rattle.construct.specs.Rows.{Held, Grown, MarksNumbered}
 use Rattle.construct.specs.Builds.{RoomIn, StartPlaced}
 
 -- the fields of the rule that a head record spells
-pub clocks-of : (h : Head) (t : List ℕ) → ruleIn h t .clocks ≡ h .clocks
-unfolding ruleIn
-clocks-of h t = refl
-
 pub locations-of : (h : Head) (t : List ℕ) → ruleIn h t .locations ≡ h .locations
 unfolding ruleIn
 locations-of h t = refl
@@ -53,52 +49,12 @@ final-mask h t z =
     (then-passes (refuse (ltb (length t) edgeNeed) 20 0) (refuse (not (isReadable h t)) 21 0) z)))
     .ends-are)
 
--- the scale of a rule that passed 20 and 21
-module _ (h : Head) (t : List ℕ) (passed : ruleRefusal h t .number ≡ 0) where
-  valid-is : Valid (ruleIn h t)
-  valid-is = valid-of (ruleIn h t) (passes-valid h t passed)
-
-  pub top-most : (top : ℕ) → top ≡ cm (ruleIn h t) → top ≤ mostConstant
-  top-most top e = omega (arith, e, cm-most (ruleIn h t) valid-is)
-
-  weight-is :
-      (top clocks weight : ℕ) → top ≡ cm (ruleIn h t) → clocks ≡ h .clocks → weight ≡ smallPower (top + 2) clocks
-      → weight ≡ baseCount (ruleIn h t) ^ ruleIn h t .clocks
-  weight-is top clocks weight e k w =
-      let few : clocks ≤ mostClocks = omega (arith, k, clocks-of h t, valid-is .sizes .clocks-most) in
-      let low : top + 2 < mostPairs = omega (arith, top-most top e) in
-      w ∙ (rw (lt-ltb (top + 2) mostPairs low, le-leb clocks mostClocks few) (rw (e, k, clocks-of h t)))
-
-  pub weight-most :
-      (top clocks weight : ℕ) → top ≡ cm (ruleIn h t) → clocks ≡ h .clocks → weight ≡ smallPower (top + 2) clocks
-      → weight ≤ mostPairs
-  unfolding pairCount
-  weight-most top clocks weight e k w =
-      let p : 1 * weight ≤ ruleIn h t .locations * weight =
-      mul-le-mul-right weight (valid-is .sizes .locations-least) in
-      let q : ruleIn h t .locations * weight ≡ pairCount (ruleIn h t) =
-      ap (λ (n : ℕ). ruleIn h t .locations * n) (weight-is top clocks weight e k w) in
-      omega (arith, valid-is .pairs-most)
-
-  pub scaled-is :
-      (top clocks weight low wide : ℕ) → top ≡ cm (ruleIn h t) → clocks ≡ h .clocks
-      → weight ≡ smallPower (top + 2) clocks
-      → low ≡ top
-      → wide ≡ weight
-      → Scaled (ruleIn h t) (record { clocks = h .clocks; top = low; weight = wide })
-  scaled-is top clocks weight low wide e k w f g = record {
-    clocks-are = sym (clocks-of h t);
-    clocks-most = valid-is .sizes .clocks-most;
-    top-is = f ∙ e;
-    weight-is = g ∙ weight-is top clocks weight e k w;
-  }
-
 -- N from the scale
 pub pairs-are :
     (h : Head) (t : List ℕ) (z : Scale) (l w : ℕ) → Scaled (ruleIn h t) z → l ≡ h .locations → w ≡ z .weight
     → l * w ≡ pairCount (ruleIn h t)
 unfolding pairCount
-pairs-are h t z l w s e f = ap₂ _*_ (e ∙ sym (locations-of h t)) (f ∙ s .weight-is)
+pairs-are h t z l w s e f = ap₂ _*_ (e ∙ sym (locations-of h t)) (f ∙ weight-is s)
 
 -- the room for rows
 pub room-is :
@@ -114,7 +70,7 @@ digits-zero m (suc k) = rw (digits-zero m k) (omega arith)
 
 start-code : (r : Rule) (z : Scale) (l : ℕ) → Scaled r z → l * z .weight ≡ codeOf r l (startBases r)
 unfolding codeOf
-start-code r z l s = rw (digits-zero (baseCount r) (r .clocks), s .weight-is) (omega arith)
+start-code r z l s = rw (digits-zero (baseCount r) (r .clocks), weight-is s) (omega arith)
 
 start-codes : (r : Rule) (z : Scale) (ls : List ℕ) → Scaled r z → startCodesBy (z .weight) ls ≡ startCodes r ls
 start-codes r z [] s = refl

@@ -20,7 +20,7 @@ use Rattle.model.proofs.Valid.{valid-of}
 use Rattle.model.proofs.RowNumbers.{Extends, with-extends, extends-at, extends-length}
 use Rattle.model.proofs.Discovery.{grows-extends, intervals-grow, intervals-turn, intervals-over}
 use Rattle.model.proofs.TablePlaces.{cells-length}
-use Rattle.pairs.specs.declared.Scale.{Scale}
+use Rattle.codes.specs.declared.Scale.{Scale}
 use Rattle.pairs.specs.declared.Input.{Input}
 use Rattle.construct.specs.declared.Progress.{Progress}
 use Rattle.construct.specs.declared.Filled.{Filled}

@@ -16,10 +16,11 @@ use Rattle.model.specs.Construction.{withCode, locationOf, allows, rowResets, t
 use Rattle.model.specs.Construction.{nextRow}
 use Rattle.model.proofs.Valid.{valid-of}
 use Rattle.model.proofs.CodeBounds.{target-below}
-use Rattle.pairs.specs.declared.Scale.{Scale}
-use Rattle.pairs.specs.declared.Pair.{Pair}
+use Rattle.codes.specs.declared.Scale.{Scale}
+use Rattle.codes.specs.declared.Pair.{Pair}
 use Rattle.pairs.specs.declared.Input.{Input}
-use Rattle.pairs.specs.Pairs.{unpacked, pairAllows, pairTarget}
+use Rattle.codes.specs.Codes.{unpacked}
+use Rattle.pairs.specs.Pairs.{pairAllows, pairTarget}
 use Rattle.construct.specs.declared.Span.{Span}
 use Rattle.construct.specs.Leaving.{leavingFrom, edgeOf, nextPlace, Linked}
 use Rattle.construct.specs.Marks.{codesIn, InSpan, CanMark, MarksAre, Ready, NextMarked}

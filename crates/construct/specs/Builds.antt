@@ -12,7 +12,7 @@ use Rattle.model.specs.Rules.{Rule}
 use Rattle.model.specs.Construction.{mostRows}
 use Rattle.model.specs.Layout.{locationsIn}
 use Rattle.model.specs.Tables.{rowWidth, noBuilt}
-use Rattle.pairs.specs.declared.Scale.{Scale}
+use Rattle.codes.specs.declared.Scale.{Scale}
 use Rattle.construct.specs.declared.Progress.{Progress}
 use Rattle.construct.specs.Marks.{startCodesBy, CanStart, Ready}
 use Rattle.construct.specs.Rows.{Grown}

@@ -11,7 +11,7 @@ use Rattle.model.specs.Rules.{Rule}
 use Rattle.model.specs.Construction.{width, startRow, nextRow, rowAt, numberOf, withRow, byIntervals, bySymbols, rowsOf}
 use Rattle.model.specs.Construction.{cellOf}
 use Rattle.model.specs.Tables.{cellsFrom, symbolCells, cellNumbers}
-use Rattle.pairs.specs.declared.Scale.{Scale}
+use Rattle.codes.specs.declared.Scale.{Scale}
 use Rattle.pairs.specs.declared.Input.{Input}
 use Rattle.construct.specs.declared.Progress.{Progress}
 use Rattle.construct.specs.declared.Filled.{Filled}

@@ -8,9 +8,9 @@ use lib.ListN.{length, getD}
 use Rattle.model.specs.Basics.{pick, bit, zeros, filled}
 use Rattle.model.specs.Rules.{Rule, mostLocations, pairCount, mostPairs, validRule}
 use Rattle.model.specs.Construction.{withCode, rowResets, nextRow}
-use Rattle.pairs.specs.declared.Scale.{Scale}
+use Rattle.codes.specs.declared.Scale.{Scale}
 use Rattle.pairs.specs.declared.Input.{Input}
-use Rattle.pairs.specs.Pairs.{Scaled}
+use Rattle.codes.specs.Codes.{Scaled}
 use Rattle.construct.specs.declared.Span.{Span}
 use Rattle.construct.specs.declared.Marked.{Marked}
 

@@ -14,7 +14,7 @@ use Rattle.model.specs.Walks.{anyFinal}
 use Rattle.model.proofs.Masks.{Asc}
 use Rattle.model.proofs.Discovery.{Each}
 use Rattle.model.proofs.RowNumbers.{Placed as Apart}
-use Rattle.pairs.specs.declared.Scale.{Scale}
+use Rattle.codes.specs.declared.Scale.{Scale}
 use Rattle.construct.specs.declared.Finals.{Finals}
 use Rattle.construct.specs.declared.Found.{Found}
 use Rattle.construct.specs.declared.Found.the-variants.{At, Nothing}

@@ -1,33 +1,26 @@
--- For the scale of a rule, pairs and codes are the construction's: the pair of a code, the edges that it allows, their
--- targets, and whether the timer is reset.
+-- For the scale of a rule, pairs are the construction's: the edges that the pair of a code allows, and their targets.
 use mathlib.Core.Path.{_≡_, refl, sym, _∙_, ap, ap₂}
 use mathlib.Core.Bool.{Bool, true, false, _&&_}
 use mathlib.Core.List.{List, [], _∷_}
-use Prim.Native.Nat.{ℕ, zero, suc, _+_, _*_, _^_, _≤_, _<_}
-use native.Mathlib.Omega.{arith}
+use Prim.Native.Nat.{ℕ, zero, suc, _<_}
 use lib.Dec.{eqb}
 use lib.ListN.{take}
 use lib.Seq.{getD-take}
-use Rattle.model.specs.Basics.{pick, quotient, remainder, bit}
-use Rattle.model.specs.Rules.{Atom, Edge, Rule, cm, baseCount, mostClocks}
+use Rattle.model.specs.Basics.{pick, bit}
+use Rattle.model.specs.Rules.{Atom, Edge, Rule, cm}
 use Rattle.model.specs.Runs.{zeroedFrom, zeroed}
 use Rattle.model.specs.Guards.{guard, isMet}
-use Rattle.model.specs.Construction.{regionOf, regionsOf, regionsHold, digitsOf, digitsCode, codeOf, locationOf}
-use Rattle.model.specs.Construction.{basesOf, allows, advanced, targetOf}
+use Rattle.model.specs.Construction.{regionOf, regionsOf, regionsHold, codeOf, basesOf, allows, advanced, targetOf}
 use Rattle.model.proofs.Logic.{In}
 use Rattle.model.proofs.Guards.{same-readings}
 use Rattle.model.proofs.Valid.{EdgeIn}
-use Rattle.pairs.specs.declared.Scale.{Scale}
+use Rattle.codes.specs.declared.Scale.{Scale}
+use Rattle.codes.specs.Codes.{Scaled, unpacked}
+use Rattle.codes.proofs.Agreement.{location-is, bases-are, code-is}
 use Rattle.pairs.specs.declared.Input.{Input}
-use Rattle.pairs.specs.Pairs.{Scaled, radix, unpacked, movedBases, pairAllows, pairTarget}
+use Rattle.pairs.specs.Pairs.{movedBases, pairAllows, pairTarget}
 
--- the first k of n digits; bases are moved one by one
-digits-take : (k n m x : ℕ) → k ≤ n → take k (digitsOf n m x) ≡ digitsOf k m x
-digits-take zero n m x h = refl
-digits-take (suc k) zero m x h = absurd (omega arith)
-digits-take (suc k) (suc n) m x h =
-    ap (λ (l : List ℕ). remainder x m ∷ l) (digits-take k n m (quotient x m) (omega arith))
-
+-- bases are moved one by one
 take-zeroed : (k i mask : ℕ) (bs : List ℕ) → take k (zeroedFrom i mask bs) ≡ zeroedFrom i mask (take k bs)
 take-zeroed zero i mask bs = refl
 take-zeroed (suc k) i mask [] = refl
@@ -58,19 +51,6 @@ guard-take k c i bs xs h =
     (λ a j. rw (← take-regions k c i bs) (sym (getD-take k (regionsOf c i bs) (a .clock) 0 (h a j))))
 
 module _ {r : Rule} {z : Scale} (scaled : Scaled r z) where
-  radix-is : radix z ≡ baseCount r
-  radix-is = ap (λ (c : ℕ). c + 2) (scaled .top-is)
-
-  pub location-is : (x : ℕ) → unpacked z x .location ≡ locationOf r x
-  unfolding locationOf
-  location-is x = ap (quotient x) (scaled .weight-is)
-
-  pub bases-are : (x : ℕ) → take (r .clocks) (unpacked z x .bases) ≡ basesOf r x
-  unfolding basesOf
-  bases-are x =
-      rw (radix-is, scaled .weight-is)
-      (digits-take (r .clocks) mostClocks (baseCount r) (remainder x (baseCount r ^ r .clocks)) (scaled .clocks-most))
-
   pub allows-is :
       (at : Input) (x : ℕ) (e : Edge) → EdgeIn r e
       → pairAllows (z .top) at (unpacked z x) e ≡ allows r (at .symbol) (at .interval) x e
@@ -81,16 +61,15 @@ module _ {r : Rule} {z : Scale} (scaled : Scaled r z) where
       ap isMet
       (guard-take (r .clocks) (z .top) (at .interval) (unpacked z x .bases) (e .atoms)
       (λ a i. v .atoms-in a i .clock-below))
-      ∙ ap₂ (λ (c : ℕ) (bs : List ℕ). regionsHold c (at .interval) bs (e .atoms)) (scaled .top-is) (bases-are x) in
-      ap₂ (λ (l : ℕ) (t : Bool). eqb (e .source) l && eqb (e .symbol) (at .symbol) && t) (location-is x) g
+      ∙ ap₂ (λ (c : ℕ) (bs : List ℕ). regionsHold c (at .interval) bs (e .atoms)) (scaled .top-is) (bases-are scaled x) in
+      ap₂ (λ (l : ℕ) (t : Bool). eqb (e .source) l && eqb (e .symbol) (at .symbol) && t) (location-is scaled x) g
 
   pub target-is :
       (i : ℕ) (timer : Bool) (x : ℕ) (e : Edge) → pairTarget z i timer (unpacked z x) e ≡ targetOf r i timer x e
-  unfolding targetOf codeOf
+  unfolding targetOf
   target-is i timer x e =
-      let moved : List ℕ = movedBases (e .resets) timer (z .top) i (unpacked z x .bases) in
-      let b : take (z .clocks) moved ≡ movedBases (e .resets) timer (cm r) i (basesOf r x) =
-      ap (λ (k : ℕ). take k (movedBases (e .resets) timer (z .top) i (unpacked z x .bases))) (scaled .clocks-are)
-      ∙ (take-moved (r .clocks) (e .resets) timer (z .top) i (unpacked z x .bases)
-      ∙ ap₂ (λ (c : ℕ) (bs : List ℕ). movedBases (e .resets) timer c i bs) (scaled .top-is) (bases-are x)) in
-      ap₂ (λ (w n : ℕ). e .target * w + n) (scaled .weight-is) (ap₂ digitsCode radix-is b)
+      let bases : List ℕ = unpacked z x .bases in
+      code-is scaled (e .target) (movedBases (e .resets) timer (z .top) i bases)
+      ∙ ap (codeOf r (e .target))
+      (take-moved (r .clocks) (e .resets) timer (z .top) i bases
+      ∙ ap₂ (λ (c : ℕ) (bs : List ℕ). movedBases (e .resets) timer c i bs) (scaled .top-is) (bases-are scaled x))

@@ -13,10 +13,11 @@ use Rattle.model.specs.Rules.{Edge, mostClocks}
 use Rattle.model.specs.Guards.{guard, isMet}
 use Rattle.model.specs.Construction.{regionOf, regionsOf}
 use Rattle.model.proofs.Logic.{by-test, Two, two, less, least, lesser-right}
-use Rattle.pairs.specs.declared.Pair.{Pair}
+use Rattle.codes.specs.declared.Scale.{Scale}
+use Rattle.codes.specs.declared.Pair.{Pair}
+use Rattle.codes.specs.Codes.{packed}
 use Rattle.pairs.specs.declared.Input.{Input}
-use Rattle.pairs.specs.declared.Scale.{Scale}
-use Rattle.pairs.specs.Pairs.{packed, movedBases, pairAllows, pairTarget, pairResetsOn}
+use Rattle.pairs.specs.Pairs.{movedBases, pairAllows, pairTarget, pairResetsOn}
 
 -- A region is the lesser of two numbers: with a base above cm the sum is above 2 · cm too.
 lesser-most : (a m : ℕ) → m ≤ a → lesser a m ≡ m
