@@ -2,3 +2,4 @@ pub mod PowerLaws
 pub mod Codes
 pub mod Loops
 pub mod Agreement
+pub mod Examples
