@@ -14,7 +14,7 @@ use Rattle.model.proofs.Valid.{Valid, valid-of, cm-most}
 use Rattle.model.proofs.Readable.{passes-valid}
 use Rattle.codes.specs.declared.Scale.{Scale}
 use Rattle.codes.specs.Codes.{scaleOf, Scaled, packed, basesFrom, unpacked}
-use Rattle.codes.proofs.PowerLaws.{Raised, raised-of, weight-power}
+use Rattle.codes.proofs.PowerLaws.{Raised, raised-of, weight-power, powered-is}
 use Rattle.codes.proofs.Codes.{take-filled, bases-length, sum-all, all-bases}
 
 module _ {r : Rule} {z : Scale} (scaled : Scaled r z) where
@@ -55,13 +55,9 @@ module _ (h : Head) (t : List ℕ) (passed : ruleRefusal h t .number ≡ 0) wher
   clocks-most = omega (arith, clocks-of h t, valid-is .sizes .clocks-most)
 
   pub scaled-is : (top : ℕ) (z : Scale) → top ≡ cm (ruleIn h t) → z ≡ scaleOf top (h .clocks) → Scaled (ruleIn h t) z
-  scaled-is top z e s = rw s record {
-    powered = record {
-      top-most = top-most top e;
-      clocks-least = omega (arith, clocks-of h t, valid-is .sizes .clocks-least);
-      clocks-most = clocks-most;
-      is-scale = refl;
-    };
-    clocks-are = sym (clocks-of h t);
-    top-is = e;
+  scaled-is top z e s = record {
+    powered =
+        powered-is s (top-most top e) (omega (arith, clocks-of h t, valid-is .sizes .clocks-least)) clocks-most;
+    clocks-are = ap (λ (n : Scale). n .clocks) s ∙ sym (clocks-of h t);
+    top-is = ap (λ (n : Scale). n .top) s ∙ e;
   }

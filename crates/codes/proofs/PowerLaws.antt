@@ -139,13 +139,19 @@ module _ {z : Scale} {clocks : ℕ} (powered : Powered z) (e : clocks ≡ z .clo
 pub weight-least : {z : Scale} → Powered z → 0 < z .weight
 weight-least {z} powered = rw (weight-power powered) (one-le-pow (z .clocks) (z .top + 2) (omega arith))
 
-pub powered-by : (l k c : ℕ) → sizesFit l k c ≡ true → Powered (scaleOf c k)
-powered-by l k c fit = record {
-  top-most = top-most l k c fit;
-  clocks-least = within-least 1 mostClocks k (clocks-in l k c fit);
-  clocks-most = clocks-few l k c fit;
+-- the scale of cm and K in their ranges
+pub powered-is :
+    {c k : ℕ} {z : Scale} → z ≡ scaleOf c k → c ≤ mostConstant → 1 ≤ k → k ≤ mostClocks → Powered z
+powered-is e top least most = rw e record {
+  top-most = top;
+  clocks-least = least;
+  clocks-most = most;
   is-scale = refl;
 }
+
+pub powered-by : (l k c : ℕ) → sizesFit l k c ≡ true → Powered (scaleOf c k)
+powered-by l k c fit =
+    powered-is refl (top-most l k c fit) (within-least 1 mostClocks k (clocks-in l k c fit)) (clocks-few l k c fit)
 
 pub raised-by : (l k c : ℕ) → sizesFit l k c ≡ true → Raised (c + 2) (powersOf c k) k
 raised-by l k c fit = raised-of (powered-by l k c fit)
