@@ -16,8 +16,8 @@ use Rattle.model.proofs.EdgesWritten.{filled-length}
 use Rattle.model.proofs.Logic.{quotient-is, remainder-is, first-part, less, least, two}
 use Rattle.codes.specs.declared.Scale.{Scale}
 use Rattle.codes.specs.declared.Pair.{Pair}
-use Rattle.codes.specs.Codes.{Powered, powerAt, basesCode, packed, basesFrom, unpacked}
-use Rattle.codes.proofs.PowerLaws.{Raised, first-power, past-front, weight-least}
+use Rattle.codes.specs.Codes.{powerAt, basesCode, packed, basesFrom, unpacked}
+use Rattle.codes.proofs.PowerLaws.{Raised, first-power, past-front}
 use Rattle.codes.proofs.Codes.{low-remainder, bases-length, power-least}
 
 -- the base of clock i, by its place
@@ -79,20 +79,25 @@ pub record Taking (m : ℕ) (powers : List ℕ) (clocks code k rest : ℕ) (base
   pub rest-high : clocks ≤ k → rest ≡ code % m ^ clocks
 
 pub taking-start :
-    {m : ℕ} {powers : List ℕ} {clocks : ℕ} (code rest : ℕ) → Raised m powers clocks → rest ≡ code % m ^ clocks
+    {m : ℕ} {powers : List ℕ} {clocks : ℕ} (code whole weight rest : ℕ) → Raised m powers clocks → whole ≡ code
+    → weight ≡ m ^ clocks
+    → rest ≡ remainder whole weight
     → Taking m powers clocks code mostClocks rest (zeros mostClocks)
-taking-start {m} {powers} {clocks} code rest raised e = record {
-  raised = raised;
-  turns-least = omega arith;
-  turns-most = omega arith;
-  long = refl;
-  out = λ i h. past-front 0 (zeros mostClocks) i h ∙ sym (past-clocks raised code i (omega (arith, raised .clocks-most)));
-  zero-yet = λ i h. getD-replicate mostClocks i 0 0 h;
-  rest-low = λ h.
-      let a : clocks ≡ mostClocks = omega (arith, raised .clocks-most) in
-      e ∙ ap (λ (k : ℕ). code % m ^ k) a;
-  rest-high = λ h. e;
-}
+taking-start {m} {powers} {clocks} code whole weight rest raised w e r =
+    let all : rest ≡ code % m ^ clocks = r ∙ rw (w, e) (remainder-is code (m ^ clocks) (power-least raised clocks)) in
+    record {
+      raised = raised;
+      turns-least = omega arith;
+      turns-most = omega arith;
+      long = refl;
+      out = λ i h.
+          past-front 0 (zeros mostClocks) i h ∙ sym (past-clocks raised code i (omega (arith, raised .clocks-most)));
+      zero-yet = λ i h. getD-replicate mostClocks i 0 0 h;
+      rest-low = λ h.
+          let a : clocks ≡ mostClocks = omega (arith, raised .clocks-most) in
+          all ∙ ap (λ (k : ℕ). code % m ^ k) a;
+      rest-high = λ h. all;
+    }
 
 module _ {m : ℕ} {powers : List ℕ} {clocks code k rest : ℕ} {bases : List ℕ}
     (inv : Taking m powers clocks code k rest bases) where
@@ -107,11 +112,15 @@ module _ {m : ℕ} {powers : List ℕ} {clocks code k rest : ℕ} {bases : List 
       rw (inv .raised .each j (omega arith), inv .rest-low (omega arith), e)
       (lower m code j (inv .raised .least) (power-least (inv .raised) j))
 
+  pub power-there : (j : ℕ) → j < clocks → 0 < powerAt powers j
+  power-there j h = rw (inv .raised .each j (omega arith)) (power-least (inv .raised) j)
+
   pub taking-off :
-      (j digit next : ℕ) → k ≡ suc j → 1 ≤ j → j < clocks → digit ≡ rest / powerAt powers j
-      → next ≡ rest % powerAt powers j
+      (j power digit next : ℕ) → k ≡ suc j → 1 ≤ j → j < clocks → power ≡ powerAt powers j
+      → digit ≡ quotient rest power
+      → next ≡ remainder rest power
       → Taking m powers clocks code j next (set bases j digit)
-  taking-off j digit next e l h d n = record {
+  taking-off j power digit next e l h p d n = record {
     raised = inv .raised;
     turns-least = l;
     turns-most = omega (arith, inv .turns-most);
@@ -121,17 +130,19 @@ module _ {m : ℕ} {powers : List ℕ} {clocks code k rest : ℕ} {bases : List 
       | least f ↦
           let q : i ≡ j = omega arith in
           rw q
-          (getD-set-same bases j digit 0 (omega (arith, inv .long, inv .turns-most)) ∙ (d ∙ sym (next-base j e h)))
+          (getD-set-same bases j digit 0 (omega (arith, inv .long, inv .turns-most))
+          ∙ (d ∙ (rw p (quotient-is rest (powerAt powers j) (power-there j h)) ∙ sym (next-base j e h))))
     ];
     zero-yet = λ i g. getD-set-other bases j i digit 0 (λ q. omega (arith, q)) ∙ inv .zero-yet i (omega arith);
-    rest-low = λ g. n ∙ next-rest j e h;
+    rest-low = λ g. n ∙ (rw p (remainder-is rest (powerAt powers j) (power-there j h)) ∙ next-rest j e h);
     rest-high = λ g. absurd (omega arith);
   }
 
   -- less is left than its power: the base is 0, and nothing is taken off
   pub taking-small :
-      (j : ℕ) → k ≡ suc j → 1 ≤ j → j < clocks → rest < powerAt powers j → Taking m powers clocks code j rest bases
-  taking-small j e l h s = record {
+      (j power : ℕ) → k ≡ suc j → 1 ≤ j → j < clocks → power ≡ powerAt powers j → rest < power
+      → Taking m powers clocks code j rest bases
+  taking-small j power e l h p q = let s : rest < powerAt powers j = rw p at q in record {
     raised = inv .raised;
     turns-least = l;
     turns-most = omega (arith, inv .turns-most);
@@ -167,6 +178,33 @@ module _ {m : ℕ} {powers : List ℕ} {clocks code k rest : ℕ} {bases : List 
     rest-high = λ g. inv .rest-high (omega arith);
   }
 
+  -- nothing is left: the bases still to come are 0
+  none-to-come : rest ≡ 0 → (i : ℕ) → suc i ≤ k → i < clocks → code % m ^ suc i ≡ 0
+  none-to-come e i g f =
+      elim (two k clocks) [
+        | less h ↦
+            let a : (k - suc i) + suc i ≡ k = omega arith in
+            none-left m code (k - suc i) (suc i) (inv .raised .least) (power-least (inv .raised))
+            (rw a (sym (inv .rest-low (omega arith)) ∙ e))
+        | least h ↦
+            let a : (clocks - suc i) + suc i ≡ clocks = omega arith in
+            none-left m code (clocks - suc i) (suc i) (inv .raised .least) (power-least (inv .raised))
+            (rw a (sym (inv .rest-high h) ∙ e))
+      ]
+
+  pub taking-nothing : rest ≡ 0 → bases ≡ basesIn powers clocks code
+  taking-nothing e =
+      ext-getD 0 bases (basesIn powers clocks code) (inv .long ∙ sym (in-length (inv .raised) code))
+      (λ i g. elim (two i k) [
+        | less f ↦
+            inv .zero-yet i f
+            ∙ elim (two i clocks) [
+              | less h ↦ sym (in-clocks (inv .raised) code i h ∙ rw (none-to-come e i f h) (zero-div (m ^ i)))
+              | least h ↦ sym (past-clocks (inv .raised) code i h)
+            ]
+        | least f ↦ inv .out i f
+      ])
+
   -- the base of clock 0 is what power 1 leaves
   last-rest : k ≤ 1 → rest ≡ code % m ^ 1
   last-rest h =
@@ -190,47 +228,29 @@ module _ {m : ℕ} {powers : List ℕ} {clocks code k rest : ℕ} {bases : List 
             ∙ rw (pow-zero m) (div-one (code % m ^ 1))))))
       ])
 
-  pub power-there : (j : ℕ) → j < clocks → 0 < powerAt powers j
-  power-there j h = rw (inv .raised .each j (omega arith)) (power-least (inv .raised) j)
-
   -- each fits into 16 bits
-  pub digit-most : (j : ℕ) → k ≡ suc j → j < clocks → rest / powerAt powers j < 2 ^ 16
-  digit-most j e h =
+  pub digit-most : (j power : ℕ) → k ≡ suc j → j < clocks → power ≡ powerAt powers j → quotient rest power < 2 ^ 16
+  digit-most j power e h p =
       let q : 0 < m ^ j = power-least (inv .raised) j in
       let small : rest < m * m ^ j =
       rw (inv .rest-low (omega arith), e, pow-succ' m j)
       (mod-lt code (rw (← pow-succ' m j) (power-least (inv .raised) (suc j)))) in
       let below : rest / m ^ j < m = div-lt-iff-lt-mul q .1 small in
-      rw (inv .raised .each j (omega arith)) (omega (arith, inv .raised .most))
+      rw (p, inv .raised .each j (omega arith), quotient-is rest (m ^ j) q) (omega (arith, inv .raised .most))
 
   pub last-most : k ≤ 1 → rest < 2 ^ 16
   last-most h =
       let small : rest < m ^ 1 = rw (last-rest h) (mod-lt code (power-least (inv .raised) 1)) in
       omega (arith, first-power m, inv .raised .most)
 
--- nothing is left by power K: all bases are 0
-pub taking-nothing :
-    {m : ℕ} {powers : List ℕ} {clocks : ℕ} (code : ℕ) → Raised m powers clocks → code % m ^ clocks ≡ 0
-    → zeros mostClocks ≡ basesIn powers clocks code
-taking-nothing {m} {powers} {clocks} code raised e =
-    ext-getD 0 (zeros mostClocks) (basesIn powers clocks code) (sym (in-length raised code))
-    (λ i g. getD-replicate mostClocks i 0 0 g
-    ∙ elim (two i clocks) [
-      | less f ↦
-          let a : (clocks - suc i) + suc i ≡ clocks = omega arith in
-          let b : code % m ^ suc i ≡ 0 =
-          none-left m code (clocks - suc i) (suc i) (raised .least) (power-least raised) (rw a e) in
-          sym (in-clocks raised code i f ∙ rw b (zero-div (m ^ i)))
-      | least f ↦ sym (past-clocks raised code i f)
-    ])
-
 -- a pair from what was taken off
 pub unpack-is :
-    (z : Scale) (code clocks location : ℕ) (bases : List ℕ) → Powered z → clocks ≡ z .clocks → location ≡ code / z .weight
+    (z : Scale) (code clocks weight whole location : ℕ) (bases : List ℕ) → clocks ≡ z .clocks → weight ≡ z .weight
+    → whole ≡ code
+    → location ≡ quotient whole weight
     → bases ≡ basesIn (z .powers) clocks code
     → _≡_ {A = Pair} (record { location = location; bases = bases }) (unpacked z code)
-unpack-is z code clocks location bases powered k l b =
-    rw (b, k, l ∙ sym (quotient-is code (z .weight) (weight-least powered)))
+unpack-is z code clocks weight whole location bases k w x l b = rw (b, k, l, x, w)
 
 -- The code so far, with the bases from clock k on still to come.
 pub record Packing (powers : List ℕ) (clocks k code whole : ℕ) (bases : List ℕ) : Type 0 where

@@ -5,6 +5,8 @@ ghost use Prim.Native.Nat.{_^_, _<_};
 ghost use Rattle.codes.specs.Codes.{Powered, packed, unpacked};
 use model::MOST_CLOCKS;
 use numbers::narrow16;
+use numbers::quotient;
+use numbers::remainder;
 use numbers::wide16;
 use numbers::wide32;
 
@@ -28,29 +30,33 @@ pub struct Pair {
     pub bases: [u16; MOST_CLOCKS],
 }
 
-// The pair that a code stands for, from the highest power down: one division for the location, and one for each base
-// above that of clock 0 that is not 0. What power 1 leaves is the base of clock 0.
+// The pair that a code stands for, from the highest power down: a division for the location, and one for each base above
+// that of clock 0 that is not 0. What power 1 leaves is the base of clock 0. Once nothing is left, the bases still to
+// come are 0, as they are from the start.
 pub fn unpack(scale: Scale, code: u32) -> Pair
     requires { ⌜ Powered scale ⌝ }
     ensures { λ r. ⌜ r ≡ unpacked scale code ⌝ }
 {
     let powers = scale.powers;
     let clocks = wide32(scale.clocks);
-    let location = wide32(code / scale.weight);
-    let mut rest = code % scale.weight;
+    let weight = wide32(scale.weight);
+    let whole = wide32(code);
+    let location = quotient(whole, weight);
+    let mut rest = remainder(whole, weight);
     let mut bases = [0u16; MOST_CLOCKS];
-    if rest == 0 {
-        return Pair { location, bases };
-    }
     let mut k = MOST_CLOCKS;
     while 1 < k {
+        if rest == 0 {
+            return Pair { location, bases };
+        }
         k -= 1;
-        if k < clocks && powers[k] <= rest {
-            bases[k] = narrow16(wide32(rest / powers[k]));
-            rest = rest % powers[k];
+        let power = wide32(powers[k]);
+        if k < clocks && power <= rest {
+            bases[k] = narrow16(quotient(rest, power));
+            rest = remainder(rest, power);
         }
     }
-    bases[0] = narrow16(wide32(rest));
+    bases[0] = narrow16(rest);
     Pair { location, bases }
 }
 

@@ -16,6 +16,7 @@ use Rattle.model.specs.Tables.{rowWidth, rowNumbers, poolNumbers, fitRefusal}
 use Rattle.model.proofs.Logic.{and-left, and-right, same-equal, in-append}
 use Rattle.model.proofs.Masks.{Asc}
 use Rattle.model.proofs.Discovery.{Each}
+use Rattle.model.proofs.EdgesWritten.{filled-length}
 use Rattle.model.proofs.TablePlaces.{row-numbers-length}
 use Rattle.model.proofs.TableRoom.{fit-23, fit-24, fit-on}
 use Rattle.model.proofs.RowNumbers.{number-most, with-present, with-new, with-placed}
@@ -26,7 +27,7 @@ use Rattle.construct.specs.declared.Progress.{Progress}
 use Rattle.construct.specs.declared.Placed.{Placed}
 use Rattle.construct.specs.Rows.{rowsIn, isAt, foundIn, CodeSet, Held, Unfit, Numbered}
 use Rattle.construct.proofs.RowSearch.{rows-length, found-at, found-nothing}
-use Rattle.construct.proofs.RowTables.{filled-length, filled-three, rows-append, pool-append}
+use Rattle.construct.proofs.RowTables.{filled-three, rows-append, pool-append}
 use Rattle.construct.proofs.RowTables.{rows-again}
 
 -- what holds of every row, and of one more

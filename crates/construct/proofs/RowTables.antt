@@ -6,7 +6,7 @@ use mathlib.Core.List.{List, [], _∷_, _++_, append-assoc, append-nil}
 use Prim.Native.Nat.{ℕ, zero, suc, _+_, _-_, _*_, _≤_, _<_}
 use native.Mathlib.Omega.{arith}
 use native.Mathlib.Nat.{add-zero}
-use lib.ListN.{length, set, drop, length-append, length-replicate, drop-of-length-le}
+use lib.ListN.{length, set, drop, length-append, drop-of-length-le}
 use lib.Seq.{set-at, drop-cons}
 use Rattle.model.specs.Basics.{oneIf, zeros, filled}
 use Rattle.model.specs.Construction.{rowAt}
@@ -18,9 +18,6 @@ use Rattle.construct.specs.Rows.{rowsHeld, rowsIn, Within, Held}
 use Rattle.construct.proofs.RowSearch.{rows-length}
 
 -- a table that begins with a list, and one number or one list more
-pub filled-length : (n : ℕ) (xs : List ℕ) → length xs ≤ n → length (filled n xs) ≡ n
-filled-length n xs h = rw (length-append, length-replicate) (omega arith)
-
 filled-set :
     (n : ℕ) (xs : List ℕ) (k a : ℕ) → length xs ≡ k → k < n → set (filled n xs) k a ≡ filled n (xs ++ (a ∷ []))
 filled-set n xs k a f h =
