@@ -1,9 +1,10 @@
 //! The construction of the one-timer table.
 
-use crate::rule::{check_rule, code_count, edges_in_use, initial_locations, largest_constant, Edge, Head};
+use crate::rule::{check_rule, edges_in_use, initial_locations, largest_constant, Edge, Head};
 use crate::table::{row_codes, row_numbers, Built, Finals, MOST_ROWS, ROW_NUMBERS};
 use crate::time::Interval;
 use crate::Refusal;
+use std::iter::empty;
 
 /// Builds the table of a rule into the lent tables: 20, 21, 22, then 23 and 24.
 ///
@@ -20,14 +21,15 @@ pub fn build_table(
 ) -> Result<Built, Refusal> {
     check_rule(head, edges)?;
     let largest = largest_constant(head, edges);
-    let codes = code_count(head.locations, head.clocks, largest);
-    Refusal::unless(scratch.len() >= codes as usize, 22)?;
+    let codes = Codes::new(head.clocks, largest);
+    let code_count = head.locations * codes.per_location();
+    Refusal::unless(scratch.len() >= code_count as usize, 22)?;
     clear([scratch, cells, rows, pool]);
     let mut builder = Builder {
         head,
         edges,
-        codes: Codes::new(head.clocks, largest),
-        finals: Finals::new(head.finals, code_count(1, head.clocks, largest)),
+        codes,
+        finals: Finals::new(head.finals, codes.per_location()),
         marks: Marks::over(scratch),
         cells,
         rows,
@@ -48,18 +50,39 @@ fn clear(tables: [&mut [u32]; 4]) {
     }
 }
 
-/// How a location and the clocks' bases make a code.
-struct Codes {
+/// How a pair, which is a location and the clocks' bases, makes a code. A build works this out once.
+#[derive(Clone, Copy)]
+pub struct Codes {
     clocks: usize,
     largest: u32,
-    /// (cm + 2)^k for k from 0 to 4.
     powers: [u32; 5],
 }
 
 impl Codes {
-    fn new(clocks: u32, largest: u32) -> Self {
-        let powers = [0, 1, 2, 3, 4].map(|exponent| (largest + 2).pow(exponent));
-        Codes { clocks: clocks as usize, largest, powers }
+    /// Works out the powers of cm + 2, for K and cm in their ranges.
+    pub fn new(clocks: u32, largest: u32) -> Self {
+        let power = |exponent| if exponent <= clocks { (largest + 2).pow(exponent) } else { 0 };
+        Codes { clocks: clocks as usize, largest, powers: [0, 1, 2, 3, 4].map(power) }
+    }
+
+    /// (cm + 2)^k for k from 0 to K; the places past K are zero.
+    pub fn powers(&self) -> [u32; 5] {
+        self.powers
+    }
+
+    /// Makes a code of a location and clocks with their bases; a clock left out has base 0.
+    pub fn code(&self, location: u32, bases: impl Iterator<Item = (usize, u32)>) -> u32 {
+        let mut code = location * self.per_location();
+        for (clock, base) in bases {
+            code += base * self.powers[clock];
+        }
+        code
+    }
+
+    /// Takes a code apart into its location and all clocks, ascending, with their bases.
+    pub fn pair(&self, code: u32) -> (u32, impl Iterator<Item = (usize, u32)> + '_) {
+        let bases = (0..self.clocks).map(move |clock| (clock, self.base(code, clock)));
+        (code / self.per_location(), bases)
     }
 
     /// The codes per location.
@@ -84,11 +107,9 @@ impl Codes {
 
     /// The edge's target with the bases moved on by a whole number and the edge's clocks zeroed.
     fn moved(&self, code: u32, edge: Edge, by: u32) -> u32 {
-        let mut target = edge.target() * self.per_location();
-        for clock in (0..self.clocks).filter(|&clock| !edge.resets_clock(clock)) {
-            target += (self.base(code, clock) + by).min(self.largest + 1) * self.powers[clock];
-        }
-        target
+        let running = (0..self.clocks).filter(|&clock| !edge.resets_clock(clock));
+        let base = |clock| (self.base(code, clock) + by).min(self.largest + 1);
+        self.code(edge.target(), running.map(|clock| (clock, base(clock))))
     }
 }
 
@@ -182,7 +203,7 @@ impl Builder<'_> {
     /// Marks every initial location with bases 0.
     fn mark_start(&mut self) {
         for location in initial_locations(self.head) {
-            self.marks.set(location * self.codes.per_location());
+            self.marks.set(self.codes.code(location, empty()));
         }
     }
 

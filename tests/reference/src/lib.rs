@@ -24,7 +24,7 @@ mod time;
 mod word;
 
 pub use branch::{run_branches, Branch, MOST_BRANCH_EVENTS};
-pub use build::build_table;
+pub use build::{build_table, Codes};
 pub use decide::decide;
 pub use exact::run_exact;
 pub use file::{read_rule, write_rule};
