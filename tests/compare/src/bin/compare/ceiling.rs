@@ -1,28 +1,20 @@
 //! Files with a ceiling, which is read, checked and dropped.
 
 use crate::random::Random;
-use crate::rules::{Rule, CEILING, MOST_CONSTANT};
+use crate::rules::{records_in, Rule, CEILING, MOST_CONSTANT, RECORD_HEAD};
 use crate::scene::{room_for, Scene};
 use crate::scenes::some_rule;
 use protocol::{Call, Word};
 
-/// The bytes of a record before its body.
-const RECORD_HEAD: usize = 4;
 /// The bytes of a ceiling's body, and of its record.
-const CEILING_BODY: u16 = 2;
-pub const CEILING_BYTES: usize = RECORD_HEAD + CEILING_BODY as usize;
+const CEILING_BODY: usize = 2;
+pub const CEILING_BYTES: usize = RECORD_HEAD + CEILING_BODY;
 
 /// The ceilings among a file's records, each with its place and its number.
 pub fn ceilings(file: &[u8]) -> Vec<(usize, u16)> {
-    let number = |place: usize| Some(u16::from_le_bytes([*file.get(place)?, *file.get(place + 1)?]));
-    let (mut found, mut place) = (Vec::new(), 0);
-    while let (Some(length), Some(kind)) = (number(place), number(place + 2)) {
-        if let (CEILING_BODY, CEILING, Some(ceiling)) = (length, kind, number(place + RECORD_HEAD)) {
-            found.push((place, ceiling));
-        }
-        place += RECORD_HEAD + usize::from(length);
-    }
-    found
+    let records = records_in(file).into_iter();
+    let whole = records.filter(|(_, kind, body)| *kind == CEILING && body.len() == CEILING_BODY);
+    whole.map(|(place, _, body)| (place, u16::from_le_bytes([body[0], body[1]]))).collect()
 }
 
 /// The file without its ceiling, as it is written.

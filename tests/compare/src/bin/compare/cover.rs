@@ -5,6 +5,8 @@ use crate::partners::{edge_at, lacks_partner, only_unpinned, WrongIn};
 use crate::pins::{from_both_sides, Sides};
 use crate::plain::{only_wrong, Wrong};
 use crate::rules::{code_count, edges_in, Edge, EDGE_NUMBERS, FIRST_CONSTANT, MOST_CONSTANT};
+use crate::size_counts::{SizeCounts, COUNTS};
+use crate::sizes::EVERY_SIZE;
 use alderskein::raw::{Answer, BranchAnswer, Built};
 use alderskein::ROW_NUMBERS;
 use protocol::{Call, Reply, State, What, Word};
@@ -122,6 +124,9 @@ pub struct Cover {
     row_numbers: Option<usize>,
     /// Whether a call was refused for a verdict alone since the table was built, brought back or cut.
     was_wrong: bool,
+    /// Whether the scene is one of every size, and the sizes that came up in these.
+    every_size: bool,
+    sizes: SizeCounts,
 }
 
 impl Cover {
@@ -133,16 +138,24 @@ impl Cover {
                 .flat_map(|(name, numbers)| numbers.iter().map(|&number| ((*name, number), 0)))
                 .collect(),
             verdicts: RUNNERS.iter().flat_map(|&name| [((name, false), 0), ((name, true), 0)]).collect(),
-            limits: LIMITS.iter().map(|&name| (name, 0)).collect(),
+            limits: LIMITS.iter().chain(&COUNTS).map(|&name| (name, 0)).collect(),
             by_hand: false,
             written_as: None,
             row_numbers: None,
             was_wrong: false,
+            every_size: false,
+            sizes: SizeCounts::default(),
         }
+    }
+
+    /// Begins a scene of this kind.
+    pub fn begin(&mut self, kind: &str) {
+        self.every_size = kind == EVERY_SIZE;
     }
 
     /// Counts a command with its reply and the state after it.
     pub fn count(&mut self, call: &Call, reply: &Reply, state: &State) {
+        self.count_sizes(call, reply, state);
         if matches!(call, Call::Poke { .. } | Call::Resize { .. } | Call::Restore) {
             self.written_as = None;
             self.row_numbers = None;
@@ -167,6 +180,13 @@ impl Cover {
             self.count_answer(call.name(), number, reply.verdict());
             self.count_verdict(call.name(), number, state);
             self.count_limits(call, reply, state);
+        }
+    }
+
+    fn count_sizes(&mut self, call: &Call, reply: &Reply, state: &State) {
+        let seen = if self.every_size { self.sizes.seen(call, reply, state) } else { Vec::new() };
+        for (name, more) in seen {
+            *self.limits.entry(name).or_default() += more;
         }
     }
 

@@ -6,6 +6,7 @@
 //! up. `--trace` prints every command before it is run.
 
 mod ceiling;
+mod climb;
 mod cover;
 mod damage;
 mod held;
@@ -18,6 +19,8 @@ mod rules;
 mod scene;
 mod scenes;
 mod side;
+mod size_counts;
+mod sizes;
 mod tables;
 mod verdicts;
 mod words;
@@ -48,6 +51,7 @@ fn main() -> ExitCode {
     let mut number = 0;
     while cover.calls < options.calls {
         let (kind, calls) = scenes::scene(options.seed, number);
+        cover.begin(kind);
         if let Err(difference) = side::run(&calls, &mut cover, options.trace) {
             report(&options, number, kind, &side::shortened(difference));
             return ExitCode::FAILURE;

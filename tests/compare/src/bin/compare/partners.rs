@@ -2,7 +2,7 @@
 
 use crate::pins::{is_pinned, sides};
 use crate::random::Random;
-use crate::rules::{edges_in, Atom, Edge, AT_LEAST, AT_MOST, GREATER, LESS, MOST_CONSTANT};
+use crate::rules::{edges_in, numbers_in, Atom, Edge, AT_LEAST, AT_MOST, GREATER, LESS, MOST_CONSTANT};
 use crate::rules::{ATOM_NUMBERS, EDGE, EDGE_NUMBERS, MASK};
 use protocol::{Engine, Reference, Rule, State};
 
@@ -44,7 +44,7 @@ pub fn edge_at(file: &[u8], place: usize) -> Option<Edge> {
     let (&length, rest) = file.get(place..)?.split_first_chunk()?;
     let (&kind, rest) = rest.split_first_chunk()?;
     let body = rest.get(..u16::from_le_bytes(length).into())?;
-    let numbers: Vec<u16> = body.chunks_exact(2).map(|pair| u16::from_le_bytes([pair[0], pair[1]])).collect();
+    let numbers = numbers_in(body);
     let (&[source, target, symbol, mask], atoms) = numbers.split_first_chunk()?;
     let atoms = atoms.chunks_exact(ATOM_NUMBERS).map(|atom| [atom[0], atom[1], atom[2]]).collect();
     (u16::from_le_bytes(kind) == EDGE).then_some(Edge { source, target, symbol, mask, atoms })

@@ -15,6 +15,8 @@ pub const ATOM_NUMBERS: usize = 3;
 pub const MOST_ATOMS: usize = 8;
 /// The largest constant of an atom, and the largest ceiling.
 pub const MOST_CONSTANT: u16 = 30;
+/// The bytes of a record before its body.
+pub const RECORD_HEAD: usize = 4;
 /// The kinds of a ceiling record and of an edge record.
 pub const CEILING: u16 = 4;
 pub const EDGE: u16 = 5;
@@ -67,6 +69,23 @@ pub const WIDE: Bounds = Bounds { locations: 32, symbols: 16, clocks: 4, edges: 
 pub fn record(kind: u16, numbers: &[u16]) -> Vec<u8> {
     let front = [2 * numbers.len() as u16, kind];
     front.iter().chain(numbers).flat_map(|number| number.to_le_bytes()).collect()
+}
+
+/// The whole records of a file, each with its place, its kind and its body.
+pub fn records_in(file: &[u8]) -> Vec<(usize, u16, &[u8])> {
+    let (mut records, mut place) = (Vec::new(), 0);
+    while let Some((front, rest)) = file.get(place..).and_then(<[u8]>::split_first_chunk::<RECORD_HEAD>) {
+        let [length, kind] = [[front[0], front[1]], [front[2], front[3]]].map(u16::from_le_bytes);
+        let Some(body) = rest.get(..length.into()) else { break };
+        records.push((place, kind, body));
+        place += RECORD_HEAD + body.len();
+    }
+    records
+}
+
+/// The numbers of a record's body.
+pub fn numbers_in(body: &[u8]) -> Vec<u16> {
+    body.chunks_exact(2).map(|pair| u16::from_le_bytes([pair[0], pair[1]])).collect()
 }
 
 impl Edge {
@@ -170,7 +189,7 @@ pub fn any_rule(random: &mut Random, bounds: &Bounds) -> Rule {
 }
 
 /// A set of locations, now and then empty or all.
-fn some_locations(random: &mut Random, locations: u16) -> Vec<u16> {
+pub fn some_locations(random: &mut Random, locations: u16) -> Vec<u16> {
     let percent = random.pick(&[0, 30, 30, 50, 50, 50, 100]);
     (0..locations).filter(|_| random.chance(percent)).collect()
 }

@@ -17,6 +17,8 @@ pub const EDGE_TABLE: usize = 7_424;
 pub struct Scene<'a> {
     pub random: &'a mut Random,
     pub calls: Vec<Call>,
+    /// How many turns its kind had before, if it is a costly one.
+    pub turn: u64,
 }
 
 impl Scene<'_> {
@@ -184,9 +186,14 @@ impl Needs {
 
 /// The rule's table and what it needs; nothing if the listing program's room is too small for it.
 pub fn needs(rule: &Rule) -> Option<Needs> {
+    needs_in(rule, LISTING)
+}
+
+/// The rule's table and what it needs; nothing if this room is too small for it.
+pub fn needs_in(rule: &Rule, most: Room) -> Option<Needs> {
     let mut edges = vec![0; EDGE_TABLE];
     let [mut scratch, mut cells, mut rows, mut pool] =
-        [LISTING.scratch, LISTING.cells, LISTING.rows, LISTING.pool].map(|length| vec![0; length]);
+        [most.scratch, most.cells, most.rows, most.pool].map(|length| vec![0; length]);
     let head = reference::read_rule(&rule.file(), &mut edges).ok()?;
     let built = reference::build_table(&head, &edges, &mut scratch, &mut cells, &mut rows, &mut pool).ok()?;
     let row_count = built.rows as usize;

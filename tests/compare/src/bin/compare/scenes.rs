@@ -8,6 +8,7 @@ use crate::pins;
 use crate::random::Random;
 use crate::rules::{any_rule, Rule, EDGE_NUMBERS, FIRST_CONSTANT, MIDDLE, SMALL, WIDE};
 use crate::scene::{needs, room_for, Needs, Scene, EDGE_TABLE, LISTING};
+use crate::sizes::{self, EVERY_SIZE};
 use crate::tables;
 use crate::verdicts;
 use crate::words::spoil;
@@ -33,8 +34,10 @@ const COMMON: [(&str, usize, Kind); 14] = [
     ("pins from both sides", 10, pins::both_sides),
 ];
 
-/// The costly kinds: one scene in so many, the first one early.
-const SELDOM: [(&str, u64, Kind); 4] = [
+/// The costly kinds: one scene in so many, the first one early. Where two meet it is the upper one's turn, so that
+/// every size gets its own.
+const SELDOM: [(&str, u64, Kind); 5] = [
+    (EVERY_SIZE, 29, sizes::every_size),
     ("wide rules", 23, wide_rule),
     ("long words", 151, long_words),
     ("largest rules", 67, limits::largest),
@@ -45,11 +48,11 @@ const SELDOM: [(&str, u64, Kind); 4] = [
 pub fn scene(seed: u64, number: u64) -> (&'static str, Vec<Call>) {
     let mut random = Random::new(seed, number);
     let seldom = SELDOM.iter().find(|(_, every, _)| number % every == every / 2);
-    let (name, make) = match seldom {
-        Some(&(name, _, make)) => (name, make),
-        None => common(&mut random),
+    let (turn, (name, make)) = match seldom {
+        Some(&(name, every, make)) => (number / every, (name, make)),
+        None => (0, common(&mut random)),
     };
-    let mut scene = Scene { random: &mut random, calls: Vec::new() };
+    let mut scene = Scene { random: &mut random, calls: Vec::new(), turn };
     make(&mut scene);
     (name, scene.calls)
 }
