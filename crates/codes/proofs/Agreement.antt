@@ -6,9 +6,9 @@ use Prim.Native.Nat.{ℕ, _+_, _*_, _^_, _≤_}
 use native.Mathlib.Omega.{arith}
 use lib.ListN.{take}
 use Rattle.model.specs.declared.Head.{Head}
-use Rattle.model.specs.Basics.{quotient, remainder}
+use Rattle.model.specs.Basics.{quotient}
 use Rattle.model.specs.Rules.{Rule, cm, baseCount, mostClocks, mostConstant}
-use Rattle.model.specs.Construction.{digitsCode, digitsOf, codeOf, locationOf, basesOf}
+use Rattle.model.specs.Construction.{codeOf, locationOf, basesOf}
 use Rattle.model.specs.Layout.{ruleIn, ruleRefusal}
 use Rattle.model.proofs.Valid.{Valid, valid-of, cm-most}
 use Rattle.model.proofs.Readable.{passes-valid}
@@ -31,9 +31,9 @@ module _ {r : Rule} {z : Scale} (scaled : Scaled r z) where
   pub bases-are : (x : ℕ) → take (r .clocks) (unpacked z x .bases) ≡ basesOf r x
   unfolding basesOf
   bases-are x =
+      let all : List ℕ = basesFrom (z .powers) (r .clocks) 0 x in
       rw (scaled .clocks-are)
-      (take-filled mostClocks (r .clocks) (basesFrom (z .powers) (r .clocks) 0 x) (bases-length (z .powers) (r .clocks) 0 x)
-      ∙ all-bases raised x)
+      (take-filled mostClocks (r .clocks) all (bases-length (z .powers) (r .clocks) 0 x) ∙ all-bases raised x)
 
   pub code-is : (l : ℕ) (bases : List ℕ) → packed z l bases ≡ codeOf r l (take (r .clocks) bases)
   unfolding codeOf

@@ -5,22 +5,22 @@ use mathlib.Core.Bool.{true}
 use mathlib.Core.List.{List, [], _∷_}
 use Prim.Native.Nat.{ℕ, zero, suc, _+_, _-_, _*_, _/_, _%_, _^_, _≤_, _<_}
 use native.Mathlib.Omega.{arith}
-use native.Mathlib.Nat.{pow-zero, pow-suc, pow-succ', one-le-pow, mul-comm, mod-lt, div-one, div-div-eq-div-mul}
+use native.Mathlib.Nat.{pow-zero, pow-suc, pow-succ', one-le-pow, mod-lt, div-one, div-div-eq-div-mul}
 use native.Mathlib.Nat.{div-add-mod', div-lt-iff-lt-mul, mod-one, mod-eq-of-lt}
 use lib.Arith.{digits-div, digits-mod, mod-mul}
 use lib.Dec.{ltb}
-use lib.ListN.{length, getD, take}
+use lib.ListN.{length, take}
 use lib.Seq.{take-append-le, take-length}
 use borrow.Author.Tests.{ltb-true}
-use Rattle.model.specs.Basics.{within, quotient, remainder, allBelow, zeros, filled}
+use Rattle.model.specs.Basics.{quotient, remainder, allBelow, zeros, filled}
 use Rattle.model.specs.Rules.{mostClocks}
 use Rattle.model.specs.Construction.{digitsCode, digitsOf}
-use Rattle.model.proofs.Logic.{and-left, and-right, within-least, within-most, quotient-is, remainder-is}
+use Rattle.model.proofs.Logic.{and-left, and-right, quotient-is, remainder-is}
 use Rattle.model.proofs.Codes.{Digits, none, more, location-out, digits-out}
 use Rattle.codes.specs.declared.Scale.{Scale}
 use Rattle.codes.specs.Powers.{powersOf}
-use Rattle.codes.specs.Codes.{scaleOf, Powered, powerAt, basesCode, packed, basesFrom, pairOf, unpacked}
-use Rattle.codes.specs.Claims.{sizesFit, Pairs-come-back, Same-code, Codes-come-back}
+use Rattle.codes.specs.Codes.{scaleOf, powerAt, basesCode, packed, basesFrom, pairOf}
+use Rattle.codes.specs.Claims.{Pairs-come-back, Codes-come-back}
 use Rattle.codes.proofs.PowerLaws.{Raised, weight-power, powered-by, raised-by}
 
 -- a number by a product: first what one factor leaves, then by the other

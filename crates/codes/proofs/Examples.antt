@@ -2,9 +2,7 @@
 use mathlib.Core.Path.{_≡_, refl}
 use mathlib.Core.Bool.{Bool, true, false}
 use mathlib.Core.List.{List, [], _∷_}
-use Prim.Native.Nat.{ℕ}
 use Rattle.codes.specs.declared.Scale.{Scale}
-use Rattle.codes.specs.declared.Pair.{Pair}
 use Rattle.codes.specs.Powers.{powersOf}
 use Rattle.codes.specs.Codes.{scaleOf, packed, unpacked}
 use Rattle.codes.specs.Claims.{sizesFit}

@@ -1,11 +1,11 @@
 -- The loops that take a code apart and make it. Taken apart, from the top: the bases from clock k on are out, those
--- before it still zero, and what is left is what power k leaves. Made: the code so far, with the bases still to come, is
--- the code.
-use mathlib.Core.Path.{_≡_, refl, sym, _∙_, ap, ap₂}
-use mathlib.Core.List.{List, [], _∷_}
+-- before it still zero, and what is left is what power k leaves. Made: the code so far, with the bases still to come,
+-- is the code.
+use mathlib.Core.Path.{_≡_, refl, sym, _∙_, ap}
+use mathlib.Core.List.{List, []}
 use Prim.Native.Nat.{ℕ, zero, suc, _+_, _-_, _*_, _/_, _%_, _^_, _≤_, _<_}
 use native.Mathlib.Omega.{arith}
-use native.Mathlib.Nat.{pow-zero, pow-suc, pow-succ', mod-lt, mod-eq-of-lt, div-eq-of-lt, div-one, zero-mod, zero-div}
+use native.Mathlib.Nat.{pow-zero, pow-succ', mod-lt, mod-eq-of-lt, div-eq-of-lt, div-one, zero-mod, zero-div}
 use native.Mathlib.Nat.{div-lt-iff-lt-mul, mul-le-mul}
 use native.Mathlib.Numerals.{add-one}
 use lib.ListN.{length, getD, set, take, drop, length-set, getD-replicate}

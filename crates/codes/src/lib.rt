@@ -30,9 +30,9 @@ pub struct Pair {
     pub bases: [u16; MOST_CLOCKS],
 }
 
-// The pair that a code stands for, from the highest power down: a division for the location, and one for each base above
-// that of clock 0 that is not 0. What power 1 leaves is the base of clock 0. Once nothing is left, the bases still to
-// come are 0, as they are from the start.
+// The pair that a code stands for, from the highest power down: a division for the location, and one for each base
+// past that of clock 0 that is not 0. What power 1 leaves is the base of clock 0. Once nothing is left, the bases still
+// to come are 0, as they are from the start.
 pub fn unpack(scale: Scale, code: u32) -> Pair
     requires { ⌜ Powered scale ⌝ }
     ensures { λ r. ⌜ r ≡ unpacked scale code ⌝ }

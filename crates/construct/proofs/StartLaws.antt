@@ -3,21 +3,20 @@
 use mathlib.Core.Path.{_≡_, refl, sym, _∙_, ap, ap₂, subst}
 use mathlib.Core.Bool.{Bool, true, false, not}
 use mathlib.Core.List.{List, [], _∷_, _++_}
-use Prim.Native.Nat.{ℕ, zero, suc, _+_, _-_, _*_, _/_, _^_, _≤_, _<_}
+use Prim.Native.Nat.{ℕ, zero, suc, _+_, _-_, _*_, _/_, _≤_, _<_}
 use native.Mathlib.Omega.{arith}
-use native.Mathlib.Nat.{mul-le-mul-right}
 use lib.Dec.{eqb, ltb}
 use lib.ListN.{length}
-use borrow.Author.Tests.{lt-ltb, le-leb, not-false, eqb-true, eqb-false}
+use borrow.Author.Tests.{not-false, eqb-true, eqb-false}
 use Rattle.model.specs.declared.Head.{Head}
 use Rattle.model.specs.Basics.{pick, lesser, quotient, zeros, bit, bitsFrom, maskOf, refuse}
-use Rattle.model.specs.Rules.{Rule, cm, baseCount, mostLocations, mostClocks, mostConstant, pairCount, mostPairs}
+use Rattle.model.specs.Rules.{Rule, baseCount, mostLocations, pairCount, mostPairs}
 use Rattle.model.specs.Construction.{digitsCode, codeOf, withCode, startBases, startCodes, startRow, mostRows}
 use Rattle.model.specs.Layout.{edgeNeed, locationsIn, ruleIn, isReadable, ruleRefusal}
 use Rattle.model.specs.Tables.{rowWidth}
 use Rattle.model.proofs.Logic.{by-test, In, here, there}
 use Rattle.model.proofs.Refusals.{refused-false, then-passes}
-use Rattle.model.proofs.Valid.{Valid, valid-of, cm-most}
+use Rattle.model.proofs.Valid.{Valid, valid-of}
 use Rattle.model.proofs.Readable.{readable-of, passes-valid}
 use Rattle.model.proofs.Rising.{rises-below}
 use Rattle.model.proofs.Codes.{start-bases, code-below}

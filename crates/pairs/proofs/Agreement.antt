@@ -61,7 +61,7 @@ module _ {r : Rule} {z : Scale} (scaled : Scaled r z) where
       ap isMet
       (guard-take (r .clocks) (z .top) (at .interval) (unpacked z x .bases) (e .atoms)
       (λ a i. v .atoms-in a i .clock-below))
-      ∙ ap₂ (λ (c : ℕ) (bs : List ℕ). regionsHold c (at .interval) bs (e .atoms)) (scaled .top-is) (bases-are scaled x) in
+      ∙ ap₂ holds (scaled .top-is) (bases-are scaled x) in
       ap₂ (λ (l : ℕ) (t : Bool). eqb (e .source) l && eqb (e .symbol) (at .symbol) && t) (location-is scaled x) g
 
   pub target-is :

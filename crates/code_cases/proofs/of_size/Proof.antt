@@ -8,7 +8,8 @@ use Rattle.code_cases.proofs.of_size.Statement.{statement}
 use Rattle.code_cases.proofs.of_size.Tie as tie
 
 abbrev Inv-loop : tie.InvT-loop
-Inv-loop scale locations before pairs wrong₀ code₀ wrong code = (locations ≤ mostLocations) × Powered scale × (pairs ≤ mostPairs) × (code ≤ pairs)
+Inv-loop scale locations before pairs wrong₀ code₀ wrong code =
+    (locations ≤ mostLocations) × Powered scale × (pairs ≤ mostPairs) × (code ≤ pairs)
 
 abbrev μ-loop : tie.MeasureT-loop
 μ-loop scale locations before pairs wrong₀ code₀ wrong code = pairs - code

@@ -110,10 +110,11 @@ loop-again c =
     let at-power = at-test .before in
     let l = at-power .before .before .before .loop in
     let e : l .k ≡ suc (l .k - 1) = omega (arith, l .inv .turns-least) in
+    let h = at-test .if2 .taken in
     let p = at-power .wide324 .ensures .0 in
     let q = at-quotient .quotient2 .ensures in
-    let small : at-quotient .quotient2 .result < 2 ^ 16 = rw q (digit-most (l .inv) (l .k - 1) _ e (at-test .if2 .taken) p) in
-    taking-off (l .inv) (l .k - 1) _ _ _ e (search needs) (at-test .if2 .taken) p (at-digit .narrow16 .ensures .1 small ∙ q)
+    let small : at-quotient .quotient2 .result < 2 ^ 16 = rw q (digit-most (l .inv) (l .k - 1) _ e h p) in
+    taking-off (l .inv) (l .k - 1) _ _ _ e (search needs) h p (at-digit .narrow16 .ensures .1 small ∙ q)
     (c .remainder2 .ensures)
 
 loop-less-2 : tie.Need-loop-less-2 Inv-loop μ-loop

@@ -1,6 +1,5 @@
 -- `codes::powers::powers_of` meets its contract: the powers up to k are in, and zero past them.
 use Prim.Native.Nat.{_-_, _*_, _+_, _^_, _≤_}
-use native.Mathlib.Omega.{arith}
 use borrow.Author.Needs.{needs}
 use Rattle.model.specs.Rules.{mostClocks, mostConstant}
 use Rattle.codes.proofs.PowerLaws.{Raising, raising-start, power-most, raising-next, raising-end}
