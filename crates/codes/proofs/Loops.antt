@@ -31,7 +31,7 @@ base-at powers (suc n) k x (suc i) h =
     let e : k + suc i ≡ suc k + i = omega arith in
     rw e (base-at powers n (suc k) x i (omega arith))
 
--- what is left by a power is left by the next too
+-- what a power leaves of a number, it leaves of what the next power left
 lower : (m x j : ℕ) → 0 < m → 0 < m ^ j → x % m ^ suc j % m ^ j ≡ x % m ^ j
 lower m x j p q = rw (pow-succ' m j) (low-remainder x m (m ^ j) p q)
 
@@ -138,45 +138,41 @@ module _ {m : ℕ} {powers : List ℕ} {clocks code k rest : ℕ} {bases : List 
     rest-high = λ g. absurd (omega arith);
   }
 
-  -- less is left than its power: the base is 0, and nothing is taken off
+  -- the base of the clock before is 0: nothing is taken off
+  taking-none :
+      (j : ℕ) → k ≡ suc j → 1 ≤ j → getD (basesIn powers clocks code) j 0 ≡ 0 → (j ≤ clocks → rest ≡ code % m ^ j)
+      → Taking m powers clocks code j rest bases
+  taking-none j e l z r = record {
+    raised = inv .raised;
+    turns-least = l;
+    turns-most = omega (arith, inv .turns-most);
+    long = inv .long;
+    out = λ i g. elim (two j i) [
+      | less f ↦ inv .out i (omega arith)
+      | least f ↦
+          let q : i ≡ j = omega arith in
+          rw q (inv .zero-yet j (omega arith) ∙ sym z)
+    ];
+    zero-yet = λ i g. inv .zero-yet i (omega arith);
+    rest-low = r;
+    rest-high = λ g. inv .rest-high (omega arith);
+  }
+
+  -- less is left than its power
   pub taking-small :
       (j power : ℕ) → k ≡ suc j → 1 ≤ j → j < clocks → power ≡ powerAt powers j → rest < power
       → Taking m powers clocks code j rest bases
-  taking-small j power e l h p q = let s : rest < powerAt powers j = rw p at q in record {
-    raised = inv .raised;
-    turns-least = l;
-    turns-most = omega (arith, inv .turns-most);
-    long = inv .long;
-    out = λ i g. elim (two j i) [
-      | less f ↦ inv .out i (omega arith)
-      | least f ↦
-          let q : i ≡ j = omega arith in
-          rw q (inv .zero-yet j (omega arith) ∙ sym (next-base j e h ∙ div-eq-of-lt s))
-    ];
-    zero-yet = λ i g. inv .zero-yet i (omega arith);
-    rest-low = λ g. sym (mod-eq-of-lt s) ∙ next-rest j e h;
-    rest-high = λ g. absurd (omega arith);
-  }
+  taking-small j power e l h p q =
+      let s : rest < powerAt powers j = rw p at q in
+      taking-none j e l (next-base j e h ∙ div-eq-of-lt s) (λ g. sym (mod-eq-of-lt s) ∙ next-rest j e h)
 
   -- no such clock
   pub taking-past : (j : ℕ) → k ≡ suc j → 1 ≤ j → clocks ≤ j → Taking m powers clocks code j rest bases
-  taking-past j e l h = record {
-    raised = inv .raised;
-    turns-least = l;
-    turns-most = omega (arith, inv .turns-most);
-    long = inv .long;
-    out = λ i g. elim (two j i) [
-      | less f ↦ inv .out i (omega arith)
-      | least f ↦
-          let q : i ≡ j = omega arith in
-          rw q (inv .zero-yet j (omega arith) ∙ sym (past-clocks (inv .raised) code j h))
-    ];
-    zero-yet = λ i g. inv .zero-yet i (omega arith);
-    rest-low = λ g.
-        let q : j ≡ clocks = omega arith in
-        inv .rest-high (omega arith) ∙ ap (λ (n : ℕ). code % m ^ n) (sym q);
-    rest-high = λ g. inv .rest-high (omega arith);
-  }
+  taking-past j e l h =
+      taking-none j e l (past-clocks (inv .raised) code j h)
+      (λ g.
+      let q : clocks ≡ j = omega arith in
+      inv .rest-high (omega arith) ∙ ap (λ (n : ℕ). code % m ^ n) q)
 
   -- nothing is left: the bases still to come are 0
   none-to-come : rest ≡ 0 → (i : ℕ) → suc i ≤ k → i < clocks → code % m ^ suc i ≡ 0

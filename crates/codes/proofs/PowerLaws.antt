@@ -98,7 +98,7 @@ powers-are l k c fit =
 -- A list that holds the powers 0 to K of m.
 pub record Raised (m : ℕ) (powers : List ℕ) (clocks : ℕ) : Type 0 where
   pub least : 0 < m
-  pub most : m ≤ 257
+  pub most : m ≤ mostConstant + 2
   pub clocks-least : 1 ≤ clocks
   pub clocks-most : clocks ≤ mostClocks
   pub each : (k : ℕ) → k ≤ clocks → powerAt powers k ≡ m ^ k
