@@ -25,7 +25,7 @@
  *   THE CALLER; place 0, save for 26.
  *   20  edge table shorter than 7,424 numbers
  *   21  head record and edge table are not what reading some accepted file leaves
- *   22  build scratch shorter than N numbers
+ *   22  build scratch shorter than N / 32 numbers, rounded up
  *   23  the first row, by number, that does not fit: its number is not below the least of 4,096, a third of
  *       the row table and the cell table over S * W, both rounded down
  *   24  or, with a number below that, the pool is too short for it
@@ -66,12 +66,13 @@ extern "C" {
 /* The most events of a word, and of a word run by branch. */
 #define ALDERSKEIN_EVENTS 4096
 #define ALDERSKEIN_BRANCH_EVENTS 12
-/* The most rows of a table, and the largest N. */
+/* The most rows of a table. */
 #define ALDERSKEIN_ROWS 4096
-#define ALDERSKEIN_CODES 65536
 /* The numbers of a row in the row table: start, length, verdict; and the row numbers of the most rows. */
 #define ALDERSKEIN_ROW_NUMBERS 3
 #define ALDERSKEIN_ROW_TABLE 12288
+/* The numbers of build scratch that are enough for every rule: one bit for each of at most 65,536 codes. */
+#define ALDERSKEIN_BUILD_SCRATCH 2048
 
 /* A time since the start of the word, in D-ths of a second. */
 typedef struct {
@@ -192,7 +193,8 @@ alderskein_answer alderskein_check_word(uint32_t symbol_count, uint32_t grain, u
  * (row * S + symbol) * W + interval, where interval 2c is [c], 2c + 1 is (c, c + 1) and 2 * cm + 1 is
  * everything above cm. Rows: start and length in the pool and the verdict, three numbers each; the verdict is
  * 1 if one of the row's codes has a final location, else 0. Pool: the rows' codes, each row ascending, the
- * rows one after another by number from place 0 without gaps.
+ * rows one after another by number from place 0 without gaps. The scratch takes one bit for each code below
+ * N, 32 to a number.
  * Refuses: 20, 21, 22, which leave all four lent tables untouched; then 23 and 24, which leave them all zero.
  * On success unused places of the three tables are zero, and so is the whole scratch.
  */

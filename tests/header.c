@@ -32,3 +32,4 @@ PLACE(alderskein_moved, yes, 16);
 PLACE(alderskein_follower, reset, 8);
 PLACE(alderskein_follower, count, 16);
 _Static_assert(ALDERSKEIN_ROW_TABLE == ALDERSKEIN_ROW_NUMBERS * ALDERSKEIN_ROWS, "row table");
+_Static_assert(32 * ALDERSKEIN_BUILD_SCRATCH == 65536, "build scratch");

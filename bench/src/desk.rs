@@ -1,5 +1,6 @@
 //! A rule with its table, its room and a word, over which every call can be run.
 
+use crate::fastest::Fastest;
 use alderskein::raw::{Answer, Building, Built, Follower, Head, Moved};
 use alderskein::{ROW_NUMBERS, ROW_TABLE};
 use protocol::{Engine, Event, Reference, Rule, Table, Tables, Word};
@@ -39,6 +40,7 @@ pub struct Desk {
     built: Built,
     follower: Follower,
     word: Word,
+    fastest: Fastest,
 }
 
 impl Desk {
@@ -52,7 +54,7 @@ impl Desk {
             file,
             head,
             edges,
-            scratch: vec![0; 65_536],
+            scratch: vec![0; 2_048],
             configurations: vec![0; 1_024],
             cells: vec![0; 1 << 20],
             rows: vec![0; ROW_TABLE],
@@ -60,6 +62,7 @@ impl Desk {
             built: Built::default(),
             follower: Follower { grain: 2, ..Follower::default() },
             word: Word { grain: 2, symbols: vec![], stamps: vec![] },
+            fastest: Fastest::default(),
         };
         let building = desk.build::<Reference>();
         assert_eq!(building.number, 0, "the rule's table does not fit");
@@ -70,7 +73,8 @@ impl Desk {
 
     /// Cuts the room to what the table needs.
     fn cut(&mut self) {
-        self.scratch.truncate(self.codes());
+        // A bit for each code, 32 to a number.
+        self.scratch.truncate(self.codes().div_ceil(32));
         self.cells.truncate(self.row_count() * self.row_cells());
         self.rows.truncate(ROW_NUMBERS * self.row_count());
         self.pool.truncate(self.built.total as usize);
@@ -87,6 +91,11 @@ impl Desk {
     /// R.
     pub fn row_count(&self) -> usize {
         self.built.rows as usize
+    }
+
+    /// How many codes a row has on average.
+    pub fn mean_length(&self) -> f64 {
+        f64::from(self.built.total) / f64::from(self.built.rows)
     }
 
     /// N.
@@ -111,6 +120,24 @@ impl Desk {
     fn build<E: Engine>(&mut self) -> Building {
         let Desk { head, edges, scratch, cells, rows, pool, .. } = self;
         E::build_table(Rule { head: *head, edges }, Tables { scratch, cells, rows, pool })
+    }
+
+    /// Builds with the fastest Rust, in its own memory, and returns the row count.
+    pub fn build_fastest(&mut self) -> Option<usize> {
+        self.fastest.build(Rule { head: self.head, edges: &self.edges })
+    }
+
+    /// Whether the fastest Rust builds the table that the reference builds, in every number.
+    pub fn fastest_agrees(&mut self) -> bool {
+        let building = self.build::<Reference>();
+        let rows = self.build_fastest();
+        let (ours, theirs) = (self.fastest.table(), self.table());
+        building.number == 0
+            && rows == Some(self.row_count())
+            && ours.built == building.built
+            && ours.cells == theirs.cells
+            && ours.rows == theirs.rows
+            && ours.pool == theirs.pool
     }
 
     fn decide<E: Engine>(&mut self) -> Answer {

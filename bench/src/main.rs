@@ -1,9 +1,11 @@
-//! Measures the verified library beside the reference: same machine, same run, same input, same room.
+//! Measures the verified library beside the reference: same machine, same run, same input, same room. Builds are also
+//! measured beside the fastest Rust, which makes the same table by hashed rows and bits in its own memory.
 //!
-//! Every line is the median of some samples with the lowest and the highest; the two take turns, sample by
+//! Every line is the median of some samples with the lowest and the highest; they take turns, sample by
 //! sample. Lent tables are not cleared before a call: they hold what the call before left in them.
 
 mod desk;
+mod fastest;
 mod rules;
 
 use desk::{Call, Desk};
@@ -81,53 +83,78 @@ fn growth() -> Done {
     for top in [2, 6, 14, 30] {
         line(&format!("cm = {top}"), &mut Desk::new(rules::ring(4, 2, top)), Call::Build)?;
     }
-    Ok(())
+    heading("build, dense rows (32 locations, 3 clocks, cm 2)");
+    let mut dense = Desk::new(rules::dense());
+    line(&format!("{:.0} codes a row", dense.mean_length()), &mut dense, Call::Build)
 }
 
 fn heading(text: &str) {
     println!("\n{text}");
     let sizes = format!("{:>30}{:>7}{:>9}", "rows", "N", "cells");
-    println!("{sizes}  {:<30}{:<30}ratio", "library", "reference");
+    println!("{sizes}  {:<30}{:<30}{:<7}{:<30}ratio", "library", "reference", "ratio", "fastest");
 }
 
-/// Measures a call and prints its line.
+/// Measures a call and prints its line; for a build also with the fastest Rust.
 fn line(name: &str, desk: &mut Desk, call: Call) -> Done {
     let (ours, theirs) = (desk.run::<Library>(call), desk.run::<Reference>(call));
     if ours != theirs || ours[0] != 0 {
         return Err(format!("{name}: the library answers {ours:?}, the reference {theirs:?}"));
     }
-    let rounds = rounds(desk, call);
-    let (mut library, mut reference) = (Vec::new(), Vec::new());
+    let build = call == Call::Build;
+    if build && !desk.fastest_agrees() {
+        return Err(format!("{name}: the fastest Rust builds another table than the reference"));
+    }
+    let calls = rounds(desk, run::<Reference>(call));
+    let builds = if build { rounds(desk, run_fastest) } else { 0 };
+    let (mut library, mut reference, mut fastest) = (Vec::new(), Vec::new(), Vec::new());
     for _ in 0..SAMPLES {
-        library.push(sample::<Library>(desk, call, rounds));
-        reference.push(sample::<Reference>(desk, call, rounds));
+        library.push(sample(desk, run::<Library>(call), calls));
+        reference.push(sample(desk, run::<Reference>(call), calls));
+        if build {
+            fastest.push(sample(desk, run_fastest, builds));
+        }
     }
     let (library, reference) = (Spread::of(library), Spread::of(reference));
     let sizes = format!("{:>5}{:>7}{:>9}", desk.row_count(), desk.codes(), desk.cell_count());
-    let mut ratio = format!("{:.2}", library.median / reference.median);
-    if call == Call::Build {
-        ratio += &format!("  {:.0} ns a cell", library.median * 1e9 / desk.cell_count() as f64);
+    let ratio = format!("{:.2}", library.median / reference.median);
+    print!("{name:<25}{sizes}  {:<30}{:<30}", library.text(), reference.text());
+    if build {
+        let fastest = Spread::of(fastest);
+        let ratio_to_fastest = format!("{:.1}", library.median / fastest.median);
+        let a_cell = library.median * 1e9 / desk.cell_count() as f64;
+        println!("{ratio:<7}{:<30}{ratio_to_fastest:<7}{a_cell:.0} ns a cell", fastest.text());
+    } else {
+        println!("{ratio}");
     }
-    println!("{name:<25}{sizes}  {:<30}{:<30}{ratio}", library.text(), reference.text());
     Ok(())
 }
 
+/// A call of the library or the reference.
+fn run<E: Engine>(call: Call) -> impl Fn(&mut Desk) + Copy {
+    move |desk| {
+        black_box(desk.run::<E>(black_box(call)));
+    }
+}
+
+/// A build by the fastest Rust.
+fn run_fastest(desk: &mut Desk) {
+    black_box(black_box(desk).build_fastest());
+}
+
 /// How many calls make a sample long enough.
-fn rounds(desk: &mut Desk, call: Call) -> u32 {
+fn rounds(desk: &mut Desk, run: impl Fn(&mut Desk) + Copy) -> u32 {
     let mut rounds = 1;
-    while rounds < 1 << 20
-        && sample::<Reference>(desk, call, rounds) * f64::from(rounds) < SAMPLE.as_secs_f64()
-    {
+    while rounds < 1 << 20 && sample(desk, run, rounds) * f64::from(rounds) < SAMPLE.as_secs_f64() {
         rounds *= 2;
     }
     rounds
 }
 
 /// Seconds a call takes, over so many.
-fn sample<E: Engine>(desk: &mut Desk, call: Call, rounds: u32) -> f64 {
+fn sample(desk: &mut Desk, run: impl Fn(&mut Desk), rounds: u32) -> f64 {
     let begun = Instant::now();
     for _ in 0..rounds {
-        black_box(desk.run::<E>(black_box(call)));
+        run(desk);
     }
     begun.elapsed().as_secs_f64() / f64::from(rounds)
 }

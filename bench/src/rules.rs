@@ -76,3 +76,24 @@ pub fn forking() -> Vec<u8> {
     let edges = [record(5, &[0, 0, 0, 0]), record(5, &[0, 0, 0, 0, 0, 3, 0])].concat();
     [record(1, &[1, 1, 1]), record(2, &[0]), edges].concat()
 }
+
+/// Rows of many pairs: 32 locations in a ring, all initial, with three clocks and cm 2, so that N is 2,048. There are
+/// 59 rows of up to 1,536 codes, 526 on average, 448 in the middle.
+///
+/// Symbol 0 goes on to the next location, or skips some: an edge for each clock resets it, the first at age 2, the
+/// others at age 1. So pairs that reset come together with pairs that did not. Symbol 1 goes on where the first clock's
+/// age is at least 1.
+pub fn dense() -> Vec<u8> {
+    let mut records = vec![record(1, &[32, 2, 3])];
+    records.extend((0..32).map(|location| record(2, &[location])));
+    records.push(record(3, &[0]));
+    for location in 0..32 {
+        let on = |by| (location + by) % 32;
+        records.push(record(5, &[location, on(1), 0, 0]));
+        for (clock, age) in [(0, 2), (1, 1), (2, 1)] {
+            records.push(record(5, &[location, on(2 + clock), 0, 1 << clock, clock, 2, age]));
+        }
+        records.push(record(5, &[location, on(1), 1, 0, 0, 3, 1]));
+    }
+    records.concat()
+}

@@ -44,5 +44,5 @@ pub use follower::Follower;
 pub use raw::Stamp;
 pub use refusal::{Cause, Refusal};
 pub use rule::{LeastRun, Rule, Run, EDGE_TABLE, LONGEST_FILE};
-pub use table::{decide, Cell, Room, Table, ROW_NUMBERS, ROW_TABLE};
+pub use table::{decide, Cell, Room, Table, BUILD_SCRATCH, ROW_NUMBERS, ROW_TABLE};
 pub use word::Word;

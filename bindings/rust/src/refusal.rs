@@ -53,7 +53,7 @@ impl Refusal {
             8 => "the rule has more than 65,536 codes",
             20 => "edge table shorter than 7,424 numbers",
             21 => "head record and edge table are not what reading some accepted file leaves",
-            22 => "build scratch shorter than the rule's codes",
+            22 => "build scratch with fewer bits than the rule has codes",
             23 => "more rows than the tables have room for",
             24 => "pool too short",
             25 => "built record or its tables out of shape",

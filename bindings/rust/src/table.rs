@@ -7,12 +7,14 @@ use crate::{Follower, Refusal, Word, EDGE_TABLE};
 pub const ROW_NUMBERS: usize = 3;
 /// The row numbers of the most rows, 4,096.
 pub const ROW_TABLE: usize = 12_288;
+/// The numbers of build scratch that are enough for every rule: one bit for each of at most 65,536 codes.
+pub const BUILD_SCRATCH: usize = 2_048;
 
 /// How many numbers a builder is lent. They are allocated as asked; without memory for them the program
 /// ends, as with every `Vec`.
 #[derive(Clone, Copy, Debug, PartialEq, Eq)]
 pub struct Room {
-    /// For the scratch: N, at most 65,536.
+    /// For the scratch: N / 32 rounded up, at most 2,048.
     pub scratch: usize,
     /// For the cells: R · S · W.
     pub cells: usize,
@@ -23,14 +25,14 @@ pub struct Room {
 }
 
 impl Room {
-    /// What the listing program lends: enough for 682 rows.
+    /// What the listing program lends: enough for 682 rows, and for every scratch.
     pub const LISTING: Room = Room { scratch: 16_384, cells: 16_384, rows: 2_048, pool: 8_192 };
 }
 
 impl Default for Room {
     /// Room for every scratch, for 4,096 rows, and for a million each of cells and codes.
     fn default() -> Self {
-        Room { scratch: 65_536, cells: 1 << 20, rows: ROW_TABLE, pool: 1 << 20 }
+        Room { scratch: BUILD_SCRATCH, cells: 1 << 20, rows: ROW_TABLE, pool: 1 << 20 }
     }
 }
 

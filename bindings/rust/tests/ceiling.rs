@@ -12,7 +12,7 @@ const FINAL_AT: usize = 16;
 const EDGES_AT: usize = 22;
 const SECOND_EDGE_AT: usize = 40;
 /// What the table of the worked case needs, number for number.
-const WORKED_ROOM: Room = Room { scratch: 6, cells: 24, rows: 9, pool: 2 };
+const WORKED_ROOM: Room = Room { scratch: 1, cells: 24, rows: 9, pool: 2 };
 
 /// Words over the worked case with seconds about 30: D, events and verdict.
 const LATE_WORDS: [(u32, Events, bool); 4] = [

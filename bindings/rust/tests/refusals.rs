@@ -49,11 +49,11 @@ fn the_caller_22_to_24() {
         let room = Room { scratch, cells, rows, pool };
         worked_rule().build(room).map(|table| table.row_count())
     };
-    assert_eq!(build(6, 24, 9, 2), Ok(3));
-    assert_eq!(build(5, 24, 9, 2), refused(22, 0));
-    assert_eq!(build(6, 23, 9, 2), refused(23, 0));
-    assert_eq!(build(6, 24, 8, 2), refused(23, 0));
-    assert_eq!(build(6, 24, 9, 1), refused(24, 0));
+    assert_eq!(build(1, 24, 9, 2), Ok(3));
+    assert_eq!(build(0, 24, 9, 2), refused(22, 0));
+    assert_eq!(build(1, 23, 9, 2), refused(23, 0));
+    assert_eq!(build(1, 24, 8, 2), refused(23, 0));
+    assert_eq!(build(1, 24, 9, 1), refused(24, 0));
 }
 
 #[test]
@@ -156,7 +156,7 @@ fn what_a_refused_call_leaves_in_lent_tables() {
         let (scratch, pool) = (&mut scratch[..n], &mut pool[..1]);
         raw::build_table(rule.head(), rule.edges(), scratch, &mut cells, &mut rows, pool)
     };
-    assert_eq!(build(5).number, 22);
+    assert_eq!(build(0).number, 22);
     assert_eq!(build(6).number, 24);
     assert_eq!((scratch[5], scratch[6], cells, rows, pool[0], pool[1]), (0, 7, [0; 24], [0; 24], 0, 7));
 }

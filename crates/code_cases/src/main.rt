@@ -1,8 +1,7 @@
 // Every code of every size, taken apart and made again: for each L, K and cm in their ranges with N at or below 65,536.
 // Three numbers: such sizes, codes below their N, and codes that did not come back as they were.
 ghost use Prim.Native.Nat.{_≤_};
-ghost use Rattle.model.specs.Rules.{mostClocks, mostLocations};
-ghost use Rattle.codes.specs.Codes.{Powered};
+ghost use Rattle.model.specs.Rules.{mostLocations};
 use codes::Scale;
 use codes::pack;
 use codes::powers::scale_by;
@@ -12,6 +11,7 @@ use model::MOST_CLOCKS;
 use model::MOST_CONSTANT;
 use model::MOST_LOCATIONS;
 use model::MOST_PAIRS;
+use numbers::narrow16;
 use numbers::wide8;
 use numbers::wide32;
 
@@ -31,7 +31,6 @@ fn sum(a: u32, b: u32) -> u32 {
 
 // Does a code come back, from a location below L?
 fn comes_back(scale: Scale, locations: usize, code: u32) -> bool
-    requires { ⌜ Powered scale ⌝ }
     requires { ⌜ locations ≤ mostLocations ⌝ }
 {
     let pair = unpack(scale, code);
@@ -39,12 +38,11 @@ fn comes_back(scale: Scale, locations: usize, code: u32) -> bool
         return false;
     }
     let bases = pair.bases;
-    pack(scale, pair.location, bases) == wide32(code)
+    pack(scale, narrow16(pair.location), bases) == wide32(code)
 }
 
 // All codes below N, of a size with N at or below 65,536.
 fn of_size(scale: Scale, locations: usize, before: Tally) -> Tally
-    requires { ⌜ Powered scale ⌝ }
     requires { ⌜ locations ≤ mostLocations ⌝ }
 {
     let pairs = locations * wide32(scale.weight);
@@ -67,9 +65,7 @@ fn of_size(scale: Scale, locations: usize, before: Tally) -> Tally
 }
 
 // All L.
-fn of_scale(scale: Scale, before: Tally) -> Tally
-    requires { ⌜ Powered scale ⌝ }
-{
+fn of_scale(scale: Scale, before: Tally) -> Tally {
     let mut tally = before;
     let mut locations: usize = 1;
     while locations <= MOST_LOCATIONS {
@@ -80,9 +76,7 @@ fn of_scale(scale: Scale, before: Tally) -> Tally
 }
 
 // All cm.
-fn of_clocks(clocks: u32, before: Tally) -> Tally
-    requires { ⌜ (1 ≤ clocks) × (clocks ≤ mostClocks) ⌝ }
-{
+fn of_clocks(clocks: u32, before: Tally) -> Tally {
     let mut tally = before;
     let mut top: u8 = 0;
     while wide8(top) <= MOST_CONSTANT {

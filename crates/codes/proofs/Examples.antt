@@ -4,7 +4,7 @@ use mathlib.Core.Bool.{Bool, true, false}
 use mathlib.Core.List.{List, [], _∷_}
 use Rattle.codes.specs.declared.Scale.{Scale}
 use Rattle.codes.specs.Powers.{powersOf}
-use Rattle.codes.specs.Codes.{scaleOf, packed, unpacked}
+use Rattle.codes.specs.Codes.{scaleOf, smallScale, packed, unpacked}
 use Rattle.codes.specs.Claims.{sizesFit}
 
 -- one clock, three, and four; cm 30, 14 and 0
@@ -24,9 +24,24 @@ powers-of-2 = refl
 of-nine : Scale
 of-nine = record { clocks = 2; top = 1; weight = 9; powers = 1 ∷ 3 ∷ 9 ∷ 0 ∷ 0 ∷ [] }
 
+nothing : Scale
+nothing = record { clocks = 0; top = 0; weight = 0; powers = 0 ∷ 0 ∷ 0 ∷ 0 ∷ 0 ∷ [] }
+
 scale-of-nine : scaleOf 1 2 ≡ of-nine
 unfolding powersOf of-nine
 scale-of-nine = refl
+
+-- cm and K at the end of their ranges, and one past each; no scale is all zero
+largest-scale : smallScale 30 4 ≡ scaleOf 30 4
+largest-scale = refl
+
+top-past : smallScale 31 1 ≡ nothing
+unfolding nothing
+top-past = refl
+
+clocks-past : smallScale 0 5 ≡ nothing
+unfolding nothing
+clocks-past = refl
 
 -- location 3, bases 2 and 1: 27 + 2 + 3; bases past the clocks are not counted, and come back as zero
 made : packed (scaleOf 1 2) 3 (2 ∷ 1 ∷ 2 ∷ 2 ∷ []) ≡ 32

@@ -16,8 +16,8 @@ use Rattle.model.proofs.EdgesWritten.{filled-length}
 use Rattle.model.proofs.Logic.{quotient-is, remainder-is, first-part, less, least, two}
 use Rattle.codes.specs.declared.Scale.{Scale}
 use Rattle.codes.specs.declared.Pair.{Pair}
-use Rattle.codes.specs.Codes.{powerAt, basesCode, packed, basesFrom, unpacked}
-use Rattle.codes.proofs.PowerLaws.{Raised, first-power, past-front}
+use Rattle.codes.specs.Codes.{Powered, powerAt, basesCode, packed, basesFrom, unpacked}
+use Rattle.codes.proofs.PowerLaws.{Raised, first-power, past-front, raised-at, weight-at}
 use Rattle.codes.proofs.Codes.{low-remainder, bases-length, power-least}
 
 -- the base of clock i, by its place
@@ -66,6 +66,16 @@ module _ {m : ℕ} {powers : List ℕ} {clocks : ℕ} (raised : Raised m powers 
   past-clocks : (i : ℕ) → clocks ≤ i → getD (basesIn powers clocks code) i 0 ≡ 0
   past-clocks i h =
       past-front mostClocks (basesFrom powers clocks 0 code) i (rw (bases-length powers clocks 0 code) h)
+
+-- What is known of a scale of powers.
+pub record Known (powers : List ℕ) (clocks weight : ℕ) : Type 0 where
+  pub raised : Raised (powerAt powers 1) powers clocks
+  pub weight-is : weight ≡ powerAt powers 1 ^ clocks
+
+pub known-of :
+    {z : Scale} {clocks weight : ℕ} → Powered z → clocks ≡ z .clocks → weight ≡ z .weight
+    → Known (z .powers) clocks weight
+known-of powered k w = record { raised = raised-at powered k; weight-is = w ∙ weight-at powered k }
 
 -- Taken apart down to clock k.
 pub record Taking (m : ℕ) (powers : List ℕ) (clocks code k rest : ℕ) (bases : List ℕ) : Type 0 where
@@ -294,20 +304,21 @@ packing-start powers clocks first bases long h = record {
 }
 
 pub pack-is :
-    {m : ℕ} (z : Scale) (location w clocks low code : ℕ) (bases : List ℕ) → Raised m (z .powers) (z .clocks)
+    {m : ℕ} (z : Scale) (l location w clocks low code : ℕ) (bases : List ℕ) → Raised m (z .powers) (z .clocks)
     → length bases ≡ mostClocks
     → clocks ≡ z .clocks
+    → location ≡ l
     → w ≡ z .weight
     → low ≡ getD bases 0 0
     → code ≡ location * w + low + laterCode (z .powers) clocks bases
-    → code ≡ packed z location bases
-pack-is {m} z location w clocks low code bases raised long k e l c =
+    → code ≡ packed z l bases
+pack-is {m} z l location w clocks low code bases raised long k at e b c =
     let one : powerAt (z .powers) 0 ≡ 1 = raised .each 0 (omega arith) ∙ pow-zero m in
     let none : z .clocks - 0 ≡ z .clocks = omega arith in
     let later : ℕ = laterCode (z .powers) (z .clocks) bases in
     let all : basesCode (z .powers) 0 (take (z .clocks) bases) ≡ getD bases 0 0 * powerAt (z .powers) 0 + later =
     rw none at (code-head (z .powers) (z .clocks) 0 bases (raised .clocks-least) (omega (arith, long))) in
-    rw (all, one, ← e, ← l) (c ∙ rw k (turn (location * w) low later))
+    rw (all, one, ← at, ← e, ← b) (c ∙ rw k (turn (location * w) low later))
   where
     turn : (a b c : ℕ) → a + b + c ≡ a + (b * 1 + c)
     turn a b c = omega arith

@@ -9,14 +9,14 @@ use native.Mathlib.Numerals.{add-one}
 use lib.ListN.{length, getD, set}
 use lib.Seq.{getD-append-add}
 use lib.Dec.{leb}
-use borrow.Author.Tests.{leb-true}
+use borrow.Author.Tests.{leb-true, le-leb, lt-leb}
 use Rattle.model.specs.Basics.{within, zeros, filled}
 use Rattle.model.specs.Rules.{mostLocations, mostClocks, mostConstant, mostPairs}
 use Rattle.model.proofs.EdgesWritten.{filled-length}
-use Rattle.model.proofs.Logic.{and-left, and-right, within-least, within-most, first-part}
+use Rattle.model.proofs.Logic.{by-test, and-left, and-right, within-least, within-most, first-part}
 use Rattle.codes.specs.Powers.{powerPlaces, powersFrom, powersOf}
 use Rattle.codes.specs.declared.Scale.{Scale}
-use Rattle.codes.specs.Codes.{scaleOf, powerAt, Powered}
+use Rattle.codes.specs.Codes.{scaleOf, noScale, smallScale, powerAt, Powered}
 use Rattle.codes.specs.Claims.{sizesFit, Powers-are}
 
 from-length : (n i m : ℕ) → length (powersFrom n i m) ≡ n
@@ -65,6 +65,17 @@ pub scale-is :
     → _≡_ {A = Scale} (record { clocks = clocks; top = top; weight = getD powers at 0; powers = powers })
     (scaleOf top clocks)
 scale-is top clocks k at powers e f p = rw (f, p, e)
+
+-- in their ranges, and past one of them
+pub small-is : (c k : ℕ) → c ≤ mostConstant → k ≤ mostClocks → smallScale c k ≡ scaleOf c k
+small-is c k h g = rw (le-leb c mostConstant h, le-leb k mostClocks g)
+
+pub small-top : (c k : ℕ) → mostConstant < c → smallScale c k ≡ noScale
+small-top c k h = rw (lt-leb c mostConstant h)
+
+pub small-clocks : (c k : ℕ) → mostClocks < k → smallScale c k ≡ noScale
+small-clocks c k h =
+    by-test (leb c mostConstant) (λ e. rw (e, lt-leb k mostClocks h)) (λ e. rw e)
 
 -- K and cm of sizes that fit
 module _ (l k c : ℕ) (fit : sizesFit l k c ≡ true) where

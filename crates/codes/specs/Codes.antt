@@ -1,14 +1,16 @@
 -- Codes made of a location and bases, and taken apart, with the powers that a scale carries. For the scale of a rule
 -- they are the construction's own (proofs/Agreement.antt).
 use mathlib.Core.Path.{_≡_}
+use mathlib.Core.Bool.{_&&_}
 use mathlib.Core.List.{List, [], _∷_}
 use Prim.Native.Nat.{ℕ, zero, suc, _+_, _*_, _≤_}
+use lib.Dec.{leb}
 use lib.ListN.{getD, take}
-use Rattle.model.specs.Basics.{filled, quotient, remainder}
+use Rattle.model.specs.Basics.{pick, zeros, filled, quotient, remainder}
 use Rattle.model.specs.Rules.{Rule, cm, mostClocks, mostConstant}
 use Rattle.codes.specs.declared.Scale.{Scale}
 use Rattle.codes.specs.declared.Pair.{Pair}
-use Rattle.codes.specs.Powers.{powersOf}
+use Rattle.codes.specs.Powers.{powerPlaces, powersOf}
 
 -- power k, by its place
 abbrev pub powerAt : List ℕ → ℕ → ℕ
@@ -17,6 +19,13 @@ powerAt powers k = getD powers k 0
 -- the scale of cm and K; the weight of a location is power K
 abbrev pub scaleOf : ℕ → ℕ → Scale
 scaleOf c k = record { clocks = k; top = c; weight = powerAt (powersOf c k) k; powers = powersOf c k }
+
+-- all zero, and the scale of cm and K where both are in their ranges
+abbrev pub noScale : Scale
+noScale = record { clocks = 0; top = 0; weight = 0; powers = zeros powerPlaces }
+
+abbrev pub smallScale : ℕ → ℕ → Scale
+smallScale c k = pick (leb c mostConstant && leb k mostClocks) (scaleOf c k) noScale
 
 -- a scale with K and cm in their ranges that is the one of its own cm and K
 pub record Powered (z : Scale) : Type 0 where

@@ -1,7 +1,7 @@
 // Codes of pairs, location · (cm + 2)^K plus the sum of base(k) · (cm + 2)^k, made and taken apart with the powers of
 // cm + 2 that a scale carries.
+// Total: any scale gives an answer. That it is the pair, or the code, is said for a scale of powers.
 ghost use mathlib.Core.Path.{_≡_};
-ghost use Prim.Native.Nat.{_^_, _<_};
 ghost use Rattle.codes.specs.Codes.{Powered, packed, unpacked};
 use model::MOST_CLOCKS;
 use numbers::narrow16;
@@ -34,8 +34,7 @@ pub struct Pair {
 // past that of clock 0 that is not 0. What power 1 leaves is the base of clock 0. Once nothing is left, the bases still
 // to come are 0, as they are from the start.
 pub fn unpack(scale: Scale, code: u32) -> Pair
-    requires { ⌜ Powered scale ⌝ }
-    ensures { λ r. ⌜ r ≡ unpacked scale code ⌝ }
+    ensures { λ r. ⌜ (Powered scale → r ≡ unpacked scale code) ⌝ }
 {
     let powers = scale.powers;
     let clocks = wide32(scale.clocks);
@@ -61,14 +60,12 @@ pub fn unpack(scale: Scale, code: u32) -> Pair
 }
 
 // The code of a location and bases. Power 0 is 1: the base of clock 0 counts once.
-pub fn pack(scale: Scale, location: usize, bases: [u16; MOST_CLOCKS]) -> usize
-    requires { ⌜ Powered scale ⌝ }
-    requires { ⌜ location < 2 ^ 16 ⌝ }
-    ensures { λ r. ⌜ r ≡ packed scale location bases ⌝ }
+pub fn pack(scale: Scale, location: u16, bases: [u16; MOST_CLOCKS]) -> usize
+    ensures { λ r. ⌜ (Powered scale → r ≡ packed scale location bases) ⌝ }
 {
     let powers = scale.powers;
     let clocks = wide32(scale.clocks);
-    let mut code = location * wide32(scale.weight) + wide16(bases[0]);
+    let mut code = wide16(location) * wide32(scale.weight) + wide16(bases[0]);
     let mut k: usize = 1;
     while k < MOST_CLOCKS {
         if k < clocks {

@@ -8,14 +8,15 @@ use native.Mathlib.Nat.{mul-le-mul-right, div-add-mod'}
 use lib.ListN.{length, length-replicate}
 use Rattle.model.specs.declared.Head.{Head}
 use Rattle.model.specs.Basics.{lesser, quotient, zeros}
-use Rattle.model.specs.Rules.{Rule, pairCount}
+use Rattle.model.specs.Rules.{Rule}
 use Rattle.model.specs.Construction.{width, startRow, mostRows, rowsOf}
 use Rattle.model.specs.Layout.{ruleIn, ruleRefusal, locationsIn}
-use Rattle.model.specs.Tables.{rowWidth, rowRoom}
+use Rattle.model.specs.Tables.{rowWidth, rowRoom, scratchNeed}
 use Rattle.model.proofs.Logic.{lesser-left, lesser-right}
 use Rattle.model.proofs.Readable.{passes-valid}
 use Rattle.model.proofs.RowNumbers.{Extends}
 use Rattle.model.proofs.Discovery.{grows-extends, rows-grow}
+use Rattle.model.proofs.TableRoom.{bits-enough}
 use Rattle.codes.specs.declared.Scale.{Scale}
 use Rattle.codes.specs.Codes.{Scaled}
 use Rattle.construct.specs.declared.Progress.{Progress}
@@ -126,7 +127,7 @@ pub can-build :
     (h : Head) (t : List ℕ) (z : Scale) (scratch scratch₁ cells cells₁ rows rows₁ pool pool₁ : List ℕ)
     → ruleRefusal h t .number ≡ 0
     → Scaled (ruleIn h t) z
-    → pairCount (ruleIn h t) ≤ length scratch
+    → scratchNeed (ruleIn h t) ≤ length scratch
     → scratch₁ ≡ zeros (length scratch)
     → cells₁ ≡ zeros (length cells)
     → rows₁ ≡ zeros (length rows)
@@ -136,7 +137,9 @@ can-build h t z scratch scratch₁ cells cells₁ rows rows₁ pool pool₁ pass
   ready = record {
     valid = passes-valid h t passed;
     scaled = scaled;
-    marks-long = omega (arith, ap length a, length-replicate {A = ℕ} (length scratch) 0);
+    marks-long =
+        bits-enough (ruleIn h t) (length scratch₁)
+        (rw (ap length a, length-replicate {A = ℕ} (length scratch) 0) long);
   };
   marks-zero = zeros-again scratch₁ scratch a;
   cells-zero = zeros-again cells₁ cells b;

@@ -11,10 +11,10 @@ use Rattle.model.specs.Rules.{Rule}
 use Rattle.model.specs.Construction.{rowResets, nextRow, rowAt, numberOf, withRow, cellOf}
 use Rattle.model.specs.Tables.{rowStart, rowLength}
 use Rattle.pairs.specs.declared.Input.{Input}
+use Rattle.bits.specs.Bits.{codesIn}
 use Rattle.construct.specs.declared.Marked.{Marked}
 use Rattle.construct.specs.declared.Progress.{Progress}
-use Rattle.construct.specs.declared.Placed.{Placed}
-use Rattle.construct.specs.Marks.{codesIn, NextMarked}
+use Rattle.construct.specs.Marks.{NextMarked}
 use Rattle.construct.specs.Rows.{rowsIn, Within, Grown, MarksNumbered}
 use Rattle.construct.specs.Cells.{CellMade}
 use Rattle.construct.proofs.RowSearch.{row-held}
@@ -42,31 +42,24 @@ module _
 pub cell-made :
     {says : List ℕ → Bool} (r : Rule) (row : ℕ) (at : Input) (rs : List (List ℕ)) {room : ℕ}
     {x marks marks₁ marks′ rows′ pool′ : List ℕ}
-    (marked : Marked) (placed : Placed) (cell : ℕ)
+    (marked : Marked) (p : Progress) (cell : ℕ)
     → x ≡ rowAt rs row
     → length marks₁ ≡ length marks
     → NextMarked r at x marks₁ marked
-    → MarksNumbered says room (withRow (codesIn marks₁) rs) (numberOf (codesIn marks₁) rs) marks₁ marks′ rows′ pool′
-    placed
-    → cell ≡ 2 * placed .row + oneIf (marked .timer)
-    → CellMade says r row at rs room marks marks′ rows′ pool′
-    (record { row = placed .row; cell = cell; progress = placed .progress })
+    → MarksNumbered says room (withRow (codesIn marks₁) rs) (numberOf (codesIn marks₁) rs) marks₁ marks′ rows′ pool′ p
+    → cell ≡ 2 * p .last + oneIf (marked .timer)
+    → CellMade says r row at rs room marks marks′ rows′ pool′ (record { cell = cell; progress = p })
 unfolding cellOf
-cell-made {says} r row at rs {room} {x} {marks} {marks₁} {marks′} {rows′} {pool′} marked placed cell e long next put c =
+cell-made {says} r row at rs {room} {x} {marks} {marks₁} {marks′} {rows′} {pool′} marked p cell e long next put c =
     let codes : codesIn marks₁ ≡ nextRow r (at .symbol) (at .interval) (rowAt rs row) =
     next .marks-are .codes-are ∙ ap (nextRow r (at .symbol) (at .interval)) e in
-    let row-is :
-    placed .progress .number ≡ 0
-    → placed .row ≡ numberOf (nextRow r (at .symbol) (at .interval) (rowAt rs row)) rs =
-    λ z. put .numbered .row-is z ∙ ap (λ (l : List ℕ). numberOf l rs) codes in
     record {
       marks-zero = put .marks-zero ∙ ap zeros long;
       grown =
-          subst (λ (l : List ℕ). Grown says room (withRow l rs) rows′ pool′ (placed .progress)) codes
-          (put .numbered .grown);
-      row-is = row-is;
+          subst (λ (l : List ℕ). Grown says room (withRow l rs) rows′ pool′ p) codes (put .numbered .grown);
       cell-is = λ z.
           c
-          ∙ ap₂ (λ (n : ℕ) (b : Bool). 2 * n + oneIf b) (row-is z)
+          ∙ ap₂ (λ (n : ℕ) (b : Bool). 2 * n + oneIf b)
+          (put .numbered .row-is z ∙ ap (λ (l : List ℕ). numberOf l rs) codes)
           (next .timer-is ∙ ap (rowResets r (at .symbol) (at .interval)) e);
     }

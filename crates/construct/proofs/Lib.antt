@@ -1,9 +1,8 @@
 -- Edges by where they leave, linked
 pub mod LeavingLaws
 pub mod EdgeLaws
--- Marks as a set, gathered in place; the targets of a row
+-- Marks of the start row, and of the targets of a row
 pub mod MarkLaws
-pub mod Gathering
 pub mod TargetMarks
 -- Rows: looked for, held in their tables, one more or none that fits
 pub mod RowSearch

@@ -24,8 +24,7 @@ use Rattle.model.proofs.RowNumbers.{Placed as Apart}
 use Rattle.construct.specs.declared.Found.{Found}
 use Rattle.construct.specs.declared.Found.the-variants.{At, Nothing}
 use Rattle.construct.specs.declared.Progress.{Progress}
-use Rattle.construct.specs.declared.Placed.{Placed}
-use Rattle.construct.specs.Rows.{rowsIn, isAt, foundIn, CodeSet, Held, Unfit, Numbered}
+use Rattle.construct.specs.Rows.{rowsIn, isAt, foundIn, CodeSet, Held, Unfit, unfitBy, Numbered}
 use Rattle.construct.proofs.RowSearch.{rows-length, found-at, found-nothing}
 use Rattle.construct.proofs.RowTables.{filled-three, rows-append, pool-append}
 use Rattle.construct.proofs.RowTables.{rows-again}
@@ -82,6 +81,7 @@ module _ {says : List ℕ → Bool} {rows pool : List ℕ} {p : Progress} (held 
       → Unfit (p .room) (length pool) 23 (rowsIn (p .rows) rows pool ++ (x ∷ []))
   no-room x h = record {
     least = omega arith;
+    most = omega arith;
     refuses = first-unfit x 23 (λ more. fit-23 (p .rows) (p .room) (p .total) (length pool) x more h);
   }
 
@@ -90,6 +90,7 @@ module _ {says : List ℕ → Bool} {rows pool : List ℕ} {p : Progress} (held 
       → Unfit (p .room) (length pool) 24 (rowsIn (p .rows) rows pool ++ (x ∷ []))
   pool-short x h g = record {
     least = omega arith;
+    most = omega arith;
     refuses =
         first-unfit x 24
         (λ more. fit-24 (p .rows) (p .room) (p .total) (length pool) x more h (omega (arith, held .in-pool)));
@@ -161,12 +162,17 @@ module _
       subst Apart (with-new x rs (omega (arith, new, count-is held))) (with-placed x rs (held .rows-apart))
 
   pub row-added :
-      Numbered says (p .room) (rowsIn (p .rows) rows pool ++ (x ∷ [])) (p .rows) rows′ pool′
+      (total before : ℕ) → total ≡ p .total + length x
+      → Numbered says (p .room) (rowsIn (p .rows) rows pool ++ (x ∷ [])) (p .rows) rows′ pool′
       (record {
-        row = p .rows;
-        progress = record { number = 0; rows = p .rows + 1; total = p .total + length x; room = p .room };
+        number = 0;
+        rows = p .rows + 1;
+        total = total;
+        room = p .room;
+        last = p .rows;
+        before = before;
       })
-  row-added = record {
+  row-added total before is-total = record {
     grown = record {
       held = λ e. record {
         rows-ascend =
@@ -174,10 +180,9 @@ module _
         rows-apart = rw rows-then apart-then;
         rows-are = rw (rows-then, rows-long) new-rows;
         pool-is = rw (rows-then, pool-long) new-pool;
-        total-is =
-            rw rows-then (sym total-then);
+        total-is = rw rows-then (is-total ∙ sym total-then);
         in-room = omega arith;
-        in-pool = rw pool-long in-pool;
+        in-pool = rw (pool-long, is-total) in-pool;
         total-most = omega (arith, held .total-most, codes .few);
         room-most = held .room-most;
         room-fits = rw rows-long (held .room-fits);
@@ -193,11 +198,11 @@ module _
 
 -- a row that does not fit has no number
 pub unplaced :
-    {says : List ℕ → Bool} {room number : ℕ} {after : List (List ℕ)} {rows pool : List ℕ} (n count total : ℕ)
-    → Unfit room (length pool) number after
-    → Numbered says room after n rows pool
-    (record { row = 0; progress = record { number = number; rows = count; total = total; room = room } })
-unplaced n count total u = record {
+    {says : List ℕ → Bool} {number : ℕ} {after : List (List ℕ)} {rows pool : List ℕ} (n : ℕ) (p answer : Progress)
+    → answer ≡ unfitBy number p
+    → Unfit (p .room) (length pool) number after
+    → Numbered says (p .room) after n rows pool answer
+unplaced n p answer is u = rw is (record {
   grown = record {
     held = λ e. absurd (omega (arith, u .least));
     rows-are = λ e. absurd (omega (arith, u .least));
@@ -206,53 +211,79 @@ unplaced n count total u = record {
   };
   row-is = λ e. absurd (omega (arith, u .least));
   row-below = omega arith;
+})
+
+-- another row placed last: what is held stays so
+abbrev pub withLast : Progress → ℕ → Progress
+withLast p row = record {
+  number = p .number;
+  rows = p .rows;
+  total = p .total;
+  room = p .room;
+  last = row;
+  before = p .last;
+}
+
+held-again :
+    {says : List ℕ → Bool} {rows pool : List ℕ} {p : Progress} (row : ℕ) → Held says rows pool p
+    → Held says rows pool (withLast p row)
+held-again row held = record {
+  rows-ascend = held .rows-ascend;
+  rows-apart = held .rows-apart;
+  rows-are = held .rows-are;
+  pool-is = held .pool-is;
+  total-is = held .total-is;
+  in-room = held .in-room;
+  in-pool = held .in-pool;
+  total-most = held .total-most;
+  room-most = held .room-most;
+  room-fits = held .room-fits;
+  going = held .going;
 }
 
 -- an equal row has a number: that one is used
-module _ {says : List ℕ → Bool} {rows pool : List ℕ} {p : Progress} (held : Held says rows pool p) (x : List ℕ)
-    (row : ℕ) where
-  placed-there :
-      numberOf x (rowsIn (p .rows) rows pool) < length (rowsIn (p .rows) rows pool)
-      → row ≡ numberOf x (rowsIn (p .rows) rows pool)
-      → Numbered says (p .room) (withRow x (rowsIn (p .rows) rows pool)) (numberOf x (rowsIn (p .rows) rows pool)) rows
-      pool
-      (record { row = row; progress = p })
-  placed-there below is = record {
-    grown = record {
-      held = λ e. held;
-      rows-are = λ e. sym (with-present x (rowsIn (p .rows) rows pool) below);
-      refused = λ e. absurd (e (held .going));
-      room-kept = refl;
-    };
-    row-is = λ e. is;
-    row-below = omega (arith, below, is, rows-length (p .rows) 0 rows pool, held .in-room, held .room-most);
-  }
+placed-there :
+    {says : List ℕ → Bool} {rows pool : List ℕ} {p : Progress} (held : Held says rows pool p) (x : List ℕ)
+    → numberOf x (rowsIn (p .rows) rows pool) < length (rowsIn (p .rows) rows pool)
+    → p .last ≡ numberOf x (rowsIn (p .rows) rows pool)
+    → Numbered says (p .room) (withRow x (rowsIn (p .rows) rows pool)) (numberOf x (rowsIn (p .rows) rows pool)) rows
+    pool p
+placed-there {says} {rows} {pool} {p} held x below is = record {
+  grown = record {
+    held = λ e. held;
+    rows-are = λ e. sym (with-present x (rowsIn (p .rows) rows pool) below);
+    refused = λ e. absurd (e (held .going));
+    room-kept = refl;
+  };
+  row-is = λ e. is;
+  row-below = omega (arith, below, is, rows-length (p .rows) 0 rows pool, held .in-room, held .room-most);
+}
 
-  -- by a guess: no two rows are equal, so it is the number
-  pub placed-guess :
-      (answer : Bool) → answer ≡ isAt row x (rowsIn (p .rows) rows pool) → answer ≡ true
+module _ {says : List ℕ → Bool} {rows pool : List ℕ} {p : Progress} (held : Held says rows pool p) (x : List ℕ) where
+  -- the row placed last: no two rows are equal, so it has the number
+  pub placed-last :
+      (answer : Bool) → answer ≡ isAt (p .last) x (rowsIn (p .rows) rows pool) → answer ≡ true
       → Numbered says (p .room) (withRow x (rowsIn (p .rows) rows pool)) (numberOf x (rowsIn (p .rows) rows pool)) rows
-      pool
-      (record { row = row; progress = p })
-  placed-guess answer e t =
+      pool p
+  placed-last answer e t =
       let rs : List (List ℕ) = rowsIn (p .rows) rows pool in
+      let row : ℕ = p .last in
       let is : isAt row x rs ≡ true = sym e ∙ t in
       let below : row < length rs =
       ltb-true row (length rs) (and-left (ltb row (length rs)) (same x (rowAt rs row)) is) in
       let equal : x ≡ rowAt rs row =
       same-equal x (rowAt rs row) (and-right (ltb row (length rs)) (same x (rowAt rs row)) is) in
       let number : numberOf x rs ≡ row = ap (λ (l : List ℕ). numberOf l rs) equal ∙ held .rows-apart row below in
-      placed-there (omega (arith, number, below)) (sym number)
+      placed-there held x (omega (arith, number, below)) (sym number)
 
   -- by the search
   pub placed-found :
-      (f : Found) → f ≡ foundIn x (rowsIn (p .rows) rows pool) → f ≡ At row
+      (row : ℕ) (f : Found) → f ≡ foundIn x (rowsIn (p .rows) rows pool) → f ≡ At row
       → Numbered says (p .room) (withRow x (rowsIn (p .rows) rows pool)) (numberOf x (rowsIn (p .rows) rows pool)) rows
-      pool
-      (record { row = row; progress = p })
-  placed-found f is-found g =
+      pool (withLast p row)
+  placed-found row f is-found g =
       let k = found-at x (rowsIn (p .rows) rows pool) f row is-found g in
-      placed-there (k .0) (k .1)
+      placed-there (held-again row held) x (k .0) (k .1)
 
 -- none has: the next one is used
 module _
@@ -264,7 +295,7 @@ module _
       omega (arith, number-most 0 x rs, found-nothing x rs f is-found is-none, rows-length (p .rows) 0 rows pool)
 
   pub placed-new :
-      (rows′ pool′ : List ℕ) (answer : Placed)
+      (rows′ pool′ : List ℕ) (answer : Progress)
       → Numbered says (p .room) (rowsIn (p .rows) rows pool ++ (x ∷ [])) (p .rows) rows′ pool′ answer
       → Numbered says (p .room) (withRow x (rowsIn (p .rows) rows pool)) (numberOf x (rowsIn (p .rows) rows pool)) rows′
       pool′ answer

@@ -2,7 +2,7 @@
 use mathlib.Core.Path.{_≡_, sym, _∙_, ap, ap₂, subst⁻¹}
 use mathlib.Core.Bool.{true, false, not}
 use mathlib.Core.List.{List, [], _++_, append-nil}
-use Prim.Native.Nat.{ℕ, _+_, _≤_, _<_}
+use Prim.Native.Nat.{ℕ, _+_, _-_, _/_, _≤_, _<_}
 use native.Mathlib.Omega.{arith}
 use lib.Dec.{eqb, ltb, leb}
 use lib.ListN.{length}
@@ -12,11 +12,11 @@ use Rattle.model.specs.declared.Answer.{Answer}
 use Rattle.model.specs.declared.Built.{Built}
 use Rattle.model.specs.declared.Building.{Building}
 use Rattle.model.specs.Basics.{zeros, filled, Refusal, refusal, fine, refuse}
-use Rattle.model.specs.Rules.{pairCount}
+use Rattle.model.specs.Rules.{Rule, pairCount}
 use Rattle.model.specs.Construction.{rowsOf}
 use Rattle.model.specs.Layout.{edgeNeed, ruleIn, isReadable, ruleRefusal}
 use Rattle.model.specs.Tables.{cellNumbers, rowNumbers, poolNumbers, builtOf, tablesBy, tablesOf, rowRoom}
-use Rattle.model.specs.Tables.{fitRefusal, tableRefusal}
+use Rattle.model.specs.Tables.{fitRefusal, scratchBits, scratchNeed, tableRefusal}
 use Rattle.model.specs.Promises.{buildRefusal, BuildsTable, ChecksRule}
 use Rattle.model.proofs.Refusals.{on-pass, on-refused, refuse-fine, refuse-met}
 use Rattle.model.proofs.Numbers.{Among, none, some, among-refuse, among-then}
@@ -41,6 +41,11 @@ pub same-built :
     (record { locations = l′; symbols = s′; clocks = k′; top = c′; ends = e′; rows = n′; total = m′ })
 same-built l l′ s s′ k k′ c c′ e e′ n n′ m m′ p q r t u v w = rw (p, q, r, t, u, v, w)
 
+-- the scratch that N pairs need
+pub need-is : (r : Rule) (n : ℕ) → n ≡ pairCount r → (n + (scratchBits - 1)) / scratchBits ≡ scratchNeed r
+unfolding scratchNeed
+need-is r n e = rw e
+
 -- The builder's refusal, where 20 and 21 pass.
 module _ (h : Head) (t scratch cells rows pool : List ℕ) (passed : ruleRefusal h t .number ≡ 0) where
   table-next :
@@ -54,18 +59,18 @@ module _ (h : Head) (t scratch cells rows pool : List ℕ) (passed : ruleRefusal
 
   -- 22: everything as it was
   pub builds-short :
-      (n : ℕ) → n ≡ pairCount (ruleIn h t) → length scratch < n
+      (n : ℕ) → n ≡ scratchNeed (ruleIn h t) → length scratch < n
       → BuildsTable h t scratch scratch cells cells rows rows pool pool (notBuilt 22 0)
   unfolding tableRefusal
   builds-short n e l =
-      let short : ltb (length scratch) (pairCount (ruleIn h t)) ≡ true =
-      lt-ltb (length scratch) (pairCount (ruleIn h t)) (rw e at l) in
+      let short : ltb (length scratch) (scratchNeed (ruleIn h t)) ≡ true =
+      lt-ltb (length scratch) (scratchNeed (ruleIn h t)) (rw e at l) in
       let f : buildRefusal h t scratch cells rows pool ≡ refusal 22 0 =
       table-next
-      ∙ (on-refused (refuse (ltb (length scratch) (pairCount (ruleIn h t))) 22 0)
+      ∙ (on-refused (refuse (ltb (length scratch) (scratchNeed (ruleIn h t))) 22 0)
       (fitRefusal 0 (rowRoom (ruleIn h t) (length cells) (length rows)) 0 (length pool) (rowsOf (ruleIn h t)))
       (λ q. let w : _≡_ {A = ℕ} 22 0 = rw short at q in omega arith)
-      ∙ refuse-met (ltb (length scratch) (pairCount (ruleIn h t))) 22 0 short) in
+      ∙ refuse-met (ltb (length scratch) (scratchNeed (ruleIn h t))) 22 0 short) in
       record {
         answer-is = rw f;
         scratch-is = rw f;
@@ -74,18 +79,18 @@ module _ (h : Head) (t scratch cells rows pool : List ℕ) (passed : ruleRefusal
         pool-is = rw f;
       }
 
-  module _ (long : pairCount (ruleIn h t) ≤ length scratch) where
+  module _ (long : scratchNeed (ruleIn h t) ≤ length scratch) where
     fit-next :
         buildRefusal h t scratch cells rows pool
         ≡ fitRefusal 0 (rowRoom (ruleIn h t) (length cells) (length rows)) 0 (length pool) (rowsOf (ruleIn h t))
     unfolding tableRefusal
     fit-next =
-        let enough : ltb (length scratch) (pairCount (ruleIn h t)) ≡ false =
-        le-ltb (length scratch) (pairCount (ruleIn h t)) long in
+        let enough : ltb (length scratch) (scratchNeed (ruleIn h t)) ≡ false =
+        le-ltb (length scratch) (scratchNeed (ruleIn h t)) long in
         table-next
-        ∙ on-pass (refuse (ltb (length scratch) (pairCount (ruleIn h t))) 22 0)
+        ∙ on-pass (refuse (ltb (length scratch) (scratchNeed (ruleIn h t))) 22 0)
         (fitRefusal 0 (rowRoom (ruleIn h t) (length cells) (length rows)) 0 (length pool) (rowsOf (ruleIn h t)))
-        (ap (λ (x : Refusal). x .number) (refuse-fine (ltb (length scratch) (pairCount (ruleIn h t))) 22 0 enough))
+        (ap (λ (x : Refusal). x .number) (refuse-fine (ltb (length scratch) (scratchNeed (ruleIn h t))) 22 0 enough))
 
     -- all rows fit: the tables of the rule's rows
     module _ {z : Scale} {scratch₁ scratch′ cells₁ cells′ rows′ pool′ : List ℕ} {p : Progress} (room : ℕ)

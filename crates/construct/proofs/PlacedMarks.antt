@@ -1,49 +1,50 @@
--- Gathered marks as a row: its codes at the front are handed to the search, then cleared.
-use mathlib.Core.Path.{_≡_, sym, _∙_, ap, subst}
-use mathlib.Core.Bool.{Bool}
+-- What is marked as a row: its codes ascend and are few, and they are laid into a part of the pool that just holds
+-- them.
+use mathlib.Core.Path.{_≡_, _∙_, ap}
 use mathlib.Core.List.{List, _++_}
 use Prim.Native.Nat.{ℕ, _+_, _-_, _≤_}
 use native.Mathlib.Omega.{arith}
-use lib.ListN.{length, take, drop, length-append, replicate-append-replicate}
-use lib.Seq.{take-at, drop-at, length-take-le}
-use Rattle.model.specs.Basics.{zeros}
-use Rattle.model.specs.Construction.{numberOf, withRow}
-use Rattle.model.proofs.Masks.{Asc}
-use Rattle.construct.specs.declared.Placed.{Placed}
-use Rattle.construct.specs.Marks.{Gathered}
-use Rattle.construct.specs.Rows.{CodeSet, Numbered, MarksNumbered}
+use lib.ListN.{length, take, drop, length-take, length-drop}
+use lib.Seq.{take-at, drop-at, drop-drop, length-take-le}
+use Rattle.numbers.specs.Lent.{laid}
+use Rattle.bits.specs.declared.Span.{Span}
+use Rattle.bits.specs.Bits.{codesIn, InSpan}
+use Rattle.bits.proofs.Sets.{codes-rise}
+use Rattle.bits.proofs.Laying.{codes-few}
+use Rattle.construct.specs.Rows.{CodeSet}
 
-module _ {row m gathered : List ℕ} {n : ℕ} (g : Gathered row m gathered n) (long : length gathered ≡ length m) where
-  row-most : length row ≤ length m
-  row-most = omega (arith, ap length (g .marks-are), length-append row (zeros (length m - length row)), long)
+pub code-set : {marks : List ℕ} {span : Span} → InSpan marks span → CodeSet (codesIn marks)
+unfolding codesIn
+code-set {marks} in-span = record { ascends = codes-rise 0 marks; few = codes-few in-span }
 
-  pub count-fits : n ≤ length gathered
-  count-fits = omega (arith, g .count-is, row-most, long)
+-- the numbers from one place up to another, and a list with others put there
+abbrev pub partOf : List ℕ → ℕ → ℕ → List ℕ
+partOf pool at end = take (end - at) (drop at pool)
 
-  pub front-length : n ≡ length (take n gathered)
-  front-length = sym (length-take-le n gathered count-fits)
+abbrev pub withPart : List ℕ → ℕ → ℕ → List ℕ → List ℕ
+withPart pool at end out = take at pool ++ (out ++ drop (end - at) (drop at pool))
 
-  front : take n gathered ≡ row
-  front =
-      ap (take n) (g .marks-are) ∙ take-at row (zeros (length m - length row)) n (sym (g .count-is))
+module _
+    {marks : List ℕ} {span : Span} (in-span : InSpan marks span) (pool out : List ℕ) (at size : ℕ)
+    (is-size : size ≡ span .count)
+    (fits : at + size ≤ length pool)
+    (lays : InSpan marks span → length (partOf pool at (at + size)) ≡ span .count → out ≡ codesIn marks) where
+  lain : out ≡ codesIn marks
+  lain = lays in-span (simp (length-take, length-drop) (omega arith))
 
-  pub codes-set : Asc 0 row → CodeSet (take n gathered)
-  codes-set a = record { ascends = rw front a; few = omega (arith, front-length, g .count-most) }
-
-  zero-again : (z : List ℕ) → z ≡ zeros (length (take n gathered)) → z ++ drop n gathered ≡ zeros (length m)
-  zero-again z e =
-      let rest : drop n gathered ≡ zeros (length m - length row) =
-      ap (drop n) (g .marks-are) ∙ drop-at row (zeros (length m - length row)) n (sym (g .count-is)) in
-      let k : n + (length m - length row) ≡ length m = omega (arith, g .count-is, row-most) in
-      rw (e, ← front-length, rest) (replicate-append-replicate n (length m - length row) 0 ∙ ap zeros k)
-
-  pub marks-placed :
-      {says : List ℕ → Bool} {room : ℕ} (rs : List (List ℕ)) {rows′ pool′ : List ℕ} {answer : Placed} (z : List ℕ)
-      → Numbered says room (withRow (take n gathered) rs) (numberOf (take n gathered) rs) rows′ pool′ answer
-      → z ≡ zeros (length (take n gathered))
-      → MarksNumbered says room (withRow row rs) (numberOf row rs) m (z ++ drop n gathered) rows′ pool′ answer
-  marks-placed {says} {room} rs {rows′} {pool′} {answer} z placed e = record {
-    numbered = subst (λ (l : List ℕ). Numbered says room (withRow l rs) (numberOf l rs) rows′ pool′ answer) front
-        placed;
-    marks-zero = zero-again z e;
-  }
+  -- the pool with the row, and the row read back
+  pub row-laid :
+      (withPart pool at (at + size) out ≡ laid pool at (codesIn marks))
+      × (partOf (withPart pool at (at + size) out) at (at + size) ≡ codesIn marks)
+  row-laid =
+      let rest : List ℕ = drop (at + size - at) (drop at pool) in
+      let count : size ≡ length (codesIn marks) = is-size ∙ in-span .count-is in
+      let long : length (codesIn marks) ≡ at + size - at = omega (arith, count) in
+      let past : at + (at + size - at) ≡ at + length (codesIn marks) = omega (arith, count) in
+      let there : drop at (take at pool ++ (out ++ rest)) ≡ out ++ rest =
+      drop-at (take at pool) (out ++ rest) at (length-take-le at pool (omega arith)) in (
+        rw (lain, drop-drop (at + size - at) at pool, past),
+        ap (take (at + size - at)) there
+            ∙ (ap (λ (l : List ℕ). take (at + size - at) (l ++ rest)) lain
+            ∙ take-at (codesIn marks) rest (at + size - at) long),
+      )

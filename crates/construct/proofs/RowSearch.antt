@@ -1,5 +1,7 @@
--- The search among the rows: the rows still to come have the number that all have, while none passed is equal.
-use mathlib.Core.Path.{_≡_, refl, sym, _∙_, ap, ap₂}
+-- The search among the rows. A row is compared with the marks by its length and its codes; what the search answers for
+-- the rows from here on is what it answers for all, as none passed is equal; and as no two rows are equal, the number
+-- that it finds does not depend on where it begins.
+use mathlib.Core.Path.{_≡_, refl, sym, _∙_, ap}
 use mathlib.Core.Bool.{true, false}
 use mathlib.Core.List.{List, _∷_}
 use Prim.Native.Nat.{ℕ, zero, suc, _+_, _-_, _*_, _≤_, _<_}
@@ -7,15 +9,22 @@ use native.Mathlib.Omega.{arith}
 use native.Mathlib.Numerals.{add-one}
 use lib.Dec.{ltb}
 use lib.ListN.{length, getD, take, drop, length-take, length-drop}
-use lib.Seq.{ext-getD, getD-take, getD-drop}
+use lib.Seq.{getD-take, getD-drop}
 use borrow.Author.Tests.{lt-ltb, le-ltb, ltb-true, ltb-false}
 use Rattle.model.specs.Basics.{same}
-use Rattle.model.specs.Construction.{rowAt, numberFrom, numberOf}
+use Rattle.model.specs.Construction.{rowAt, numberOf}
 use Rattle.model.specs.Tables.{rowWidth, rowStart, rowLength, codesAt}
-use Rattle.model.proofs.Logic.{by-test, same-equal, same-self}
+use Rattle.model.proofs.Logic.{by-test, same-truth, same-equal, same-self, no-way, cmp, is-lt, is-eq, is-gt}
+use Rattle.model.proofs.Logic.{two, less, least}
+use Rattle.model.proofs.Masks.{Asc}
+use Rattle.model.proofs.RowNumbers.{stands, number-in}
+use Rattle.model.proofs.RowNumbers.{Placed as Apart}
+use Rattle.bits.specs.Bits.{marked, allMarked, codesIn}
+use Rattle.bits.proofs.Rows.{row-is-marked, marked-is-row}
+use Rattle.bits.proofs.Loops.{rest-end, none-there, one-there}
 use Rattle.construct.specs.declared.Found.{Found}
 use Rattle.construct.specs.declared.Found.the-variants.{At, Nothing}
-use Rattle.construct.specs.Rows.{rowsHeld, rowsIn, isAt, foundIn, Within}
+use Rattle.construct.specs.Rows.{rowsHeld, rowsIn, isAt, foundFrom, foundIn, Within}
 
 pub rows-length : (n i : ℕ) (rows pool : List ℕ) → length (rowsHeld n i rows pool) ≡ n
 rows-length zero i rows pool = refl
@@ -35,69 +44,22 @@ row-held n k rows pool h =
     let z : 0 + k ≡ k = omega arith in
     held-at n 0 k rows pool h ∙ ap (codesAt rows pool) z
 
--- one row of the search
-number-here : (n : ℕ) (x y : List ℕ) (ys : List (List ℕ)) → x ≡ y → numberFrom n x (y ∷ ys) ≡ n
-number-here n x y ys e = let h : same x y ≡ true = rw e (same-self y) in cc
-
-other : (x y : List ℕ) → (x ≡ y → ⊥) → same x y ≡ false
-other x y n = by-test (same x y) (λ e. absurd (n (same-equal x y e))) (λ e. e)
-
-number-there :
-    (n : ℕ) (x y : List ℕ) (ys : List (List ℕ)) → (x ≡ y → ⊥) → numberFrom n x (y ∷ ys) ≡ numberFrom (suc n) x ys
-number-there n x y ys e = let h : same x y ≡ false = other x y e in cc
-
 -- a row that has a number lies in the row table
 pub row-inside :
     {count row : ℕ} {rows pool : List ℕ} → Within count rows pool → row < count
     → rowWidth * row + rowWidth ≤ length rows
 row-inside w h = omega (arith, w .rows-long)
 
-pub record Searching (count row : ℕ) (rows pool codes : List ℕ) : Type 0 where
-  pub turns : row ≤ count
-  pub rest-is : numberFrom row codes (rowsHeld (count - row) row rows pool) ≡ numberOf codes (rowsIn count rows pool)
+-- fewer rows lie in their tables too
+pub within-fewer :
+    {count fewer : ℕ} {rows pool : List ℕ} → Within count rows pool → fewer ≤ count → Within fewer rows pool
+within-fewer w h = record {
+  rows-long = omega (arith, w .rows-long);
+  in-pool = λ n l. w .in-pool n (omega arith);
+  ascends = λ n l. w .ascends n (omega arith);
+}
 
-pub searching : (count : ℕ) (rows pool codes : List ℕ) → Searching count 0 rows pool codes
-searching count rows pool codes =
-    let z : count - 0 ≡ count = omega arith in
-    record { turns = omega arith; rest-is = rw z }
-
-module _ {count row : ℕ} {rows pool codes : List ℕ} (inv : Searching count row rows pool codes) where
-  rows-rest :
-      row < count
-      → rowsHeld (count - row) row rows pool
-      ≡ codesAt rows pool row ∷ rowsHeld (count - (row + 1)) (row + 1) rows pool
-  rows-rest h = let a : count - row ≡ suc (count - (row + 1)) = omega arith in rw (a, add-one row)
-
-  pub search-next :
-      row < count → (codes ≡ codesAt rows pool row → ⊥) → Searching count (row + 1) rows pool codes
-  search-next h n = record {
-    turns = omega arith;
-    rest-is =
-        rw (add-one row)
-        (sym
-        (rw (rows-rest h, add-one row)
-        (number-there row codes (codesAt rows pool row) (rowsHeld (count - suc row) (suc row) rows pool) n))
-        ∙ inv .rest-is);
-  }
-
-  pub search-found :
-      row < count → codes ≡ codesAt rows pool row → At row ≡ foundIn codes (rowsIn count rows pool)
-  search-found h e =
-      let n : numberOf codes (rowsIn count rows pool) ≡ row =
-      sym (inv .rest-is)
-      ∙ (rw (rows-rest h)
-      (number-here row codes (codesAt rows pool row) (rowsHeld (count - (row + 1)) (row + 1) rows pool) e)) in
-      let l : row < length (rowsIn count rows pool) = rw (rows-length count 0 rows pool) h in
-      rw (n, lt-ltb row (length (rowsIn count rows pool)) l)
-
-  pub search-ends : count ≤ row → Nothing ≡ foundIn codes (rowsIn count rows pool)
-  search-ends h =
-      let z : count - row ≡ 0 = omega arith in
-      let n : row ≡ numberOf codes (rowsIn count rows pool) = rw z at (inv .rest-is) in
-      let l : length (rowsIn count rows pool) ≤ row = rw (rows-length count 0 rows pool) h in
-      rw (← n, le-ltb row (length (rowsIn count rows pool)) l)
-
--- what the search found, as a number
+-- What the search in all rows found, as a number.
 pub found-at :
     (x : List ℕ) (rs : List (List ℕ)) (f : Found) (row : ℕ) → f ≡ foundIn x rs → f ≡ At row
     → (numberOf x rs < length rs) × (row ≡ numberOf x rs)
@@ -119,82 +81,29 @@ found-nothing x rs f e g =
     absurd (let z : _≡_ {A = ℕ} 0 1 = cc in omega arith))
     (λ t. ltb-false (numberOf x rs) (length rs) t)
 
--- A row by itself: the part of the row table that it has is a table of one row.
-abbrev pub alone : List ℕ → ℕ → List ℕ
-alone rows row = take (rowWidth * row + rowWidth - rowWidth * row) (drop (rowWidth * row) rows)
+-- The comparison: a row that rises and is as long as the marked codes are many equals them exactly if all its codes are
+-- marked; a row of another length never does.
+same-marked :
+    (marks row : List ℕ) → Asc 0 row → length row ≡ length (codesIn marks)
+    → same (codesIn marks) row ≡ allMarked marks row
+same-marked marks row a e =
+    same-truth (same (codesIn marks) row) (allMarked marks row)
+    (λ t. marked-is-row marks row (sym (same-equal (codesIn marks) row t)))
+    (λ t. ap (same (codesIn marks)) (row-is-marked marks row a e t) ∙ same-self (codesIn marks))
 
-number-alone :
-    (rows : List ℕ) (row k : ℕ) → k < rowWidth → getD (alone rows row) k 0 ≡ getD rows (rowWidth * row + k) 0
-number-alone rows row k l =
-    getD-take (rowWidth * row + rowWidth - rowWidth * row) (drop (rowWidth * row) rows) k 0 (omega arith)
-    ∙ getD-drop (rowWidth * row) rows k 0
+same-longer : (xs ys : List ℕ) → (length ys ≡ length xs → ⊥) → same xs ys ≡ false
+same-longer xs ys n = by-test (same xs ys) (λ t. absurd (n (ap length (sym (same-equal xs ys t))))) (λ t. t)
 
-start-alone : (rows : List ℕ) (row : ℕ) → rowStart (alone rows row) 0 ≡ rowStart rows row
-start-alone rows row =
-    let z : rowWidth * row + 0 ≡ rowWidth * row = omega arith in
-    number-alone rows row 0 (omega arith) ∙ ap (λ (k : ℕ). getD rows k 0) z
-
-length-alone : (rows : List ℕ) (row : ℕ) → rowLength (alone rows row) 0 ≡ rowLength rows row
-length-alone rows row = number-alone rows row 1 (omega arith)
-
-pub within-alone :
-    {count row : ℕ} {rows pool : List ℕ} → Within count rows pool → row < count → Within 1 (alone rows row) pool
-within-alone {row = row} {rows = rows} within h = record {
-  rows-long = simp (length-take, length-drop) (omega (arith, row-inside within h));
-  in-pool = λ m l.
-      let z : m ≡ 0 = omega arith in
-      rw z (omega (arith, start-alone rows row, length-alone rows row, within .in-pool row h));
-}
-
--- A row against codes: it has no number, or the search in it alone tells.
-module _ (count row : ℕ) (rows pool codes : List ℕ) where
-  pub at-none : count ≤ row → false ≡ isAt row codes (rowsIn count rows pool)
-  at-none h =
-      let l : length (rowsIn count rows pool) ≤ row = rw (rows-length count 0 rows pool) h in
-      rw (le-ltb row (length (rowsIn count rows pool)) l)
-
-  module _ (h : row < count) (f : Found) (is-found : f ≡ foundIn codes (rowsIn 1 (alone rows row) pool)) where
-    at-row : same codes (codesAt (alone rows row) pool 0) ≡ isAt row codes (rowsIn count rows pool)
-    at-row =
-        let l : row < length (rowsIn count rows pool) = rw (rows-length count 0 rows pool) h in
-        let e : codesAt (alone rows row) pool 0 ≡ codesAt rows pool row =
-        ap₂ (λ (n a : ℕ). take n (drop a pool)) (length-alone rows row) (start-alone rows row) in
-        rw (lt-ltb row (length (rowsIn count rows pool)) l, row-held count row rows pool h, e)
-
-    pub at-found : (n : ℕ) → f ≡ At n → true ≡ isAt row codes (rowsIn count rows pool)
-    at-found n g =
-        let below = found-at codes (rowsIn 1 (alone rows row) pool) f n is-found g .0 in
-        by-test (same codes (codesAt (alone rows row) pool 0)) (λ t. sym t ∙ at-row)
-        (λ t. let z : numberOf codes (rowsIn 1 (alone rows row) pool) ≡ 1 = cc in absurd (omega (arith, below, z)))
-
-    pub at-missed : f ≡ Nothing → false ≡ isAt row codes (rowsIn count rows pool)
-    at-missed g =
-        let least = found-nothing codes (rowsIn 1 (alone rows row) pool) f is-found g in
-        by-test (same codes (codesAt (alone rows row) pool 0))
-        (λ t. let z : numberOf codes (rowsIn 1 (alone rows row) pool) ≡ 0 = cc in absurd (omega (arith, least, z)))
-        (λ t. sym t ∙ at-row)
-
--- A part of the pool against codes.
-module _ (pool codes : List ℕ) (start n : ℕ) (fits : start + n ≤ length pool) where
-  part-length : length (take n (drop start pool)) ≡ n
-  part-length = simp (length-take, length-drop) (omega arith)
-
-  part-is :
-      n ≡ length codes → ((j : ℕ) → j < n → getD pool (start + j) 0 ≡ getD codes j 0) → codes ≡ take n (drop start pool)
-  part-is e all =
-      ext-getD 0 codes (take n (drop start pool)) (sym (part-length ∙ e))
-      (λ j h. let l : j < n = omega arith in rw (getD-take, getD-drop) (sym (all j l)))
-
-  part-differs :
-      (j : ℕ) → j < n → (getD pool (start + j) 0 ≡ getD codes j 0 → ⊥) → codes ≡ take n (drop start pool) → ⊥
-  part-differs j h d e = d (sym (ap (λ (l : List ℕ). getD l j 0) e ∙ rw (getD-take, getD-drop)))
-
-  part-longer : (n ≡ length codes → ⊥) → codes ≡ take n (drop start pool) → ⊥
-  part-longer d e = d (sym (ap length e ∙ part-length))
+-- a row that lies at a start and is as long as the marked codes are many
+pub record AsLong (marks rows pool : List ℕ) (row start n : ℕ) : Type 0 where
+  pub fits : start + n ≤ length pool
+  pub part-is : codesAt rows pool row ≡ take n (drop start pool)
+  pub length-is : length (codesAt rows pool row) ≡ n
+  pub same-is : same (codesIn marks) (codesAt rows pool row) ≡ allMarked marks (codesAt rows pool row)
 
 -- The same of a row by its start and length.
 module _
-    {count row : ℕ} {rows pool : List ℕ} (codes : List ℕ) (start n : ℕ) (within : Within count rows pool)
+    {count row : ℕ} {rows pool : List ℕ} (marks : List ℕ) (start n : ℕ) (within : Within count rows pool)
     (h : row < count) (is-start : start ≡ rowStart rows row) (is-length : n ≡ rowLength rows row) where
   pub row-fits : start + n ≤ length pool
   row-fits = omega (arith, within .in-pool row h, is-start, is-length)
@@ -202,13 +111,177 @@ module _
   row-part : codesAt rows pool row ≡ take n (drop start pool)
   row-part = rw (is-start, is-length)
 
-  pub row-is :
-      n ≡ length codes → ((j : ℕ) → j < n → getD pool (start + j) 0 ≡ getD codes j 0) → codes ≡ codesAt rows pool row
-  row-is e all = part-is pool codes start n row-fits e all ∙ sym row-part
+  row-length : length (codesAt rows pool row) ≡ n
+  row-length = rw row-part (simp (length-take, length-drop) (omega (arith, row-fits)))
 
-  pub row-differs :
-      (j : ℕ) → j < n → (getD pool (start + j) 0 ≡ getD codes j 0 → ⊥) → codes ≡ codesAt rows pool row → ⊥
-  row-differs j l d e = part-differs pool codes start n row-fits j l d (e ∙ row-part)
+  pub row-longer : (n ≡ length (codesIn marks) → ⊥) → same (codesIn marks) (codesAt rows pool row) ≡ false
+  row-longer d = same-longer (codesIn marks) (codesAt rows pool row) (λ e. d (sym row-length ∙ e))
 
-  pub row-longer : (n ≡ length codes → ⊥) → codes ≡ codesAt rows pool row → ⊥
-  row-longer d e = part-longer pool codes start n row-fits d (e ∙ row-part)
+  pub row-as-long : n ≡ length (codesIn marks) → AsLong marks rows pool row start n
+  row-as-long e = record {
+    fits = row-fits;
+    part-is = row-part;
+    length-is = row-length;
+    same-is = same-marked marks (codesAt rows pool row) (within .ascends row h) (row-length ∙ e);
+  }
+
+-- Code by code: what is asked of the rest of a row is asked of the whole.
+module _
+    {marks rows pool : List ℕ} {row start n : ℕ} (long : AsLong marks rows pool row start n) (j : ℕ)
+    (inv : allMarked marks (drop j (codesAt rows pool row)) ≡ allMarked marks (codesAt rows pool row)) where
+  pub row-ends : j ≡ n → same (codesIn marks) (codesAt rows pool row) ≡ true
+  row-ends e =
+      let l : length (codesAt rows pool row) ≡ j = long .length-is ∙ sym e in
+      long .same-is ∙ (sym inv ∙ rest-end marks (codesAt rows pool row) j (omega arith) (omega arith))
+
+  module _ (code : ℕ) (h : j < n) (is-code : code ≡ getD pool (start + j) 0) where
+    code-held : code ≡ getD (codesAt rows pool row) j 0
+    code-held =
+        is-code ∙ sym (ap (λ (xs : List ℕ). getD xs j 0) (long .part-is) ∙ rw (getD-take, getD-drop))
+
+    pub row-differs : marked marks code ≡ false → same (codesIn marks) (codesAt rows pool row) ≡ false
+    row-differs m =
+        long .same-is
+        ∙ sym
+        (none-there marks (codesAt rows pool row) j code inv (omega (arith, long .length-is)) code-held m)
+
+    pub row-goes-on :
+        marked marks code ≡ true
+        → allMarked marks (drop (j + 1) (codesAt rows pool row)) ≡ allMarked marks (codesAt rows pool row)
+    row-goes-on m =
+        one-there marks (codesAt rows pool row) j code inv (omega (arith, long .length-is)) code-held m
+
+-- Row by row: what the search answers for the rest, from here, is what it answers for the whole.
+pub record Searching (low high row : ℕ) (rows pool codes : List ℕ) : Type 0 where
+  pub rest-is :
+      foundFrom row codes (rowsHeld (high - row) row rows pool)
+      ≡ foundFrom low codes (rowsHeld (high - low) low rows pool)
+
+pub searching : (low high : ℕ) (rows pool codes : List ℕ) → Searching low high low rows pool codes
+searching low high rows pool codes = record { rest-is = refl }
+
+rows-rest :
+    (high row : ℕ) (rows pool : List ℕ) → row < high
+    → rowsHeld (high - row) row rows pool ≡ codesAt rows pool row ∷ rowsHeld (high - (row + 1)) (row + 1) rows pool
+rows-rest high row rows pool h =
+    let a : high - row ≡ suc (high - (row + 1)) = omega arith in rw (a, add-one row)
+
+module _ {low high row : ℕ} {rows pool codes : List ℕ} (inv : Searching low high row rows pool codes) where
+  pub search-next :
+      row < high → same codes (codesAt rows pool row) ≡ false → Searching low high (row + 1) rows pool codes
+  search-next h n = record {
+    rest-is = sym (ap (foundFrom row codes) (rows-rest high row rows pool h) ∙ rw (n, add-one row)) ∙ inv .rest-is;
+  }
+
+  pub search-found :
+      row < high → same codes (codesAt rows pool row) ≡ true
+      → At row ≡ foundFrom low codes (rowsHeld (high - low) low rows pool)
+  search-found h e =
+      sym (ap (foundFrom row codes) (rows-rest high row rows pool h) ∙ rw e) ∙ inv .rest-is
+
+  pub search-ends : high ≤ row → Nothing ≡ foundFrom low codes (rowsHeld (high - low) low rows pool)
+  search-ends h = let z : high - row ≡ 0 = omega arith in rw z at (inv .rest-is)
+
+-- What it answers for n rows from i on: a number of one of them that is equal, or nothing where none is.
+module _ (rows pool x : List ℕ) where
+  from-at :
+      (n i k : ℕ) → foundFrom i x (rowsHeld n i rows pool) ≡ At k → (k < i + n) × (x ≡ codesAt rows pool k)
+  from-at zero i k e = absurd (let z : _≡_ {A = ℕ} 0 1 = cc in omega arith)
+  from-at (suc n) i k e =
+      by-test (same x (codesAt rows pool i))
+      (λ t.
+      let g : At i ≡ At k = rw t at e in
+      let z : i ≡ k = cc in
+      (omega arith, same-equal x (codesAt rows pool i) t ∙ ap (codesAt rows pool) z))
+      (λ t. let on = from-at n (suc i) k (rw t at e) in (omega (arith, on .0), on .1))
+
+  from-nothing :
+      (n i : ℕ) → foundFrom i x (rowsHeld n i rows pool) ≡ Nothing
+      → (k : ℕ) → i ≤ k → k < i + n → x ≡ codesAt rows pool k → ⊥
+  from-nothing zero i e k l m q = omega arith
+  from-nothing (suc n) i e k l m q =
+      by-test (same x (codesAt rows pool i))
+      (λ t. let g : At i ≡ Nothing = rw t at e in absurd (let z : _≡_ {A = ℕ} 0 1 = cc in omega arith))
+      (λ t.
+      elim (cmp i k) [
+        | is-lt a ↦ from-nothing n (suc i) (rw t at e) k a (omega arith) q
+        | is-eq a ↦ no-way (sym t ∙ (ap (same x) (ap (codesAt rows pool) a ∙ sym q) ∙ same-self x))
+        | is-gt a ↦ omega arith
+      ])
+
+  -- among all rows, no two of which are equal
+  module _ (count : ℕ) where
+    there-found :
+        Apart (rowsIn count rows pool) → (k : ℕ) → k < count → x ≡ codesAt rows pool k
+        → At k ≡ foundIn x (rowsIn count rows pool)
+    there-found apart k h e =
+        let l : k < length (rowsIn count rows pool) = rw (rows-length count 0 rows pool) h in
+        let n : numberOf x (rowsIn count rows pool) ≡ k =
+        ap (λ (y : List ℕ). numberOf y (rowsIn count rows pool)) (e ∙ sym (row-held count k rows pool h))
+        ∙ apart k l in
+        rw (n, lt-ltb k (length (rowsIn count rows pool)) l)
+
+    none-found :
+        ((k : ℕ) → k < count → x ≡ codesAt rows pool k → ⊥) → Nothing ≡ foundIn x (rowsIn count rows pool)
+    none-found none =
+        let rs : List (List ℕ) = rowsIn count rows pool in
+        by-test (ltb (numberOf x rs) (length rs))
+        (λ t.
+        let s = stands 0 x rs (number-in 0 x rs (omega (arith, ltb-true (numberOf x rs) (length rs) t))) in
+        let l : s .place < count = omega (arith, s .inside, rows-length count 0 rows pool) in
+        absurd (none (s .place) l (sym (s .row-is) ∙ row-held count (s .place) rows pool l)))
+        (λ t. rw t)
+
+    -- from `middle` on, then those before it
+    module _
+        (apart : Apart (rowsIn count rows pool)) (middle : ℕ) (m : middle ≤ count) (first : Found)
+        (is-first : first ≡ foundFrom middle x (rowsHeld (count - middle) middle rows pool)) where
+      pub found-after : (row : ℕ) → first ≡ At row → At row ≡ foundIn x (rowsIn count rows pool)
+      found-after row e =
+          let k = from-at (count - middle) middle row (sym is-first ∙ e) in
+          there-found apart row (omega (arith, k .0)) (k .1)
+
+      pub found-before :
+          first ≡ Nothing → (f : Found) → f ≡ foundFrom 0 x (rowsHeld (middle - 0) 0 rows pool)
+          → f ≡ foundIn x (rowsIn count rows pool)
+      found-before e (At k) g =
+          let p = from-at (middle - 0) 0 k (sym g) in
+          there-found apart k (omega (arith, p .0)) (p .1)
+      found-before e Nothing g =
+          none-found
+          (λ k h q.
+          elim (two k middle) [
+            | less l ↦ from-nothing (middle - 0) 0 (sym g) k (omega arith) (omega arith) q
+            | least l ↦ from-nothing (count - middle) middle (sym is-first ∙ e) k l (omega arith) q
+          ])
+
+-- A row by its number: it has none, or it is compared.
+at-row :
+    (count row : ℕ) (rows pool codes : List ℕ) → row < count
+    → same codes (codesAt rows pool row) ≡ isAt row codes (rowsIn count rows pool)
+at-row count row rows pool codes h =
+    let l : row < length (rowsIn count rows pool) = rw (rows-length count 0 rows pool) h in
+    rw (lt-ltb row (length (rowsIn count rows pool)) l, row-held count row rows pool h)
+
+pub at-none :
+    (count row : ℕ) (rows pool codes : List ℕ) → count ≤ row → false ≡ isAt row codes (rowsIn count rows pool)
+at-none count row rows pool codes h =
+    let l : length (rowsIn count rows pool) ≤ row = rw (rows-length count 0 rows pool) h in
+    rw (le-ltb row (length (rowsIn count rows pool)) l)
+
+pub at-longer :
+    {count row : ℕ} {rows pool : List ℕ} (marks : List ℕ) (n : ℕ) → Within count rows pool → row < count
+    → n ≡ rowLength rows row → (n ≡ length (codesIn marks) → ⊥)
+    → false ≡ isAt row (codesIn marks) (rowsIn count rows pool)
+at-longer {count} {row} {rows} {pool} marks n within h is-length d =
+    sym (row-longer marks (rowStart rows row) n within h refl is-length d)
+    ∙ at-row count row rows pool (codesIn marks) h
+
+pub at-marked :
+    {count row start n : ℕ} {marks rows pool : List ℕ} → row < count → AsLong marks rows pool row start n
+    → allMarked marks (take (start + n - start) (drop start pool)) ≡ isAt row (codesIn marks) (rowsIn count rows pool)
+at-marked {count} {row} {start} {n} {marks} {rows} {pool} h long =
+    let z : start + n - start ≡ n = omega arith in
+    let e : take (start + n - start) (drop start pool) ≡ codesAt rows pool row = rw z (sym (long .part-is)) in
+    ap (allMarked marks) e
+    ∙ (sym (long .same-is) ∙ at-row count row rows pool (codesIn marks) h)

@@ -1,6 +1,6 @@
 -- The row table and the pool as rows are put in: they spell the rows that they hold, and one row more is its numbers
 -- and its codes.
-use mathlib.Core.Path.{_≡_, sym, _∙_, ap}
+use mathlib.Core.Path.{_≡_, sym, _∙_, ap, subst}
 use mathlib.Core.Bool.{Bool}
 use mathlib.Core.List.{List, [], _∷_, _++_, append-assoc, append-nil}
 use Prim.Native.Nat.{ℕ, zero, suc, _+_, _-_, _*_, _≤_, _<_}
@@ -11,11 +11,12 @@ use lib.Seq.{set-at, drop-cons}
 use Rattle.model.specs.Basics.{oneIf, zeros, filled}
 use Rattle.model.specs.Construction.{rowAt}
 use Rattle.model.specs.Tables.{rowWidth, rowStart, rowLength, codesAt, rowNumbers, poolNumbers}
-use Rattle.model.proofs.Logic.{first-part}
+use Rattle.model.proofs.Logic.{first-part, in-at}
+use Rattle.model.proofs.Masks.{Asc}
 use Rattle.model.proofs.TablePlaces.{startOf, start-number, length-number, row-numbers-length, pool-at}
 use Rattle.construct.specs.declared.Progress.{Progress}
 use Rattle.construct.specs.Rows.{rowsHeld, rowsIn, Within, Held}
-use Rattle.construct.proofs.RowSearch.{rows-length}
+use Rattle.construct.proofs.RowSearch.{rows-length, row-held}
 
 -- a table that begins with a list, and one number or one list more
 filled-set :
@@ -102,7 +103,7 @@ rows-again says rs rows pool n l m e f g =
     (held-from (length rs) 0 (filled l (rowNumbers says 0 rs)) (filled m (poolNumbers rs)) rs (omega arith)
     (row-in says rs l m))
 
--- every row lies in its tables
+-- every row lies in its tables, ascending
 pub row-within :
     {says : List ℕ → Bool} {rows pool : List ℕ} {p : Progress} → Held says rows pool p → Within (p .rows) rows pool
 row-within {says} {rows} {pool} {p} held =
@@ -117,4 +118,7 @@ row-within {says} {rows} {pool} {p} held =
           let b : rowLength rows n ≡ length (rowAt rs n) =
           ap (λ (t : List ℕ). rowLength t n) (held .rows-are) ∙ length-is says rs (length rows) 0 n l in
           omega (arith, a, b, start-within n rs l, held .total-is, held .in-pool);
+      ascends = λ n h.
+          let l : n < length rs = omega (arith, count) in
+          subst (Asc 0) (row-held (p .rows) n rows pool h) (held .rows-ascend (rowAt rs n) (in-at [] rs n l));
     }

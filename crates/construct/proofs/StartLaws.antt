@@ -23,10 +23,11 @@ use Rattle.model.proofs.Codes.{start-bases, code-below}
 use Rattle.codes.specs.declared.Scale.{Scale}
 use Rattle.codes.specs.Codes.{Scaled}
 use Rattle.codes.proofs.Agreement.{weight-is}
-use Rattle.construct.specs.declared.Span.{Span}
-use Rattle.construct.specs.declared.Placed.{Placed}
-use Rattle.construct.specs.Marks.{codesIn, MarksAre, startCodesBy, CanStart, Ready}
-use Rattle.construct.specs.Rows.{Held, Grown, MarksNumbered}
+use Rattle.bits.specs.declared.Span.{Span}
+use Rattle.bits.specs.Bits.{codesIn, MarksAre}
+use Rattle.construct.specs.declared.Progress.{Progress}
+use Rattle.construct.specs.Marks.{startCodesBy, CanStart, Ready}
+use Rattle.construct.specs.Rows.{Held, Grown, Numbered}
 use Rattle.construct.specs.Builds.{RoomIn, StartPlaced}
 
 -- the fields of the rule that a head record spells
@@ -119,7 +120,7 @@ can-start h t z marks ready zero-marks =
 pub held-none :
     {says : List ℕ → Bool} (rows pool : List ℕ) (room : ℕ) → rows ≡ zeros (length rows) → pool ≡ zeros (length pool)
     → RoomIn room rows
-    → Held says rows pool (record { number = 0; rows = 0; total = 0; room = room })
+    → Held says rows pool (record { number = 0; rows = 0; total = 0; room = room; last = 0; before = 0 })
 held-none rows pool room a b c =
     let e : length rows - 0 ≡ length rows = omega arith in
     let f : length pool - 0 ≡ length pool = omega arith in
@@ -139,16 +140,15 @@ held-none rows pool room a b c =
 
 pub start-placed :
     {says : List ℕ → Bool} (starts weight room : ℕ) {marks marks₁ marks′ rows′ pool′ : List ℕ} {span : Span}
-    (placed : Placed)
+    (p : Progress)
     → length marks₁ ≡ length marks
     → MarksAre (startCodesBy weight (locationsIn starts)) marks₁ span
-    → MarksNumbered says room (codesIn marks₁ ∷ []) 0 marks₁ marks′ rows′ pool′ placed
-    → StartPlaced says starts weight room marks marks′ rows′ pool′ (placed .progress)
-start-placed {says} starts weight room {rows′ = rows′} {pool′ = pool′} placed long m n = record {
-  marks-zero = n .marks-zero ∙ ap zeros long;
-  grown =
-      subst (λ (x : List ℕ). Grown says room (x ∷ []) rows′ pool′ (placed .progress)) (m .codes-are)
-      (n .numbered .grown);
+    → Numbered says room (codesIn marks₁ ∷ []) 0 rows′ pool′ p
+    → marks′ ≡ zeros (length marks₁)
+    → StartPlaced says starts weight room marks marks′ rows′ pool′ p
+start-placed {says} starts weight room {rows′ = rows′} {pool′ = pool′} p long m n z = record {
+  marks-zero = z ∙ ap zeros long;
+  grown = subst (λ (x : List ℕ). Grown says room (x ∷ []) rows′ pool′ p) (m .codes-are) (n .grown);
 }
 
 pub pairs-few : (h : Head) (t : List ℕ) → ruleRefusal h t .number ≡ 0 → pairCount (ruleIn h t) ≤ mostPairs

@@ -41,6 +41,7 @@ pub unfit-extends :
     → Unfit room pool number after
 unfit-extends u e = record {
   least = u .least;
+  most = u .most;
   refuses = λ more. rw (extends-more e more) (u .refuses (e .added ++ more));
 }
 

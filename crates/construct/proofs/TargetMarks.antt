@@ -21,12 +21,13 @@ use Rattle.codes.specs.declared.Pair.{Pair}
 use Rattle.pairs.specs.declared.Input.{Input}
 use Rattle.codes.specs.Codes.{unpacked}
 use Rattle.pairs.specs.Pairs.{pairAllows, pairTarget}
-use Rattle.construct.specs.declared.Span.{Span}
+use Rattle.bits.specs.declared.Span.{Span}
+use Rattle.bits.specs.Bits.{codesIn, InSpan, CanMark, MarksAre}
+use Rattle.bits.proofs.Loops.{no-marks}
 use Rattle.construct.specs.Leaving.{leavingFrom, edgeOf, nextPlace, Linked}
-use Rattle.construct.specs.Marks.{codesIn, InSpan, CanMark, MarksAre, Ready, NextMarked}
+use Rattle.construct.specs.Marks.{Ready, NextMarked}
 use Rattle.construct.proofs.LeavingLaws.{Standing, standing-from, next-is, next-later}
 use Rattle.construct.proofs.EdgeLaws.{edge-count, edge-in, allowed-is, to-is, targets-from}
-use Rattle.construct.proofs.MarkLaws.{no-marks}
 
 -- The targets by the edges passed are marked; edge e is the next that leaves.
 pub record Pairing
@@ -173,7 +174,7 @@ pub record Rowing
 
 pub rowing-start :
     (h : Head) (t : List ℕ) (at : Input) (timer : Bool) (row marks : List ℕ) → marks ≡ zeros (length marks)
-    → Rowing h t at timer row 0 marks (record { low = length marks; past = 0 })
+    → Rowing h t at timer row 0 marks (record { low = length marks; past = 0; count = 0 })
 rowing-start h t at timer row marks z = record { turns = omega arith; marks-are = no-marks marks z }
 
 module _

@@ -26,7 +26,7 @@ pub record CanLeave
   pub held : Held says rows pool p
   pub row-below : row < p .rows
 
--- the row that a cell leads to, and the cell
+-- a cell, with the row that it leads to
 pub record CellMade
     (says : List ℕ → Bool) (r : Rule) (row : ℕ) (at : Input) (rs : List (List ℕ)) (room : ℕ)
     (marks marks′ rows′ pool′ : List ℕ)
@@ -34,9 +34,6 @@ pub record CellMade
   pub marks-zero : marks′ ≡ zeros (length marks)
   pub grown :
       Grown says room (withRow (nextRow r (at .symbol) (at .interval) (rowAt rs row)) rs) rows′ pool′ (answer .progress)
-  pub row-is :
-      answer .progress .number ≡ 0
-      → answer .row ≡ numberOf (nextRow r (at .symbol) (at .interval) (rowAt rs row)) rs
   pub cell-is :
       answer .progress .number ≡ 0 → answer .cell ≡ cellOf r rs (rowAt rs row) (at .symbol) (at .interval)
 

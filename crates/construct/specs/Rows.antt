@@ -19,7 +19,6 @@ use Rattle.construct.specs.declared.Finals.{Finals}
 use Rattle.construct.specs.declared.Found.{Found}
 use Rattle.construct.specs.declared.Found.the-variants.{At, Nothing}
 use Rattle.construct.specs.declared.Progress.{Progress}
-use Rattle.construct.specs.declared.Placed.{Placed}
 
 -- n rows from number i on
 abbrev pub rowsHeld : ℕ → ℕ → List ℕ → List ℕ → List (List ℕ)
@@ -41,7 +40,13 @@ saysBy f xs = anyFinal (f .weight) (f .ends) xs
 abbrev pub saysIn : Head → Scale → List ℕ → Bool
 saysIn h z xs = anyFinal (z .weight) (h .ends) xs
 
--- What the search among the rows answers: the number of an equal row, or nothing where none has one.
+-- What the search in some rows answers, the first of which has number n: the number of the first that is equal, or
+-- nothing where none is.
+abbrev pub foundFrom : ℕ → List ℕ → List (List ℕ) → Found
+foundFrom n x [] = Nothing
+foundFrom n x (y ∷ ys) = pick (same x y) (At n) (foundFrom (suc n) x ys)
+
+-- What the search among all rows answers: the number of an equal row, or nothing where none has one.
 abbrev pub foundIn : List ℕ → List (List ℕ) → Found
 foundIn x rows = pick (ltb (numberOf x rows) (length rows)) (At (numberOf x rows)) Nothing
 
@@ -50,10 +55,11 @@ pub record CodeSet (codes : List ℕ) : Type 0 where
   pub ascends : Asc 0 codes
   pub few : length codes ≤ mostPairs
 
--- the rows lie in their tables
+-- the rows lie in their tables, each ascending
 pub record Within (count : ℕ) (rows pool : List ℕ) : Type 0 where
   pub rows-long : rowWidth * count ≤ length rows
   pub in-pool : (n : ℕ) → n < count → rowStart rows n + rowLength rows n ≤ length pool
+  pub ascends : (n : ℕ) → n < count → Asc 0 (codesAt rows pool n)
 
 -- The tables hold the rows numbered so far, each ascending and no two equal, and zero past them, and there is room for
 -- what was put in. A row stores what its codes say.
@@ -73,7 +79,19 @@ pub record Held (says : List ℕ → Bool) (rows pool : List ℕ) (p : Progress)
 -- 23 or 24: some row is the first that does not fit, whatever rows come after
 pub record Unfit (room pool number : ℕ) (rows : List (List ℕ)) : Type 0 where
   pub least : 23 ≤ number
+  pub most : number ≤ 24
   pub refuses : (more : List (List ℕ)) → fitRefusal 0 room 0 pool (rows ++ more) ≡ refusal number 0
+
+-- how far the rows are numbered where the next does not fit
+abbrev pub unfitBy : ℕ → Progress → Progress
+unfitBy number p = record {
+  number = number;
+  rows = p .rows;
+  total = p .total;
+  room = p .room;
+  last = 0;
+  before = 0;
+}
 
 -- The rows are now these, and held; or some row of them does not fit.
 pub record Grown
@@ -83,17 +101,17 @@ pub record Grown
   pub refused : (p .number ≡ 0 → ⊥) → Unfit room (length pool′) (p .number) after
   pub room-kept : p .room ≡ room
 
--- a set of codes was given its number n
+-- a row was given its number n, and is the one placed last
 pub record Numbered
-    (says : List ℕ → Bool) (room : ℕ) (after : List (List ℕ)) (n : ℕ) (rows′ pool′ : List ℕ) (answer : Placed) : Type
-    0 where
-  pub grown : Grown says room after rows′ pool′ (answer .progress)
-  pub row-is : answer .progress .number ≡ 0 → answer .row ≡ n
-  pub row-below : answer .row < mostRows
+    (says : List ℕ → Bool) (room : ℕ) (after : List (List ℕ)) (n : ℕ) (rows′ pool′ : List ℕ) (p : Progress) : Type 0
+  where
+    pub grown : Grown says room after rows′ pool′ p
+    pub row-is : p .number ≡ 0 → p .last ≡ n
+    pub row-below : p .last < mostRows
 
 -- the same of marks, which are then cleared
 pub record MarksNumbered
     (says : List ℕ → Bool) (room : ℕ) (after : List (List ℕ)) (n : ℕ) (marks marks′ rows′ pool′ : List ℕ)
-    (answer : Placed) : Type 0 where
-  pub numbered : Numbered says room after n rows′ pool′ answer
+    (p : Progress) : Type 0 where
+  pub numbered : Numbered says room after n rows′ pool′ p
   pub marks-zero : marks′ ≡ zeros (length marks)

@@ -4,10 +4,10 @@ ghost use Prim.Native.Nat.{_*_, _/_, _≤_};
 ghost use lib.ListN.{length};
 ghost use Rattle.model.specs.Basics.{zeros};
 ghost use Rattle.model.specs.Basics.{lesser as lesserOf, quotient as quotientOf};
-ghost use Rattle.model.specs.Rules.{mostPairs, pairCount};
+ghost use Rattle.model.specs.Rules.{mostPairs};
 ghost use Rattle.model.specs.Construction.{mostRows};
 ghost use Rattle.model.specs.Layout.{ruleIn, ruleRefusal};
-ghost use Rattle.model.specs.Tables.{rowRoom, rowWidth};
+ghost use Rattle.model.specs.Tables.{rowRoom, rowWidth, scratchNeed};
 ghost use Rattle.model.specs.Promises.{BuildsTable};
 ghost use Rattle.codes.specs.Codes.{Scaled};
 ghost use Rattle.construct.specs.Rows.{saysBy, saysIn};
@@ -18,7 +18,8 @@ use crate::Progress;
 use crate::cells::fill_rows;
 use crate::leaving::link_edges;
 use crate::marks::mark_starts;
-use crate::rows::place_marks;
+use crate::rows::add_row;
+use bits::unmark;
 use codes::Scale;
 use codes::powers::scale_of;
 use model::Building;
@@ -26,8 +27,10 @@ use model::Built;
 use model::Head;
 use model::MOST_ROWS;
 use model::ROW_WIDTH;
+use model::SCRATCH_BITS;
 use numbers::clear32;
 use numbers::lesser;
+use numbers::narrow8;
 use numbers::narrow32;
 use numbers::quotient;
 use numbers::wide8;
@@ -40,7 +43,7 @@ pub(crate) fn row_room(cells: usize, rows: usize, each: usize) -> usize
     lesser(MOST_ROWS, lesser(rows / ROW_WIDTH, quotient(cells, each)))
 }
 
-// The start row gets number 0.
+// The start row gets number 0: no row is there that it could equal.
 pub(crate) fn place_start(
     starts: u32,
     finals: Finals,
@@ -60,9 +63,12 @@ pub(crate) fn place_start(
         rows: 0,
         total: 0,
         room,
+        last: 0,
+        before: 0,
     };
-    let placed = place_marks(marks, span, 0, finals, rows, pool, none);
-    placed.progress
+    let placed = add_row(marks, span, finals, rows, pool, none);
+    unmark(marks, span);
+    placed
 }
 
 // All rows and cells, into tables that hold zero.
@@ -154,7 +160,7 @@ pub(crate) fn build_in(
 ) -> Building
     requires { ⌜ ruleRefusal head (now edges) .number ≡ 0 ⌝ }
     requires { ⌜ Scaled (ruleIn head (now edges)) scale ⌝ }
-    requires { ⌜ pairCount (ruleIn head (now edges)) ≤ length (now scratch) ⌝ }
+    requires { ⌜ scratchNeed (ruleIn head (now edges)) ≤ length (now scratch) ⌝ }
     ensures { λ r.
         ⌜ BuildsTable head (now (edges .entry)) (now (scratch .entry)) (now (scratch .exit)) (now (cells .entry))
         (now (cells .exit)) (now (rows .entry)) (now (rows .exit)) (now (pool .entry)) (now (pool .exit)) r ⌝ }
@@ -164,7 +170,7 @@ pub(crate) fn build_in(
     let p = fill_tables(head, edges, scale, scratch, cells, rows, pool);
     if p.number != 0 {
         clear_tables(cells, rows, pool);
-        return not_built(p.number, 0);
+        return not_built(narrow8(p.number), 0);
     }
     let built = built_from(head, scale, p);
     Building {
@@ -174,7 +180,7 @@ pub(crate) fn build_in(
     }
 }
 
-// 22: a scratch shorter than N.
+// 22: a scratch shorter than N / 32 numbers, rounded up.
 pub(crate) fn build_checked(
     head: Head,
     edges: &[u16],
@@ -190,7 +196,7 @@ pub(crate) fn build_checked(
 {
     let scale = scale_of(head, edges);
     let pairs = wide32(head.locations) * wide32(scale.weight);
-    if scratch.len() < pairs {
+    if scratch.len() < (pairs + (SCRATCH_BITS - 1)) / SCRATCH_BITS {
         return not_built(22, 0);
     }
     build_in(head, edges, scale, scratch, cells, rows, pool)

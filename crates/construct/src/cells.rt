@@ -33,8 +33,7 @@ pub(crate) fn cell_of(row: usize, timer: bool) -> u32
     narrow32(2 * row)
 }
 
-// The cell of a row at a symbol and an interval; the row that it leads to is numbered if it is new. `guess` is the row
-// that is looked at first.
+// The cell of a row at a symbol and an interval; the row that it leads to is numbered if it is new.
 pub(crate) fn make_cell(
     head: Head,
     edges: &[u16],
@@ -42,7 +41,6 @@ pub(crate) fn make_cell(
     scale: Scale,
     row: usize,
     input: Input,
-    guess: usize,
     marks: &mut [u32],
     rows: &mut [u32],
     pool: &mut [u32],
@@ -64,11 +62,9 @@ pub(crate) fn make_cell(
         weight: scale.weight,
         ends: head.ends,
     };
-    let placed = place_marks(marks, marked.span, guess, finals, rows, pool, p);
-    let progress = placed.progress;
+    let progress = place_marks(marks, marked.span, finals, rows, pool, p);
     Filled {
-        row: placed.row,
-        cell: cell_of(placed.row, marked.timer),
+        cell: cell_of(progress.last, marked.timer),
         progress,
     }
 }
@@ -81,8 +77,8 @@ pub(crate) fn place_of(row: usize, symbols: usize, symbol: usize, width: usize) 
     (row * symbols + symbol) * width
 }
 
-// The cells of a row at a symbol, interval by interval. Neighbours mostly lead to the same row, so the row of the cell
-// before is the guess.
+// The cells of a row at a symbol, interval by interval. Neighbours mostly lead to the same row, which is therefore
+// looked at first.
 pub(crate) fn fill_symbol(
     head: Head,
     edges: &[u16],
@@ -109,7 +105,6 @@ pub(crate) fn fill_symbol(
     let width = 2 * wide8(scale.top) + 2;
     let at = place_of(row, wide32(head.symbols), wide32(symbol), width);
     let mut progress = p;
-    let mut guess: usize = 0;
     let mut i: usize = 0;
     while i < width {
         let input = Input {
@@ -123,7 +118,6 @@ pub(crate) fn fill_symbol(
             scale,
             row,
             input,
-            guess,
             marks,
             rows,
             pool,
@@ -134,7 +128,6 @@ pub(crate) fn fill_symbol(
             return progress;
         }
         cells[at + i] = filled.cell;
-        guess = filled.row;
         i += 1;
     }
     progress

@@ -2,6 +2,7 @@
 ghost use Rattle.model.specs.Promises.{BuildsTable};
 use crate::build::build_checked;
 use crate::build::not_built;
+use bits::Span;
 use model::Building;
 use model::Head;
 use rule::check_rule;
@@ -12,19 +13,13 @@ mod leaving;
 mod marks;
 mod rows;
 
-// The marks of a row lie from `low` on and below `past`.
-pub(crate) struct Span {
-    pub(crate) low: usize,
-    pub(crate) past: usize,
-}
-
 // What the marks of a next row come with: whether the timer is reset, and where they lie.
 pub(crate) struct Marked {
     pub(crate) timer: bool,
     pub(crate) span: Span,
 }
 
-// Where a set of codes is found among the rows already numbered.
+// Where the row that is marked is found among those already numbered.
 pub(crate) enum Found {
     At(usize),
     Nothing,
@@ -38,22 +33,18 @@ pub(crate) struct Finals {
 
 // How far the rows are numbered: their count, how much of the pool they fill, and how many there is room for.
 // The number is 23 or 24 where the next did not fit, else 0.
+// `last` is the row that was placed last, `before` another one placed before it: where a row is looked for first.
 pub(crate) struct Progress {
-    pub(crate) number: u8,
+    pub(crate) number: usize,
     pub(crate) rows: usize,
     pub(crate) total: usize,
     pub(crate) room: usize,
+    pub(crate) last: usize,
+    pub(crate) before: usize,
 }
 
-// A set of codes with its row number.
-pub(crate) struct Placed {
-    pub(crate) row: usize,
-    pub(crate) progress: Progress,
-}
-
-// The row that a cell leads to, the cell, and how far the rows are numbered with that row.
+// A cell, and how far the rows are numbered with the row that it leads to.
 pub(crate) struct Filled {
-    pub(crate) row: usize,
     pub(crate) cell: u32,
     pub(crate) progress: Progress,
 }

@@ -1,64 +1,28 @@
-// Sets of codes as marks in the scratch: one number for each code, zero where it is not in the set.
+// The rows to be: the start row, and the rows that rows lead to, as marks in the scratch.
 ghost use mathlib.Core.Path.{_≡_};
 ghost use mathlib.Core.List.{[]};
 ghost use lib.ListN.{length};
 ghost use Rattle.model.specs.Basics.{zeros};
 ghost use Rattle.model.specs.Layout.{ruleIn, locationsIn};
-ghost use Rattle.model.specs.Construction.{withCode, pairTargets, rowTargets};
+ghost use Rattle.model.specs.Construction.{pairTargets, rowTargets};
 ghost use Rattle.construct.specs.Leaving.{Linked};
-ghost use Rattle.construct.specs.Marks.{codesIn, InSpan, CanMark, MarksAre, Gathered, startCodesBy, CanStart};
-ghost use Rattle.construct.specs.Marks.{Ready, NextMarked};
+ghost use Rattle.bits.specs.Bits.{codesIn, InSpan, MarksAre};
+ghost use Rattle.construct.specs.Marks.{startCodesBy, CanStart, Ready, NextMarked};
 use crate::Marked;
-use crate::Span;
 use crate::leaving::first_edge;
 use crate::leaving::next_edge;
 use crate::leaving::row_resets;
+use bits::Span;
+use bits::mark;
 use codes::Scale;
 use codes::unpack;
 use model::Head;
 use model::MOST_LOCATIONS;
 use numbers::has_bit;
-use numbers::narrow32;
 use numbers::wide32;
 use pairs::Input;
 use pairs::moves::target;
 use pairs::regions::allows;
-
-// Marks a code.
-pub(crate) fn mark(marks: &mut [u32], span: Span, code: usize) -> Span
-    requires { ⌜ CanMark (now marks) span code ⌝ }
-    ensures { λ r. ⌜ MarksAre (withCode code (codesIn (now (marks .entry)))) (now (marks .exit)) r ⌝ }
-{
-    marks[code] = 1;
-    let mut low = span.low;
-    if code < low {
-        low = code;
-    }
-    let mut past = span.past;
-    if past <= code {
-        past = code + 1;
-    }
-    Span { low, past }
-}
-
-// Turns the marks into the codes, ascending, at the front of the same table; the rest is zero.
-pub(crate) fn gather(marks: &mut [u32], span: Span) -> usize
-    requires { ⌜ InSpan (now marks) span ⌝ }
-    ensures { λ r. ⌜ Gathered (codesIn (now (marks .entry))) (now (marks .entry)) (now (marks .exit)) r ⌝ }
-{
-    let past = span.past;
-    let mut count: usize = 0;
-    let mut code = span.low;
-    while code < past {
-        if marks[code] != 0 {
-            marks[code] = 0;
-            marks[count] = narrow32(code);
-            count += 1;
-        }
-        code += 1;
-    }
-    count
-}
 
 // Marks the start row: every initial location with bases 0.
 pub(crate) fn mark_starts(starts: u32, weight: u32, marks: &mut [u32]) -> Span
@@ -68,6 +32,7 @@ pub(crate) fn mark_starts(starts: u32, weight: u32, marks: &mut [u32]) -> Span
     let mut span = Span {
         low: marks.len(),
         past: 0,
+        count: 0,
     };
     let mask = wide32(starts);
     let mut location = MOST_LOCATIONS;
@@ -137,6 +102,7 @@ pub(crate) fn mark_row(
     let mut span = Span {
         low: marks.len(),
         past: 0,
+        count: 0,
     };
     let mut n: usize = 0;
     while n < row.len() {

@@ -1,26 +1,28 @@
-// Rows, numbered by discovery: a new set is looked for among the rows already numbered, code by code.
+// Rows, numbered by discovery: the row that is marked is looked for among those already numbered, code by code.
 ghost use mathlib.Core.Path.{_≡_};
 ghost use mathlib.Core.List.{_∷_, _++_, []};
-ghost use Prim.Native.Nat.{_+_, _*_, _^_, _≤_, _<_};
+ghost use Prim.Native.Nat.{_+_, _-_, _*_, _^_, _≤_, _<_};
 ghost use lib.ListN.{length};
-ghost use Rattle.numbers.specs.Lent.{laid};
-ghost use Rattle.model.specs.Construction.{numberOf, withRow};
 ghost use Rattle.model.specs.Basics.{oneIf};
+ghost use Rattle.model.specs.Construction.{numberOf, withRow};
 ghost use Rattle.model.specs.Tables.{rowWidth, rowStart, rowLength};
-ghost use Rattle.construct.specs.Marks.{codesIn, InSpan};
-ghost use Rattle.construct.specs.Rows.{rowsIn, isAt, foundIn, saysBy, CodeSet, Within, Held};
-ghost use Rattle.construct.specs.Rows.{Numbered, MarksNumbered};
+ghost use Rattle.model.proofs.RowNumbers.{Placed as Apart};
+ghost use Rattle.bits.specs.Bits.{codesIn, InSpan};
+ghost use Rattle.construct.specs.Rows.{rowsHeld, rowsIn, isAt, foundFrom, foundIn, saysBy, Within, Held};
+ghost use Rattle.construct.specs.Rows.{unfitBy, Numbered, MarksNumbered};
 use crate::Finals;
 use crate::Found;
-use crate::Placed;
 use crate::Progress;
-use crate::Span;
-use crate::marks::gather;
+use bits::Span;
+use bits::all_marked;
+use bits::is_marked;
+use bits::lay_codes;
+use bits::unmark;
 use model::ROW_LENGTH;
 use model::ROW_VERDICT;
 use model::ROW_WIDTH;
-use numbers::clear32;
 use numbers::has_bit;
+use numbers::lesser;
 use numbers::narrow32;
 use numbers::quotient;
 use numbers::wide32;
@@ -42,22 +44,32 @@ pub(crate) fn length_in(rows: &[u32], row: usize) -> usize
     wide32(rows[ROW_WIDTH * row + ROW_LENGTH])
 }
 
-// The first row that holds exactly `codes`.
-pub(crate) fn find_row(rows: &[u32], pool: &[u32], count: usize, codes: &[u32]) -> Found
-    requires { ⌜ Within count (now rows) (now pool) ⌝ }
-    ensures { λ r. ⌜ r ≡ foundIn (now (codes .entry)) (rowsIn count (now (rows .entry)) (now (pool .entry))) ⌝ }
+// The row, from number `low` on and below `high`, that holds exactly the codes that are marked, `size` of them: rows of
+// another length are passed over, a row of this length is left at its first code that is not marked.
+pub(crate) fn find_row(
+    rows: &[u32],
+    pool: &[u32],
+    low: usize,
+    high: usize,
+    marks: &[u32],
+    size: usize,
+) -> Found
+    requires { ⌜ Within high (now rows) (now pool) ⌝ }
+    requires { ⌜ size ≡ length (codesIn (now marks)) ⌝ }
+    ensures { λ r.
+        ⌜ r ≡ foundFrom low (codesIn (now (marks .entry)))
+        (rowsHeld (high - low) low (now (rows .entry)) (now (pool .entry))) ⌝ }
 {
-    let mut row: usize = 0;
+    let mut row = low;
     loop {
-        if count <= row {
+        if high <= row {
             break Found::Nothing;
         }
-        let size = length_in(rows, row);
-        if size == codes.len() {
+        if length_in(rows, row) == size {
             let start = start_in(rows, row);
             let mut j: usize = 0;
             'codes: while j < size {
-                if pool[start + j] != codes[j] {
+                if !is_marked(marks, wide32(pool[start + j])) {
                     break 'codes;
                 }
                 j += 1;
@@ -70,32 +82,51 @@ pub(crate) fn find_row(rows: &[u32], pool: &[u32], count: usize, codes: &[u32]) 
     }
 }
 
-// Does row `row` have a number, and does it hold exactly `codes`?
-pub(crate) fn is_row(rows: &[u32], pool: &[u32], count: usize, row: usize, codes: &[u32]) -> bool
+// The same among all rows, of which no two are equal: from `from` on, then those before it.
+pub(crate) fn find_from(
+    rows: &[u32],
+    pool: &[u32],
+    count: usize,
+    from: usize,
+    marks: &[u32],
+    size: usize,
+) -> Found
     requires { ⌜ Within count (now rows) (now pool) ⌝ }
-    ensures { λ r. ⌜ r ≡ isAt row (now (codes .entry)) (rowsIn count (now (rows .entry)) (now (pool .entry))) ⌝ }
+    requires { ⌜ Apart (rowsIn count (now rows) (now pool)) ⌝ }
+    requires { ⌜ size ≡ length (codesIn (now marks)) ⌝ }
+    ensures { λ r.
+        ⌜ r ≡ foundIn (codesIn (now (marks .entry))) (rowsIn count (now (rows .entry)) (now (pool .entry))) ⌝ }
+{
+    let middle = lesser(from, count);
+    let found = find_row(rows, pool, middle, count, marks, size);
+    let Found::At(row) = found else {
+        return find_row(rows, pool, 0, middle, marks, size);
+    };
+    Found::At(row)
+}
+
+// Does row `row` have a number, and does it hold exactly the codes that are marked?
+pub(crate) fn is_row(
+    rows: &[u32],
+    pool: &[u32],
+    count: usize,
+    row: usize,
+    marks: &[u32],
+    size: usize,
+) -> bool
+    requires { ⌜ Within count (now rows) (now pool) ⌝ }
+    requires { ⌜ size ≡ length (codesIn (now marks)) ⌝ }
+    ensures { λ r.
+        ⌜ r ≡ isAt row (codesIn (now (marks .entry))) (rowsIn count (now (rows .entry)) (now (pool .entry))) ⌝ }
 {
     if count <= row {
         return false;
     }
-    let at = ROW_WIDTH * row;
-    let found = find_row(&rows[at..at + ROW_WIDTH], pool, 1, codes);
-    match found {
-        Found::At(_) => true,
-        Found::Nothing => false,
+    if length_in(rows, row) != size {
+        return false;
     }
-}
-
-// Copies `codes` into the pool.
-pub(crate) fn copy_codes(codes: &[u32], pool: &mut [u32], at: usize)
-    requires { ⌜ at + length (now codes) ≤ length (now pool) ⌝ }
-    ensures { λ _. ⌜ now (pool .exit) ≡ laid (now (pool .entry)) at (now (codes .entry)) ⌝ }
-{
-    let mut j: usize = 0;
-    while j < codes.len() {
-        pool[at + j] = codes[j];
-        j += 1;
-    }
+    let start = start_in(rows, row);
+    all_marked(marks, &pool[start..start + size])
 }
 
 // What codes say, 1 for yes: does one stand at a final location?
@@ -113,104 +144,109 @@ pub(crate) fn row_says(codes: &[u32], finals: Finals) -> u32
     0
 }
 
-// Gives `codes`, which no row equals, the next number: 23 where there is no room for it, else 24 where the pool is too
-// short.
+// The next row does not fit: 23 or 24.
+pub(crate) fn unfit(number: usize, p: Progress) -> Progress
+    ensures { λ r. ⌜ r ≡ unfitBy number p ⌝ }
+{
+    Progress {
+        number,
+        rows: p.rows,
+        total: p.total,
+        room: p.room,
+        last: 0,
+        before: 0,
+    }
+}
+
+// Gives the row that is marked, which no row equals, the next number: 23 where there is no room for it, else 24 where
+// the pool is too short. Its codes go straight into the pool.
 pub(crate) fn add_row(
-    codes: &[u32],
+    marks: &[u32],
+    span: Span,
     finals: Finals,
     rows: &mut [u32],
     pool: &mut [u32],
     p: Progress,
-) -> Placed
+) -> Progress
+    requires { ⌜ InSpan (now marks) span ⌝ }
     requires { ⌜ Held (saysBy finals) (now rows) (now pool) p ⌝ }
-    requires { ⌜ CodeSet (now codes) ⌝ }
-    requires { ⌜ numberOf (now codes) (rowsIn (p .rows) (now rows) (now pool)) ≡ p .rows ⌝ }
+    requires { ⌜ numberOf (codesIn (now marks)) (rowsIn (p .rows) (now rows) (now pool)) ≡ p .rows ⌝ }
     ensures { λ r.
         ⌜ Numbered (saysBy finals) (p .room)
-        (rowsIn (p .rows) (now (rows .entry)) (now (pool .entry)) ++ (now (codes .entry) ∷ [])) (p .rows)
+        (rowsIn (p .rows) (now (rows .entry)) (now (pool .entry)) ++ (codesIn (now (marks .entry)) ∷ [])) (p .rows)
         (now (rows .exit)) (now (pool .exit)) r ⌝ }
 {
     let row = p.rows;
     let total = p.total;
     let room = p.room;
+    let size = span.count;
     if room <= row {
-        return Placed {
-            row: 0,
-            progress: Progress {
-                number: 23,
-                rows: row,
-                total,
-                room,
-            },
-        };
+        return unfit(23, p);
     }
-    if pool.len() - total < codes.len() {
-        return Placed {
-            row: 0,
-            progress: Progress {
-                number: 24,
-                rows: row,
-                total,
-                room,
-            },
-        };
+    if pool.len() - total < size {
+        return unfit(24, p);
     }
+    let end = total + size;
+    lay_codes(marks, span, &mut pool[total..end]);
     rows[ROW_WIDTH * row] = narrow32(total);
-    rows[ROW_WIDTH * row + ROW_LENGTH] = narrow32(codes.len());
-    rows[ROW_WIDTH * row + ROW_VERDICT] = row_says(codes, finals);
-    copy_codes(codes, pool, total);
-    Placed {
-        row,
-        progress: Progress {
-            number: 0,
-            rows: row + 1,
-            total: total + codes.len(),
-            room,
-        },
+    rows[ROW_WIDTH * row + ROW_LENGTH] = narrow32(size);
+    rows[ROW_WIDTH * row + ROW_VERDICT] = row_says(&pool[total..end], finals);
+    Progress {
+        number: 0,
+        rows: row + 1,
+        total: end,
+        room,
+        last: row,
+        before: p.last,
     }
 }
 
-// The number of the row that holds `codes`: if an equal set has a number that one, else the next. The guess, which may
-// be any number, is looked at first: where it is right, no search is made.
+// The number of the row that is marked: if an equal row has a number that one, else the next. The row that was placed
+// last is looked at first, where it is right no search is made; a search begins at the one before. Both may be any
+// number.
 pub(crate) fn place_row(
-    codes: &[u32],
-    guess: usize,
+    marks: &[u32],
+    span: Span,
     finals: Finals,
     rows: &mut [u32],
     pool: &mut [u32],
     p: Progress,
-) -> Placed
+) -> Progress
+    requires { ⌜ InSpan (now marks) span ⌝ }
     requires { ⌜ Held (saysBy finals) (now rows) (now pool) p ⌝ }
-    requires { ⌜ CodeSet (now codes) ⌝ }
     ensures { λ r.
         ⌜ Numbered (saysBy finals) (p .room)
-        (withRow (now (codes .entry)) (rowsIn (p .rows) (now (rows .entry)) (now (pool .entry))))
-        (numberOf (now (codes .entry)) (rowsIn (p .rows) (now (rows .entry)) (now (pool .entry))))
+        (withRow (codesIn (now (marks .entry))) (rowsIn (p .rows) (now (rows .entry)) (now (pool .entry))))
+        (numberOf (codesIn (now (marks .entry))) (rowsIn (p .rows) (now (rows .entry)) (now (pool .entry))))
         (now (rows .exit)) (now (pool .exit)) r ⌝ }
 {
-    if is_row(rows, pool, p.rows, guess, codes) {
-        return Placed {
-            row: guess,
-            progress: p,
-        };
+    let size = span.count;
+    if is_row(rows, pool, p.rows, p.last, marks, size) {
+        return p;
     }
-    let found = find_row(rows, pool, p.rows, codes);
+    let found = find_from(rows, pool, p.rows, p.before, marks, size);
     let Found::At(row) = found else {
-        return add_row(codes, finals, rows, pool, p);
+        return add_row(marks, span, finals, rows, pool, p);
     };
-    Placed { row, progress: p }
+    Progress {
+        number: p.number,
+        rows: p.rows,
+        total: p.total,
+        room: p.room,
+        last: row,
+        before: p.last,
+    }
 }
 
-// The number of the row that is marked; the marks are zero again.
+// The same; the marks are then taken away.
 pub(crate) fn place_marks(
     marks: &mut [u32],
     span: Span,
-    guess: usize,
     finals: Finals,
     rows: &mut [u32],
     pool: &mut [u32],
     p: Progress,
-) -> Placed
+) -> Progress
     requires { ⌜ InSpan (now marks) span ⌝ }
     requires { ⌜ Held (saysBy finals) (now rows) (now pool) p ⌝ }
     ensures { λ r.
@@ -219,8 +255,7 @@ pub(crate) fn place_marks(
         (numberOf (codesIn (now (marks .entry))) (rowsIn (p .rows) (now (rows .entry)) (now (pool .entry))))
         (now (marks .entry)) (now (marks .exit)) (now (rows .exit)) (now (pool .exit)) r ⌝ }
 {
-    let count = gather(marks, span);
-    let placed = place_row(&marks[..count], guess, finals, rows, pool, p);
-    clear32(&mut marks[..count]);
+    let placed = place_row(marks, span, finals, rows, pool, p);
+    unmark(marks, span);
     placed
 }

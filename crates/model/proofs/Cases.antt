@@ -63,6 +63,14 @@ pub worked-passes : ruleRefusal worked-head (worked-edges 7366) ≡ fine
 unfolding maskOf bitsFrom cm pairCount validRule edgesNumbers edgeTable ruleIn isReadable ruleRefusal
 worked-passes = refl
 
+-- the worked case with 17 locations: 51 pairs, which two numbers of scratch hold
+unfoldable pub wide-head : Head
+wide-head = record { locations = 17; symbols = 2; clocks = 1; starts = 1; ends = 1; count = 2 }
+
+pub wide-passes : ruleRefusal wide-head (worked-edges 7366) ≡ fine
+unfolding maskOf bitsFrom cm pairCount validRule edgesNumbers edgeTable ruleIn isReadable ruleRefusal wide-head
+wide-passes = refl
+
 pub forks-passes : ruleRefusal (headOf forks) (edgeTable 7424 forks) ≡ fine
 unfolding maskOf bitsFrom cm pairCount validRule edgesNumbers edgeTable ruleIn isReadable ruleRefusal free-edge forks
 forks-passes = refl

@@ -13,7 +13,7 @@ use Rattle.model.specs.Files.{noRule, seenSizes, bodyLength, kindOf, bod
 use Rattle.model.specs.Files.{outOfOrder, oneTooMany, badSizes, outOfRange, notPinned, atEnd, readFrom}
 use Rattle.model.specs.Files.{readRule}
 use Rattle.model.specs.Construction.{rowsOf}
-use Rattle.model.specs.Tables.{rowRoom, fitRefusal, tableRefusal}
+use Rattle.model.specs.Tables.{rowRoom, fitRefusal, scratchNeed, tableRefusal}
 use Rattle.model.proofs.Logic.{by-test}
 
 -- a refusal is none, or has a number from low to high
@@ -89,10 +89,10 @@ fit-numbers n room used pool (x ∷ xs) =
 
 room-numbers :
     (r : Rule) (scratch cells rows pool : ℕ) (found : List (List ℕ))
-    → Among 22 24 (refuse (ltb scratch (pairCount r)) 22 0 ⨾ fitRefusal 0 (rowRoom r cells rows) 0 pool found)
+    → Among 22 24 (refuse (ltb scratch (scratchNeed r)) 22 0 ⨾ fitRefusal 0 (rowRoom r cells rows) 0 pool found)
 room-numbers r scratch cells rows pool found =
-    among-then (refuse (ltb scratch (pairCount r)) 22 0) _
-    (among-refuse (ltb scratch (pairCount r)) 22 0 (omega arith) (omega arith))
+    among-then (refuse (ltb scratch (scratchNeed r)) 22 0) _
+    (among-refuse (ltb scratch (scratchNeed r)) 22 0 (omega arith) (omega arith))
     (fit-numbers 0 (rowRoom r cells rows) 0 pool found)
 
 pub table-numbers : (r : Rule) (scratch cells rows pool : ℕ) → Among 22 24 (tableRefusal r scratch cells rows pool)

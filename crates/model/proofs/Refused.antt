@@ -3,15 +3,16 @@
 use mathlib.Core.Path.{_≡_, refl}
 use mathlib.Core.Bool.{true}
 use mathlib.Core.List.{List, [], _∷_}
+use Prim.Native.Nat.{ℕ}
 use lib.ListN.{replicate}
 use Rattle.model.specs.Basics.{refusal, fine}
-use Rattle.model.specs.Rules.{cm, pairCount}
+use Rattle.model.specs.Rules.{Edge, Rule, rule, cm, pairCount, mostPairs}
 use Rattle.model.specs.Words.{eventsOf, wordRefusal}
 use Rattle.model.specs.Runs.{byEdges, byConfigs, roomRefusalFrom, roomRefusal}
 use Rattle.model.specs.Files.{recordRefusal, withRecord, atEnd, readFrom, readRule}
 use Rattle.model.specs.Construction.{codeOf, locationOf, basesOf, startRow, allows, rowResets, targetOf}
 use Rattle.model.specs.Construction.{nextRow, byIntervals, bySymbols, rowsFrom, rowsOf}
-use Rattle.model.specs.Tables.{rowRoom, fitRefusal, tableRefusal}
+use Rattle.model.specs.Tables.{rowRoom, fitRefusal, mostScratch, scratchNeed, tableRefusal}
 use Rattle.model.proofs.Examples.{worked-file, worked, second-locations, second-records, second-file, second}
 use Rattle.model.proofs.Cases.{Case, case, allMet, free-edge, forks}
 
@@ -41,34 +42,56 @@ words-met : allMet words ≡ true
 unfolding wordRefusal allMet words
 words-met = refl
 
--- 22 to 24 of the worked case: 6 pairs, 3 rows of 8 cells, 2 codes; 23 before 24 for one row, the first row that
--- does not fit. The second rule: 48 pairs, 6 rows of 12 cells, 7 codes.
+-- 22 to 24 of the worked case: 6 pairs in one number, 3 rows of 8 cells, 2 codes; 23 before 24 for one row, the first
+-- row that does not fit. The second rule: 48 pairs in two numbers, 6 rows of 12 cells, 7 codes.
 rooms : List Case
 rooms =
-    case (tableRefusal worked 5 0 0 0) (refusal 22 0)
-    ∷ case (tableRefusal worked 6 24 9 2) fine
-    ∷ case (tableRefusal worked 6 23 9 2) (refusal 23 0)
-    ∷ case (tableRefusal worked 6 24 8 2) (refusal 23 0)
-    ∷ case (tableRefusal worked 6 24 9 1) (refusal 24 0)
-    ∷ case (tableRefusal worked 6 24 8 1) (refusal 23 0)
-    ∷ case (tableRefusal worked 6 24 8 0) (refusal 24 0)
-    ∷ case (tableRefusal worked 6 7 9 0) (refusal 23 0)
-    ∷ case (tableRefusal worked 6 8 3 0) (refusal 24 0)
-    ∷ case (tableRefusal worked 6 0 0 0) (refusal 23 0)
-    ∷ case (tableRefusal second 47 72 18 7) (refusal 22 0)
-    ∷ case (tableRefusal second 48 72 18 7) fine
-    ∷ case (tableRefusal second 48 71 18 7) (refusal 23 0)
-    ∷ case (tableRefusal second 48 72 17 7) (refusal 23 0)
-    ∷ case (tableRefusal second 48 72 18 6) (refusal 24 0)
-    ∷ case (tableRefusal second 48 71 18 6) (refusal 23 0)
-    ∷ case (tableRefusal second 48 71 18 5) (refusal 24 0)
+    case (tableRefusal worked 0 0 0 0) (refusal 22 0)
+    ∷ case (tableRefusal worked 1 24 9 2) fine
+    ∷ case (tableRefusal worked 1 23 9 2) (refusal 23 0)
+    ∷ case (tableRefusal worked 1 24 8 2) (refusal 23 0)
+    ∷ case (tableRefusal worked 1 24 9 1) (refusal 24 0)
+    ∷ case (tableRefusal worked 1 24 8 1) (refusal 23 0)
+    ∷ case (tableRefusal worked 1 24 8 0) (refusal 24 0)
+    ∷ case (tableRefusal worked 1 7 9 0) (refusal 23 0)
+    ∷ case (tableRefusal worked 1 8 3 0) (refusal 24 0)
+    ∷ case (tableRefusal worked 1 0 0 0) (refusal 23 0)
+    ∷ case (tableRefusal second 1 72 18 7) (refusal 22 0)
+    ∷ case (tableRefusal second 2 72 18 7) fine
+    ∷ case (tableRefusal second 2 71 18 7) (refusal 23 0)
+    ∷ case (tableRefusal second 2 72 17 7) (refusal 23 0)
+    ∷ case (tableRefusal second 2 72 18 6) (refusal 24 0)
+    ∷ case (tableRefusal second 2 71 18 6) (refusal 23 0)
+    ∷ case (tableRefusal second 2 71 18 5) (refusal 24 0)
     ∷ []
 
 rooms-met : allMet rooms ≡ true
 unfolding cm pairCount recordRefusal withRecord atEnd readFrom readRule codeOf locationOf basesOf startRow allows
-    rowResets targetOf nextRow byIntervals bySymbols rowsFrom rowsOf rowRoom fitRefusal tableRefusal worked-file worked
-    second-locations second-records second-file second allMet rooms
+    rowResets targetOf nextRow byIntervals bySymbols rowsFrom rowsOf rowRoom fitRefusal scratchNeed tableRefusal
+    worked-file worked second-locations second-records second-file second allMet rooms
 rooms-met = refl
+
+-- the scratch that a build needs, for N of 31, 32, 33, 64, 65 and 65,536
+up-to : ℕ → Edge
+up-to c = record {
+  source = 0;
+  target = 0;
+  symbol = 0;
+  resets = 0;
+  atoms = record { clock = 0; relation = 1; constant = c } ∷ [];
+}
+
+sized : ℕ → ℕ → ℕ → Rule
+sized l k top = rule l 1 k [] [] (up-to top ∷ [])
+
+needs-are :
+    (scratchNeed (sized 1 1 29) ≡ 1) × (scratchNeed (sized 16 1 0) ≡ 1) × (scratchNeed (sized 11 1 1) ≡ 2)
+    × (scratchNeed (sized 32 1 0) ≡ 2)
+    × (scratchNeed (sized 13 1 3) ≡ 3)
+    × (pairCount (sized 16 3 14) ≡ mostPairs)
+    × (scratchNeed (sized 16 3 14) ≡ mostScratch)
+unfolding cm pairCount scratchNeed up-to sized
+needs-are = (refl, refl, refl, refl, refl, refl, refl)
 
 -- room for rows: 4,096, a third of the row table, or the cells over S · W, both rounded down; row 4,096 does not fit
 row-rooms : Type 0

@@ -11,7 +11,7 @@ use borrow.Author.Tests.{ltb-false, lt-ltb, le-ltb, le-leb, lt-leb}
 use Rattle.model.specs.Basics.{lesser, quotient, Refusal, refusal, fine, refuse}
 use Rattle.model.specs.Rules.{Rule, pairCount}
 use Rattle.model.specs.Construction.{width, rowsOf, mostRows}
-use Rattle.model.specs.Tables.{rowWidth, poolNumbers, rowRoom, fitRefusal, tableRefusal}
+use Rattle.model.specs.Tables.{rowWidth, poolNumbers, rowRoom, fitRefusal, scratchBits, scratchNeed, tableRefusal}
 use Rattle.model.proofs.Logic.{Two, two, less, least, lesser-left, lesser-right}
 use Rattle.model.proofs.Discovery.{Closed, discovered}
 use Rattle.model.proofs.Refusals.{refused-false, first-passes, then-passes}
@@ -79,9 +79,14 @@ quotient-below : (n a b : ℕ) → n ≤ quotient a b → n * b ≤ a
 quotient-below n a zero h = omega arith
 quotient-below n a (suc b) h = omega (arith, mul-le-mul-right (suc b) h, div-add-mod' a (suc b))
 
+-- a scratch that is long enough has a bit for every code
+pub bits-enough : (r : Rule) (n : ℕ) → scratchNeed r ≤ n → pairCount r ≤ scratchBits * n
+unfolding scratchNeed
+bits-enough r n h = omega (arith, h)
+
 -- what a table that fits shows of the lent lengths
 pub record Fitted (r : Rule) (scratch cells rows pool : ℕ) (rs : List (List ℕ)) : Type 0 where
-  pub scratch-long : pairCount r ≤ scratch
+  pub scratch-long : scratchNeed r ≤ scratch
   pub few : length rs ≤ mostRows
   pub cells-long : length rs * (r .symbols * width r) ≤ cells
   pub rows-long : rowWidth * length rs ≤ rows
@@ -89,7 +94,7 @@ pub record Fitted (r : Rule) (scratch cells rows pool : ℕ) (rs : List (List �
 
 fitted-by :
     (r : Rule) (scratch cells rows pool : ℕ) (rs : List (List ℕ))
-    → pairCount r ≤ scratch
+    → scratchNeed r ≤ scratch
     → Fit 0 (rowRoom r cells rows) 0 pool rs
     → Fitted r scratch cells rows pool rs
 unfolding rowRoom
@@ -114,10 +119,10 @@ pub room-passes :
     → Fitted r scratch cells rows pool (rowsOf r)
 unfolding tableRefusal
 room-passes r scratch cells rows pool h =
-    let short : Refusal = refuse (ltb scratch (pairCount r)) 22 0 in
+    let short : Refusal = refuse (ltb scratch (scratchNeed r)) 22 0 in
     let fit : Refusal = fitRefusal 0 (rowRoom r cells rows) 0 pool (rowsOf r) in
     fitted-by r scratch cells rows pool (rowsOf r)
-    (ltb-false scratch (pairCount r) (refused-false (ltb scratch (pairCount r)) 21 0 (first-passes short fit h)))
+    (ltb-false scratch (scratchNeed r) (refused-false (ltb scratch (scratchNeed r)) 21 0 (first-passes short fit h)))
     (fit-of 0 (rowRoom r cells rows) 0 pool (rowsOf r) (omega arith) (omega arith) (then-passes short fit h))
 
 pub fitted :

@@ -12,10 +12,11 @@ use Rattle.model.specs.Rules.{cm, pairCount}
 use Rattle.model.specs.Layout.{ruleIn, ruleRefusal}
 use Rattle.model.specs.Construction.{codeOf, locationOf, basesOf, startRow, allows, rowResets, targetOf}
 use Rattle.model.specs.Construction.{nextRow, byIntervals, bySymbols, rowsFrom, rowsOf, cellOf, holdsFinal}
-use Rattle.model.specs.Tables.{builtOf, tablesBy, tablesOf, rowRoom, fitRefusal, tableRefusal}
+use Rattle.model.specs.Tables.{builtOf, tablesBy, tablesOf, rowRoom, fitRefusal, scratchNeed, tableRefusal}
 use Rattle.model.specs.Promises.{buildRefusal, buildingOf, tablesMade, leaves, BuildsTable}
 use Rattle.model.proofs.Examples.{worked-tables}
-use Rattle.model.proofs.Cases.{worked-head, worked-edges, zero-head, zero-built, worked-passes}
+use Rattle.model.proofs.Cases.{worked-head, worked-edges, wide-head, zero-head, zero-built}
+use Rattle.model.proofs.Cases.{worked-passes, wide-passes}
 use Rattle.model.proofs.Cases.{short-refused, both-refused, head-refused}
 
 building : ℕ → Built → Building
@@ -54,31 +55,35 @@ leaves-all left head unused scratch cells rows pool number =
 -- 20, 21, 22, in this order and before 23: all untouched, the built record zero
 builds-untouched : Type 0
 builds-untouched =
-    leaves-all 5 zero-head 7365 6 24 9 2 20 × leaves-all 5 worked-head 7365 6 24 9 2 20
+    leaves-all 5 zero-head 7365 1 24 9 2 20 × leaves-all 5 worked-head 7365 1 24 9 2 20
     × leaves-all 5 zero-head 7366 0 24 9 2 21
-    × leaves-all 5 worked-head 7366 5 24 9 2 22
-    × leaves-all 5 worked-head 7366 5 23 9 2 22
+    × leaves-all 5 worked-head 7366 0 24 9 2 22
+    × leaves-all 5 worked-head 7366 0 23 9 2 22
+    × leaves-all 5 wide-head 7366 1 24 9 2 22
 
 builds-untouched-are : builds-untouched
 unfolding maskOf bitsFrom cm pairCount ruleIn codeOf locationOf basesOf startRow allows rowResets targetOf nextRow
-    byIntervals bySymbols rowsFrom rowsOf rowRoom fitRefusal tableRefusal building leaves-all builds-untouched
+    byIntervals bySymbols rowsFrom rowsOf rowRoom fitRefusal scratchNeed tableRefusal building leaves-all
+    wide-head builds-untouched
 builds-untouched-are = (
   built-as (refusal 20 0) both-refused refl refl refl refl refl refl,
   built-as (refusal 20 0) short-refused refl refl refl refl refl refl,
   built-as (refusal 21 0) head-refused refl refl refl refl refl refl,
   built-as (refusal 22 0) worked-passes refl refl refl refl refl refl,
   built-as (refusal 22 0) worked-passes refl refl refl refl refl refl,
+  built-as (refusal 22 0) wide-passes refl refl refl refl refl refl,
 )
 
 -- 23 by cells and by rows, 24: all zero, the scratch and the built record too
 builds-zeroed : Type 0
 builds-zeroed =
-    leaves-all 0 worked-head 7366 6 23 9 2 23 × leaves-all 0 worked-head 7366 9 24 8 2 23
-    × leaves-all 0 worked-head 7366 6 24 9 1 24
+    leaves-all 0 worked-head 7366 1 23 9 2 23 × leaves-all 0 worked-head 7366 3 24 8 2 23
+    × leaves-all 0 worked-head 7366 1 24 9 1 24
 
 builds-zeroed-are : builds-zeroed
 unfolding maskOf bitsFrom cm pairCount ruleIn codeOf locationOf basesOf startRow allows rowResets targetOf nextRow
-    byIntervals bySymbols rowsFrom rowsOf rowRoom fitRefusal tableRefusal building leaves-all builds-zeroed
+    byIntervals bySymbols rowsFrom rowsOf rowRoom fitRefusal scratchNeed tableRefusal building leaves-all
+    builds-zeroed
 builds-zeroed-are = (
   built-as (refusal 23 0) worked-passes refl refl refl refl refl refl,
   built-as (refusal 23 0) worked-passes refl refl refl refl refl refl,
@@ -87,7 +92,7 @@ builds-zeroed-are = (
 
 -- built: the scratch is zero, the tables hold the worked table and zero in each place past it
 builds-filled :
-    BuildsTable worked-head (worked-edges 7366) (replicate 7 5) (replicate 7 0) (replicate 25 5)
+    BuildsTable worked-head (worked-edges 7366) (replicate 2 5) (replicate 2 0) (replicate 25 5)
     (worked-tables .cells ++ (0 ∷ []))
     (replicate 11 5)
     (worked-tables .rows ++ (0 ∷ 0 ∷ []))
@@ -95,6 +100,6 @@ builds-filled :
     (worked-tables .pool ++ (0 ∷ []))
     (building 0 (worked-tables .built))
 unfolding maskOf bitsFrom cm pairCount ruleIn codeOf locationOf basesOf startRow allows rowResets targetOf nextRow
-    byIntervals bySymbols rowsFrom rowsOf cellOf holdsFinal rowRoom fitRefusal builtOf tablesBy tablesOf tableRefusal
-    worked-tables building
+    byIntervals bySymbols rowsFrom rowsOf cellOf holdsFinal rowRoom fitRefusal builtOf tablesBy tablesOf scratchNeed
+    tableRefusal worked-tables building
 builds-filled = built-as fine worked-passes refl refl refl refl refl refl

@@ -3,7 +3,7 @@
 use mathlib.Core.Path.{refl}
 use mathlib.Core.List.{List, [], _∷_, _++_}
 use Prim.Native.Nat.{ℕ}
-use lib.ListN.{replicate}
+use lib.ListN.{replicate, take, drop}
 use Rattle.model.specs.declared.Answer.{Answer}
 use Rattle.model.specs.Basics.{maskOf}
 use Rattle.model.specs.Rules.{cm, pairCount}
@@ -13,7 +13,7 @@ use Rattle.model.specs.Files.{recordRefusal, withRecord, atEnd, readFrom
 use Rattle.model.specs.Layout.{edgesNumbers, edgeTable}
 use Rattle.model.specs.Construction.{codeOf, locationOf, basesOf, startRow, allows, rowResets, targetOf}
 use Rattle.model.specs.Construction.{nextRow, byIntervals, bySymbols, rowsFrom, rowsOf, cellOf, holdsFinal}
-use Rattle.model.specs.Tables.{tablesBy, tablesOf, rowRoom, fitRefusal, tableRefusal}
+use Rattle.model.specs.Tables.{tablesBy, tablesOf, rowRoom, fitRefusal, scratchNeed, tableRefusal}
 use Rattle.model.specs.Promises.{readRefusal, roomedRefusal, decideRefusal, Decides}
 use Rattle.model.proofs.Examples.{worked-file, worked-tables}
 use Rattle.model.proofs.Cases.{worked-edges}
@@ -34,20 +34,34 @@ decides-all left file edges edges′ scratch cells rows pool d answer-is =
     (2 ∷ 4 ∷ [])
     answer-is
 
+-- the worked case with 17 locations
+wide-file : List ℕ
+wide-file = take 4 worked-file ++ (17 ∷ drop 5 worked-file)
+
 -- the reader refuses: the builder's tables are untouched; 22 leaves them untouched, 23 and 24 zero; before the word
 refused : Type 0
 refused =
     decides-all 5 (0 ∷ []) (replicate 7423 5) (replicate 7423 5) 0 24 9 2 0 (answer 20 0 0)
     × decides-all 5 (worked-file ++ (0 ∷ [])) (replicate 7424 5) (replicate 7424 0) 0 24 9 2 0 (answer 1 58 0)
-    × decides-all 5 worked-file (replicate 7424 5) (worked-edges 7366) 5 24 9 2 0 (answer 22 0 0)
-    × decides-all 0 worked-file (replicate 7424 5) (worked-edges 7366) 6 23 9 2 0 (answer 23 0 0)
-    × decides-all 0 worked-file (replicate 7424 5) (worked-edges 7366) 6 24 9 1 0 (answer 24 0 0)
+    × decides-all 5 worked-file (replicate 7424 5) (worked-edges 7366) 0 24 9 2 0 (answer 22 0 0)
+    × decides-all 5 wide-file (replicate 7424 5) (worked-edges 7366) 1 24 9 2 0 (answer 22 0 0)
+    × decides-all 0 worked-file (replicate 7424 5) (worked-edges 7366) 1 23 9 2 0 (answer 23 0 0)
+    × decides-all 0 worked-file (replicate 7424 5) (worked-edges 7366) 1 24 9 1 0 (answer 24 0 0)
 
 refused-are : refused
 unfolding maskOf cm pairCount recordRefusal withRecord atEnd readFrom readRule edgesNumbers edgeTable codeOf locationOf
     basesOf startRow allows rowResets targetOf nextRow byIntervals bySymbols rowsFrom rowsOf rowRoom fitRefusal
-    tableRefusal readRefusal roomedRefusal decideRefusal worked-file answer decides-all refused
+    scratchNeed tableRefusal readRefusal roomedRefusal decideRefusal worked-file wide-file answer decides-all
+    refused
 refused-are = (
+  record {
+    answer-is = refl;
+    edges-are = refl;
+    scratch-is = refl;
+    cells-are = refl;
+    rows-are = refl;
+    pool-is = refl;
+  },
   record {
     answer-is = refl;
     edges-are = refl;
@@ -93,7 +107,7 @@ refused-are = (
 -- the table is built: 30 and 33 come from the word, and the tables are left as built, as with yes and with no
 decides-built : ℕ → List ℕ → List ℕ → Answer → Type 0
 decides-built d symbols stamps answer-is =
-    Decides worked-file (replicate 7424 5) (worked-edges 7366) (replicate 6 5) (replicate 6 0) (replicate 24 5)
+    Decides worked-file (replicate 7424 5) (worked-edges 7366) (replicate 2 5) (replicate 2 0) (replicate 24 5)
     (worked-tables .cells)
     (replicate 9 5)
     (worked-tables .rows)
@@ -114,8 +128,8 @@ built =
 built-are : built
 unfolding maskOf cm pairCount recordRefusal withRecord atEnd readFrom readRule edgesNumbers edgeTable wordRefusal
     acceptsFrom acceptsFromSome accepts codeOf locationOf basesOf startRow allows rowResets targetOf nextRow byIntervals
-    bySymbols rowsFrom rowsOf cellOf holdsFinal tablesBy tablesOf rowRoom fitRefusal tableRefusal readRefusal
-    roomedRefusal decideRefusal worked-file worked-tables answer decides-built built
+    bySymbols rowsFrom rowsOf cellOf holdsFinal tablesBy tablesOf rowRoom fitRefusal scratchNeed tableRefusal
+    readRefusal roomedRefusal decideRefusal worked-file worked-tables answer decides-built built
 built-are = (
   record {
     answer-is = refl;

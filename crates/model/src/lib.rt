@@ -79,6 +79,11 @@ pub const ROW_VERDICT: usize = 2;
 
 pub const ROW_WIDTH: usize = 3;
 
+// The build scratch: one bit for each code, so many to a number; and the numbers that serve every rule.
+pub const SCRATCH_BITS: usize = 32;
+
+pub const MOST_SCRATCH: usize = 2048;
+
 // A time since the start of the word, in D-ths of a second.
 #[repr(C)]
 pub struct Stamp(pub u32);

@@ -4,7 +4,8 @@ ghost use mathlib.Core.Path.{_≡_};
 ghost use Prim.Native.Nat.{_%_, _^_, _<_};
 ghost use lib.ListN.{length, getD, take, drop};
 ghost use Rattle.model.specs.Basics.{bit, zeros};
-ghost use Rattle.model.specs.Basics.{lesser as lesserOf, quotient as quotientOf, remainder as remainderOf};
+ghost use Rattle.model.specs.Basics.{lesser as lesserOf, larger as largerOf};
+ghost use Rattle.model.specs.Basics.{quotient as quotientOf, remainder as remainderOf};
 
 pub fn wide8(x: u8) -> usize
     ensures { λ r. ⌜ (r ≡ x) × (r < 2 ^ 8) ⌝ }
@@ -49,6 +50,15 @@ pub fn lesser(a: usize, b: usize) -> usize
         return a;
     }
     b
+}
+
+pub fn larger(a: usize, b: usize) -> usize
+    ensures { λ r. ⌜ r ≡ largerOf a b ⌝ }
+{
+    if a <= b {
+        return b;
+    }
+    a
 }
 
 // Division by any number: 0 by 0.

@@ -60,10 +60,10 @@ pub fn moved(
 
 // The code of the target of a pair by edge `e`.
 pub fn target(edges: &[u16], e: u32, scale: Scale, interval: u32, timer: bool, pair: Pair) -> usize
-    requires { ⌜ Powered scale ⌝ }
-    ensures { λ r. ⌜ r ≡ pairTarget scale interval timer pair (edgeAt e (now (edges .entry))) ⌝ }
+    ensures { λ r.
+        ⌜ (Powered scale → r ≡ pairTarget scale interval timer pair (edgeAt e (now (edges .entry)))) ⌝ }
 {
-    let location = target_of(edges, e);
+    let location = narrow16(target_of(edges, e));
     let mask = resets_of(edges, e);
     let bases = pair.bases;
     let next = moved(mask, timer, scale.top, interval, bases);

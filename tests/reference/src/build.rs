@@ -6,11 +6,17 @@ use crate::time::Interval;
 use crate::Refusal;
 use std::iter::empty;
 
+/// Codes to a number of the scratch, a bit each.
+const CODES_PER_NUMBER: u32 = 32;
+
 /// Builds the table of a rule into the lent tables: 20, 21, 22, then 23 and 24.
 ///
+/// The scratch has a bit per code, 32 to a number: N / 32 numbers, rounded up, or more. What it holds at
+/// first does not matter.
+///
 /// After 20 to 22 all lent memory is untouched; after 23 and 24 the tables and the scratch are zero. On
-/// success the scratch is zero, and so are the tables' places not in use. The built record that goes with a
-/// refusal is all zero (`Built::default()`).
+/// success the whole scratch is zero, and so are the tables' places not in use. The built record that goes
+/// with a refusal is all zero (`Built::default()`).
 pub fn build_table(
     head: &Head,
     edges: &[u16],
@@ -23,14 +29,15 @@ pub fn build_table(
     let largest = largest_constant(head, edges);
     let codes = Codes::new(head.clocks, largest);
     let code_count = head.locations * codes.per_location();
-    Refusal::unless(scratch.len() >= code_count as usize, 22)?;
+    let mark_numbers = code_count.div_ceil(CODES_PER_NUMBER) as usize;
+    Refusal::unless(scratch.len() >= mark_numbers, 22)?;
     clear([scratch, cells, rows, pool]);
     let mut builder = Builder {
         head,
         edges,
         codes,
         finals: Finals::new(head.finals, codes.per_location()),
-        marks: Marks::over(scratch),
+        marks: Marks::over(&mut scratch[..mark_numbers]),
         cells,
         rows,
         pool,
@@ -113,45 +120,53 @@ impl Codes {
     }
 }
 
-/// A set of codes: a number per code, not zero where the code is in the set.
+/// A set of codes: code x is in it if bit x % 32 of number x / 32 is set.
 struct Marks<'a> {
-    marks: &'a mut [u32],
-    /// The lowest mark, and the place after the highest.
-    low: usize,
-    end: usize,
+    numbers: &'a mut [u32],
+    /// How many codes are in the set.
+    count: usize,
 }
 
 impl<'a> Marks<'a> {
-    fn over(marks: &'a mut [u32]) -> Self {
-        Marks { marks, low: usize::MAX, end: 0 }
+    /// The empty set, over numbers that are zero.
+    fn over(numbers: &'a mut [u32]) -> Self {
+        Marks { numbers, count: 0 }
     }
 
     fn set(&mut self, code: u32) {
-        let code = code as usize;
-        self.marks[code] = 1;
-        self.low = self.low.min(code);
-        self.end = self.end.max(code + 1);
+        self.count += usize::from(!self.has(code));
+        self.numbers[Self::place(code)] |= Self::bit(code);
     }
 
-    /// Turns the marks into the ascending list of their codes, at the front, and returns its length.
-    ///
-    /// The list never overtakes the marks still to be read.
-    fn gather(&mut self) -> usize {
-        let mut length = 0;
-        for code in self.low..self.end {
-            if self.marks[code] != 0 {
-                self.marks[code] = 0;
-                self.marks[length] = code as u32;
-                length += 1;
-            }
+    fn has(&self, code: u32) -> bool {
+        self.numbers[Self::place(code)] & Self::bit(code) != 0
+    }
+
+    fn has_all(&self, codes: &[u32]) -> bool {
+        codes.iter().all(|&code| self.has(code))
+    }
+
+    /// The codes of the set, ascending. Numbers without a bit are passed over.
+    fn codes(&self) -> impl Iterator<Item = u32> + '_ {
+        let held = self.numbers.iter().zip(0u32..).filter(|(&number, _)| number != 0);
+        held.flat_map(|(_, place)| place * CODES_PER_NUMBER..(place + 1) * CODES_PER_NUMBER)
+            .filter(|&code| self.has(code))
+    }
+
+    /// Empties the set, given its codes: no number has a bit of another.
+    fn clear(&mut self, codes: &[u32]) {
+        for &code in codes {
+            self.numbers[Self::place(code)] = 0;
         }
-        self.low = usize::MAX;
-        self.end = 0;
-        length
+        self.count = 0;
     }
 
-    fn clear(&mut self, length: usize) {
-        self.marks[..length].fill(0);
+    fn place(code: u32) -> usize {
+        (code / CODES_PER_NUMBER) as usize
+    }
+
+    fn bit(code: u32) -> u32 {
+        1 << (code % CODES_PER_NUMBER)
     }
 }
 
@@ -242,31 +257,33 @@ impl Builder<'_> {
 
     /// The number of the marked set, which is a new row's if no row has it yet. Clears the marks.
     fn number_marked(&mut self) -> Result<usize, Refusal> {
-        let length = self.marks.gather();
-        let row = match self.find(length) {
+        let row = match self.find() {
             Some(row) => row,
-            None => self.append(length)?,
+            None => self.append()?,
         };
-        self.marks.clear(length);
+        self.marks.clear(row_codes(row_numbers(self.rows, row), self.pool));
         Ok(row)
     }
 
-    /// Looks the gathered set up among the rows, lengths first.
-    fn find(&self, length: usize) -> Option<usize> {
-        let set = &self.marks.marks[..length];
+    /// Looks the marked set up among the rows: the lengths first, and then all of the row's codes are marked.
+    fn find(&self) -> Option<usize> {
         let mut rows = self.rows[..ROW_NUMBERS * self.row_count].chunks_exact(ROW_NUMBERS);
-        rows.position(|row| row[1] as usize == length && row_codes(row, self.pool) == set)
+        rows.position(|row| {
+            row[1] as usize == self.marks.count && self.marks.has_all(row_codes(row, self.pool))
+        })
     }
 
-    /// Appends the gathered set as the next row: 23, 24.
-    fn append(&mut self, length: usize) -> Result<usize, Refusal> {
-        let row = self.row_count;
+    /// Appends the marked set as the next row: 23, 24.
+    fn append(&mut self) -> Result<usize, Refusal> {
+        let (row, start, length) = (self.row_count, self.code_total, self.marks.count);
         Refusal::unless(row < self.row_limit(), 23)?;
-        Refusal::unless(length <= self.pool.len() - self.code_total, 24)?;
-        let set = &self.marks.marks[..length];
-        let numbers = [self.code_total as u32, length as u32, self.finals.verdict(set)];
+        Refusal::unless(length <= self.pool.len() - start, 24)?;
+        let codes = &mut self.pool[start..][..length];
+        for (place, code) in codes.iter_mut().zip(self.marks.codes()) {
+            *place = code;
+        }
+        let numbers = [start as u32, length as u32, self.finals.verdict(codes)];
         self.rows[ROW_NUMBERS * row..][..ROW_NUMBERS].copy_from_slice(&numbers);
-        self.pool[self.code_total..][..length].copy_from_slice(set);
         self.row_count += 1;
         self.code_total += length;
         Ok(row)

@@ -237,11 +237,11 @@ fn the_room_asked_for_is_that_of_the_atoms() {
         let head = room.read(&whole_case_under(30)).unwrap();
         room.build(&head)
     };
-    assert_eq!(build(6, 24, 9, 2).unwrap().to_numbers(), [2, 2, 1, 1, 1, 3, 2]);
-    assert_eq!(build(5, 24, 9, 2), refusal(22, 0));
-    assert_eq!(build(6, 23, 9, 2), refusal(23, 0));
-    assert_eq!(build(6, 24, 8, 2), refusal(23, 0));
-    assert_eq!(build(6, 24, 9, 1), refusal(24, 0));
+    assert_eq!(build(1, 24, 9, 2).unwrap().to_numbers(), [2, 2, 1, 1, 1, 3, 2]);
+    assert_eq!(build(0, 24, 9, 2), refusal(22, 0));
+    assert_eq!(build(1, 23, 9, 2), refusal(23, 0));
+    assert_eq!(build(1, 24, 8, 2), refusal(23, 0));
+    assert_eq!(build(1, 24, 9, 1), refusal(24, 0));
 }
 
 #[test]
@@ -253,7 +253,7 @@ fn decide_ends_the_same_with_it() {
         (outcome, room)
     };
     for ceiling in CEILINGS {
-        for (scratch, stamps) in [(6, [2, 4]), (6, [2, 3]), (5, [2, 4]), (6, [4, 2])] {
+        for (scratch, stamps) in [(1, [2, 4]), (1, [2, 3]), (0, [2, 4]), (1, [4, 2])] {
             let with = outcome(&whole_case_under(ceiling), scratch, &stamps);
             assert_eq!(with, outcome(&whole_case(), scratch, &stamps), "under {ceiling}, {stamps:?}");
         }

@@ -187,10 +187,10 @@ fn row_codes(room: &Room, row: u32) -> &[u32] {
 }
 
 #[test]
-fn a_build_takes_n_numbers_of_scratch_and_makes_these_codes() {
+fn a_build_takes_a_bit_of_scratch_per_code_and_makes_these_codes() {
     for size in sizes() {
-        let code_count = size.code_count() as usize;
-        let mut room = Room::new(code_count - 1, 200, 9, 40, 5);
+        let scratch = size.code_count().div_ceil(32) as usize;
+        let mut room = Room::new(scratch - 1, 200, 9, 40, 5);
         let head = room.read(&size.file()).unwrap();
         assert_eq!(room.build(&head), refusal(22, 0), "{size:?}");
         room.scratch.push(5);

@@ -74,7 +74,7 @@ fn a_ceiling_leaves_no_field() {
     let with_ceiling = [&FILE[..44], "020004001e00", &FILE[44..]].concat();
     let script = |file: &str| {
         format!(
-            "read {file} 7424 9\ncheck_rule\nwrite 64 3\nwrite 58 3\nwrite 57 3\nbuild 6 24 9 2 5\n\
+            "read {file} 7424 9\ncheck_rule\nwrite 64 3\nwrite 58 3\nwrite 57 3\nbuild 1 24 9 2 5\n\
              list {file}\npoke head 5 1\ncheck_rule\npoke head 6 0\nstate"
         )
     };
@@ -83,7 +83,7 @@ fn a_ceiling_leaves_no_field() {
     assert!(with[0].starts_with("read ok head=2,2,1,1,1,2 edges=7424:"));
     assert!(with[3].starts_with("write ok 58 out=58:"));
     assert!(with[4].starts_with("write no 27 0 out=57:"));
-    assert!(with[5].starts_with("build ok built=2,2,1,1,1,3,2 scratch=6:"));
+    assert!(with[5].starts_with("build ok built=2,2,1,1,1,3,2 scratch=1:"));
     assert_eq!(with[7..10], ["poke 2", "check_rule no 21 0", "bad"]);
     assert!(with[10].starts_with("state head=2,2,1,1,1,1 edges=7424:"));
 }
@@ -186,10 +186,10 @@ fn a_wrong_verdict_in_the_state_is_25() {
 #[test]
 fn decide_leaves_the_state() {
     let script =
-        format!("decide {FILE} 7424 6 24 9 2 3 2 0,1 2,4\ndecide {FILE} 7424 5 24 9 2 3 2 - -\nstate");
+        format!("decide {FILE} 7424 1 24 9 2 3 2 0,1 2,4\ndecide {FILE} 7424 0 24 9 2 3 2 - -\nstate");
     let answers = answers(&script);
-    assert!(answers[0].starts_with("decide ok 1 edges=7424:faab4d2cb42833c4 scratch=6:"));
-    assert!(answers[1].starts_with("decide no 22 0 edges=7424:faab4d2cb42833c4 scratch=5:"));
+    assert!(answers[0].starts_with("decide ok 1 edges=7424:faab4d2cb42833c4 scratch=1:"));
+    assert!(answers[1].starts_with("decide no 22 0 edges=7424:faab4d2cb42833c4 scratch=0:"));
     assert!(answers[2].starts_with("state head=0,0,0,0,0,0 edges=0:"));
 }
 

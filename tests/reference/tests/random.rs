@@ -4,8 +4,8 @@
 mod common;
 
 use common::{
-    code, construct, enumerate, held_back, random_rule, random_word, refusal, Bounds, PlainRule, PlainWord,
-    Random, Room, Runs,
+    construct, enumerate, held_back, random_rule, random_word, refusal, Bounds, PlainRule, PlainWord, Random,
+    Room, Runs,
 };
 use reference::{
     check_rule, check_table, follow_event, list_table, start_follower, write_rule, Branch, Built, Head,
@@ -101,11 +101,10 @@ fn build_and_compare(rule: &PlainRule) -> Option<(Room, Head, Built)> {
     let plain = construct(rule, 400)?;
     let width = 2 * rule.largest() as usize + 2;
     let row_cells = width * usize::from(rule.symbols);
-    let codes: Vec<Vec<u32>> =
-        plain.rows.iter().map(|row| row.iter().map(|pair| code(rule, pair)).collect()).collect();
-    let total: usize = codes.iter().map(Vec::len).sum();
-    let count = codes.len();
-    let mut room = Room::new(rule.code_count() as usize, count * row_cells + 3, 3 * count + 2, total + 2, 11);
+    let mut pool = plain.row_codes(rule).concat();
+    let (count, total) = (plain.rows.len(), pool.len());
+    let scratch = rule.code_count().div_ceil(32) as usize;
+    let mut room = Room::new(scratch, count * row_cells + 3, 3 * count + 2, total + 2, 11);
 
     let head = room.read(&rule.file()).unwrap();
     assert_eq!(check_rule(&head, &room.edges), Ok(()));
@@ -114,21 +113,13 @@ fn build_and_compare(rule: &PlainRule) -> Option<(Room, Head, Built)> {
     let built = room.build(&head).unwrap();
     assert_eq!((built.rows, built.pool), (count as u32, total as u32));
     assert_eq!(u64::from(built.largest), rule.largest());
-    let mut cells: Vec<u32> =
-        plain.cells.iter().map(|&(row, reset)| 2 * row as u32 + u32::from(reset)).collect();
-    cells.resize(room.cells.len(), 0);
+    let (mut cells, mut rows) = (plain.cell_numbers(), plain.row_numbers(rule));
+    cells.extend([0; 3]);
+    rows.extend([0; 2]);
+    pool.extend([0; 2]);
     assert_eq!(room.cells, cells);
-    let mut pool = codes.concat();
-    pool.resize(room.pool.len(), 0);
-    assert_eq!(room.pool, pool);
-    let (mut rows, mut start) = (Vec::new(), 0);
-    for pairs in &plain.rows {
-        let accepts = pairs.iter().any(|(location, _)| rule.finals.contains(location));
-        rows.extend([start, pairs.len() as u32, u32::from(accepts)]);
-        start += pairs.len() as u32;
-    }
-    rows.extend([0, 0]);
     assert_eq!(room.rows, rows);
+    assert_eq!(room.pool, pool);
     assert!(room.scratch.iter().all(|&number| number == 0));
     assert_eq!(check_table(&built, &room.cells, &room.rows, &room.pool), Ok(()));
     compare_tight_room(&head, &room, count, row_cells, total);
@@ -167,6 +158,7 @@ fn compare_tight_room(head: &Head, room: &Room, count: usize, row_cells: usize, 
     let tries = tries.into_iter().chain((total > 0).then_some(short_pool));
     for (cells, rows, pool, number) in tries {
         let mut tight = Room::new(scratch + 1, cells, rows, pool, 8);
+        tight.scratch.fill(u32::MAX);
         tight.edges.copy_from_slice(&room.edges);
         let outcome = tight.build(head);
         assert!(tight.scratch.iter().all(|&number| number == 0));
@@ -199,7 +191,7 @@ fn compare_listing(rule: &PlainRule, room: &Room, built: &Built) {
     let width = 2 * built.largest as usize + 2;
     let row_cells = width * built.symbols as usize;
     let used = built.rows as usize * row_cells;
-    if rule.code_count() > 16_384 || used > 16_384 || built.rows > 682 || built.pool > 8_192 {
+    if used > 16_384 || built.rows > 682 || built.pool > 8_192 {
         assert!(list_table(&rule.file()).starts_with(b"no 2"));
         return;
     }

@@ -56,8 +56,9 @@ fn the_listing_is_as_printed() {
 fn the_listing_of_a_refused_file_names_the_refusal() {
     assert_eq!(list_table(&[]), b"no 3 0\n");
     assert_eq!(list_table(&whole_case()[..57]), b"no 1 40\n");
-    let wide = [record(1, &[32, 1, 2]), record(5, &[0, 0, 0, 0, 0, 0, 30])].concat();
-    assert_eq!(list_table(&wide), b"no 22 0\n");
+    let mut chain = [record(1, &[17, 16, 1]), record(2, &[0])].concat();
+    chain.extend((0..16).flat_map(|location| record(5, &[location, location + 1, 0, 0, 0, 1, 30])));
+    assert_eq!(list_table(&chain), b"no 23 0\n", "16 rows of 16 times 62 cells are too few");
 }
 
 #[test]

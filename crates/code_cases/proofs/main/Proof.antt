@@ -5,7 +5,7 @@ use Rattle.code_cases.proofs.main.Statement.{statement}
 use Rattle.code_cases.proofs.main.Tie as tie
 
 abbrev Inv-loop : tie.InvT-loop
-Inv-loop tally₀ clocks₀ t3 t4 t5 tally clocks = (1 ≤ clocks) × (clocks ≤ 5)
+Inv-loop tally₀ clocks₀ t3 t4 t5 tally clocks = clocks ≤ 5
 
 abbrev μ-loop : tie.MeasureT-loop
 μ-loop tally₀ clocks₀ t3 t4 t5 tally clocks = 5 - clocks

@@ -1,13 +1,11 @@
 -- `code_cases::of_clocks` is safe and ends: cm is at most 30.
 use Prim.Native.Nat.{_≤_, _-_}
 use borrow.Author.Needs.{needs}
-use Rattle.model.specs.Rules.{mostClocks}
-use Rattle.codes.proofs.PowerLaws.{powered-is}
 use Rattle.code_cases.proofs.of_clocks.Statement.{statement}
 use Rattle.code_cases.proofs.of_clocks.Tie as tie
 
 abbrev Inv-loop : tie.InvT-loop
-Inv-loop clocks tally₀ top₀ tally top = (1 ≤ clocks) × (clocks ≤ mostClocks) × (top ≤ 31)
+Inv-loop clocks tally₀ top₀ tally top = top ≤ 31
 
 abbrev μ-loop : tie.MeasureT-loop
 μ-loop clocks tally₀ top₀ tally top = 31 - top
@@ -22,7 +20,7 @@ scale-by-requires : tie.Need-scale-by-requires Inv-loop μ-loop
 scale-by-requires c κs = search needs
 
 of-scale-requires : tie.Need-of-scale-requires Inv-loop μ-loop
-of-scale-requires c κs = powered-is (c .scale-by .ensures) (search needs) (search needs) (search needs)
+of-scale-requires c κs = search needs
 
 add-top : tie.Need-add-top Inv-loop μ-loop
 add-top c = search needs

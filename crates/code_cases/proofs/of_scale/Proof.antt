@@ -1,12 +1,11 @@
 -- `code_cases::of_scale` is safe and ends: L is at most 32.
 use Prim.Native.Nat.{_≤_, _-_}
 use borrow.Author.Needs.{needs}
-use Rattle.codes.specs.Codes.{Powered}
 use Rattle.code_cases.proofs.of_scale.Statement.{statement}
 use Rattle.code_cases.proofs.of_scale.Tie as tie
 
 abbrev Inv-loop : tie.InvT-loop
-Inv-loop scale tally₀ locations₀ tally locations = Powered scale × (locations ≤ 33)
+Inv-loop scale tally₀ locations₀ tally locations = locations ≤ 33
 
 abbrev μ-loop : tie.MeasureT-loop
 μ-loop scale tally₀ locations₀ tally locations = 33 - locations

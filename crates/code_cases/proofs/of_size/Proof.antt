@@ -2,14 +2,13 @@
 use Prim.Native.Nat.{_≤_, _-_, _*_, _^_}
 use borrow.Author.Needs.{needs}
 use Rattle.model.specs.Rules.{mostLocations, mostPairs}
-use Rattle.codes.specs.Codes.{Powered}
 use Rattle.codes.proofs.Loops.{product-most}
 use Rattle.code_cases.proofs.of_size.Statement.{statement}
 use Rattle.code_cases.proofs.of_size.Tie as tie
 
 abbrev Inv-loop : tie.InvT-loop
 Inv-loop scale locations before pairs wrong₀ code₀ wrong code =
-    (locations ≤ mostLocations) × Powered scale × (pairs ≤ mostPairs) × (code ≤ pairs)
+    (locations ≤ mostLocations) × (pairs ≤ mostPairs) × (code ≤ pairs)
 
 abbrev μ-loop : tie.MeasureT-loop
 μ-loop scale locations before pairs wrong₀ code₀ wrong code = pairs - code

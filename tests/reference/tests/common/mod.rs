@@ -265,6 +265,29 @@ pub struct PlainTable {
     pub cells: Vec<(usize, bool)>,
 }
 
+impl PlainTable {
+    /// The cell table.
+    pub fn cell_numbers(&self) -> Vec<u32> {
+        self.cells.iter().map(|&(row, reset)| 2 * row as u32 + u32::from(reset)).collect()
+    }
+
+    /// The row table: start, length and verdict of each row.
+    pub fn row_numbers(&self, rule: &PlainRule) -> Vec<u32> {
+        let (mut numbers, mut start) = (Vec::new(), 0);
+        for pairs in &self.rows {
+            let accepts = pairs.iter().any(|(location, _)| rule.finals.contains(location));
+            numbers.extend([start, pairs.len() as u32, u32::from(accepts)]);
+            start += pairs.len() as u32;
+        }
+        numbers
+    }
+
+    /// The codes of each row.
+    pub fn row_codes(&self, rule: &PlainRule) -> Vec<Vec<u32>> {
+        self.rows.iter().map(|row| row.iter().map(|pair| code(rule, pair)).collect()).collect()
+    }
+}
+
 /// The construction over sets; nothing if it takes more rows than the most.
 pub fn construct(rule: &PlainRule, most_rows: usize) -> Option<PlainTable> {
     let start = rule.initial.iter().map(|&location| (location, vec![0; rule.clocks.into()])).collect();

@@ -1,10 +1,12 @@
 -- `construct::build::build_in` meets its contract: cleared, filled, and cleared again where a row did not fit.
 use mathlib.Core.Path.{_∙_, ap, ap₂}
+use Prim.Native.Nat.{ℕ}
 use native.Mathlib.Omega.{arith}
 use borrow.Author.Needs.{needs}
 use Rattle.model.specs.Tables.{rowRoom}
 use Rattle.model.specs.Layout.{ruleIn}
 use Rattle.model.specs.Basics.{zeros}
+use Rattle.construct.specs.Builds.{notBuilt}
 use Rattle.construct.proofs.Beginning.{can-build}
 use Rattle.construct.proofs.Outcome.{builds-done, builds-unfit, builds-as, same-building}
 use Rattle.construct.proofs.build.build_in.Statement.{statement}
@@ -14,6 +16,12 @@ use Rattle.construct.proofs.build.build_in.Tie as tie
 abbrev filled : tie.After-clear-tables2 → tie.After-fill-tables
 filled w =
     w .before .before .before .before .before .before .before .before .before .before .before .before .before .before
+
+abbrev emptied : tie.After-not-built → tie.After-clear-tables2
+emptied w = w .before .before .before .before .before .before .before .before
+
+abbrev finished : tie.After-built-from → tie.After-fill-tables
+finished w = w .before .before .before .before .before .before .before .before .before .before .before
 
 abbrev clears : tie.After-fill-tables → tie.After-clear-tables
 clears w = w .before .before .before .before .before .before .before .before .before .before .before
@@ -45,18 +53,21 @@ fill-tables-requires c κs =
 clear-tables-requires-2 : tie.Need-clear-tables-requires-2
 clear-tables-requires-2 c κs = search needs
 
+narrow8-requires : tie.Need-narrow8-requires
+narrow8-requires c κs = search needs
+
 not-built-requires : tie.Need-not-built-requires
 not-built-requires c κs = search needs
 
 same-length : tie.Need-same-length
 same-length c =
-    let after-fill-tables = filled (c .before .before .before .before .before .before .before) in
+    let after-fill-tables = filled (emptied c) in
     let after-clear = clear (clears after-fill-tables) in
     after-fill-tables .fill-tables .kept .1 .1 .1 .0 ∙ after-clear .clear32 .kept .0
 
 same-length-2 : tie.Need-same-length-2
 same-length-2 c =
-    let after-clear-tables2 = c .before .before .before .before .before .before .before in
+    let after-clear-tables2 = emptied c in
     let after-fill-tables = filled after-clear-tables2 in
     let after-clear-tables = clears after-fill-tables in
     after-clear-tables2 .clear-tables2 .kept .0 ∙
@@ -64,7 +75,7 @@ same-length-2 c =
 
 same-length-3 : tie.Need-same-length-3
 same-length-3 c =
-    let after-clear-tables2 = c .before .before .before .before .before .before .before in
+    let after-clear-tables2 = emptied c in
     let after-fill-tables = filled after-clear-tables2 in
     let after-clear-tables = clears after-fill-tables in
     after-clear-tables2 .clear-tables2 .kept .1 .0 ∙
@@ -72,7 +83,7 @@ same-length-3 c =
 
 same-length-4 : tie.Need-same-length-4
 same-length-4 c =
-    let after-clear-tables2 = c .before .before .before .before .before .before .before in
+    let after-clear-tables2 = emptied c in
     let after-fill-tables = filled after-clear-tables2 in
     let after-clear-tables = clears after-fill-tables in
     after-clear-tables2 .clear-tables2 .kept .1 .1 .0 ∙
@@ -80,7 +91,7 @@ same-length-4 c =
 
 returns : tie.Need-returns
 returns c =
-    let after-clear-tables2 = c .before .before .before .before .before .before .before in
+    let after-clear-tables2 = emptied c in
     let at-if1 = after-clear-tables2 .before .before .before .before in
     let after-fill-tables = at-if1 .before .before .before .before .before .before .before .before .before .before in
     let after-clear-tables = clears after-fill-tables in
@@ -106,7 +117,9 @@ returns c =
     (last .ensures .0 ∙ ap zeros (fill .kept .1 .1 .1 .1 .0 ∙ first .kept .0))
     (last .ensures .1 ∙ ap zeros (fill .kept .1 .1 .1 .1 .1 .0 ∙ first .kept .1 .0))
     (last .ensures .2 ∙ ap zeros (fill .kept .1 .1 .1 .1 .1 .1 .0 ∙ first .kept .1 .1 .0)))
-    (c .not-built .ensures)
+    (c .not-built .ensures
+    ∙ ap (λ (n : ℕ). notBuilt n 0)
+    (c .before .narrow8 .ensures .1 (omega (arith, fill .ensures .grown .refused (at-if1 .if1 .taken) .most))))
 
 built-from-requires : tie.Need-built-from-requires
 built-from-requires c κs =
@@ -116,22 +129,25 @@ built-from-requires c κs =
 
 same-length-5 : tie.Need-same-length-5
 same-length-5 c =
-    let after-fill-tables = c .before .before .before .before .before .before .before .before .before .before .before in
+    let after-fill-tables = finished c in
     let after-clear = clear (clears after-fill-tables) in
     after-fill-tables .fill-tables .kept .1 .1 .1 .0 ∙ after-clear .clear32 .kept .0
 
 same-length-6 : tie.Need-same-length-6
-same-length-6 c = search needs
+same-length-6 c =
+    finished c .fill-tables .kept .1 .1 .1 .1 .0 ∙ clears (finished c) .clear-tables .kept .0
 
 same-length-7 : tie.Need-same-length-7
-same-length-7 c = search needs
+same-length-7 c =
+    finished c .fill-tables .kept .1 .1 .1 .1 .1 .0 ∙ clears (finished c) .clear-tables .kept .1 .0
 
 same-length-8 : tie.Need-same-length-8
-same-length-8 c = search needs
+same-length-8 c =
+    finished c .fill-tables .kept .1 .1 .1 .1 .1 .1 .0 ∙ clears (finished c) .clear-tables .kept .1 .1 .0
 
 returns-2 : tie.Need-returns-2
 returns-2 c =
-    let after-fill-tables = c .before .before .before .before .before .before .before .before .before .before .before in
+    let after-fill-tables = finished c in
     let after-clear-tables = clears after-fill-tables in
     let after-clear = clear after-clear-tables in
     let s = Entry after-clear in
@@ -158,6 +174,7 @@ build-in-spec =
     clear-tables-requires
     fill-tables-requires
     clear-tables-requires-2
+    narrow8-requires
     not-built-requires
     same-length
     same-length-2

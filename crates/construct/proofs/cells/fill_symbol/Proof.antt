@@ -15,16 +15,16 @@ use Rattle.construct.proofs.cells.fill_symbol.Statement.{statement}
 use Rattle.construct.proofs.cells.fill_symbol.Tie as tie
 
 abbrev Inv-loop : tie.InvT-loop
-Inv-loop head edges links scale row symbol marks₀ cells₀ rows₀ pool₀ width at progress₀ guess₀ i₀ marks cells
-    rows pool progress guess i =
+Inv-loop head edges links scale row symbol marks₀ cells₀ rows₀ pool₀ width at progress₀ i₀ marks cells rows pool
+    progress i =
     (width ≡ widthOf (ruleIn head edges)) × (width ≤ 2 ^ 9) × (at ≡ (row * ruleIn head edges .symbols + symbol) * width)
     × (length marks ≡ length marks₀) × (length rows ≡ length rows₀) × (length pool ≡ length pool₀)
     × Filling (saysIn head scale) (ruleIn head edges) row symbol at (rowsIn (progress₀ .rows) rows₀ pool₀)
     (progress₀ .room) marks₀ cells₀ i marks cells rows pool progress
 
 abbrev μ-loop : tie.MeasureT-loop
-μ-loop head edges links scale row symbol marks₀ cells₀ rows₀ pool₀ width at progress₀ guess₀ i₀ marks cells
-    rows pool progress guess i =
+μ-loop head edges links scale row symbol marks₀ cells₀ rows₀ pool₀ width at progress₀ i₀ marks cells rows pool
+    progress i =
     width - i
 
 -- from a turn of the loop back to the entry
@@ -155,9 +155,9 @@ loop-again c =
       l .inv .0,
       l .inv .1,
       l .inv .2,
-      after-make-cell .make-cell .kept .1 .1 .1 .1 .1 .1 .1 .0 ∙ l .inv .3,
-      after-make-cell .make-cell .kept .1 .1 .1 .1 .1 .1 .1 .1 .0 ∙ l .inv .4,
-      after-make-cell .make-cell .kept .1 .1 .1 .1 .1 .1 .1 .1 .1 .0 ∙ l .inv .5,
+      after-make-cell .make-cell .kept .1 .1 .1 .1 .1 .1 .0 ∙ l .inv .3,
+      after-make-cell .make-cell .kept .1 .1 .1 .1 .1 .1 .1 .0 ∙ l .inv .4,
+      after-make-cell .make-cell .kept .1 .1 .1 .1 .1 .1 .1 .1 .0 ∙ l .inv .5,
       filling-next (l .inv .6) (omega (arith, in-loop .loop-test .taken, l .inv .0)) refl
           (after-narrow32 .narrow32 .ensures .1 (search needs)) (after-make-cell .make-cell .ensures) _
           (c .if1 .left)

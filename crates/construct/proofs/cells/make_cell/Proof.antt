@@ -67,7 +67,7 @@ same-length-3 c = search needs
 
 returns : tie.Need-returns
 returns c =
-    let after-place-marks = c .before .before .before .before .before .before .before .before in
+    let after-place-marks = c .before .before .before .before .before .before .before in
     let after-mark-next = after-place-marks .before .before .before .before .before .before in
     let w = after-mark-next .before .before .before .before in
     let s = Entry w in

@@ -32,7 +32,7 @@ loop-holds c =
     ∙ first-at (a .head) (a .edges .now) (a .links .now) (a .input .symbol) (a .code) _ (start .pre .0)
     (start .pre .1 .0)
     (start .pre .1 .1)
-    (after-unpack .unpack .ensures))
+    (after-unpack .unpack .ensures (start .pre .1 .0 .powered)))
 
 edge-resets-requires : tie.Need-edge-resets-requires Inv-loop μ-loop
 edge-resets-requires c κs = search needs
@@ -46,7 +46,7 @@ returns c =
     let a = start .args in
     looking-found (at-loop .loop .inv) _ (omega (arith, edge-count (a .head) (a .edges .now), in-loop .if1 .taken))
     (resets-is (a .head) (a .edges .now) (start .pre .0) (start .pre .1 .0) (in-loop .if1 .taken) (a .input) (a .code)
-    _ _ (after-unpack .unpack .ensures) (c .before .edge-resets .ensures))
+    _ _ (after-unpack .unpack .ensures (start .pre .1 .0 .powered)) (c .before .edge-resets .ensures))
     (c .if2 .taken)
 
 next-edge-requires : tie.Need-next-edge-requires Inv-loop μ-loop
@@ -75,7 +75,7 @@ loop-again c =
     looking-next (at-loop .loop .inv) _ _ (start .pre .1 .1)
     (omega (arith, edge-count (a .head) (a .edges .now), in-loop .if1 .taken))
     (resets-is (a .head) (a .edges .now) (start .pre .0) (start .pre .1 .0) (in-loop .if1 .taken) (a .input) (a .code)
-    _ _ (after-unpack .unpack .ensures) (c .before .before .edge-resets .ensures))
+    _ _ (after-unpack .unpack .ensures (start .pre .1 .0 .powered)) (c .before .before .edge-resets .ensures))
     (c .before .if2 .left)
     (c .next-edge .ensures)
 

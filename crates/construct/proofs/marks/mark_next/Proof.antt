@@ -1,4 +1,5 @@
--- `construct::marks::mark_next` meets its contract.
+-- `construct::marks::mark_next` meets its contract: the next row is the row's targets, once it is known whether the
+-- timer is reset.
 use borrow.Author.Needs.{needs}
 use Rattle.construct.proofs.TargetMarks.{next-marked}
 use Rattle.construct.proofs.marks.mark_next.Statement.{statement}

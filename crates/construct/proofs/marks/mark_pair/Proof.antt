@@ -9,7 +9,7 @@ use Rattle.construct.proofs.MarkLaws.{marks-again}
 use Rattle.construct.proofs.EdgeLaws.{first-at}
 use Rattle.construct.proofs.TargetMarks.{Pairing, pairing-start, pairing-can, pairing-next, pairing-skip}
 use Rattle.construct.proofs.TargetMarks.{pairing-later, pairing-end}
-use Rattle.construct.specs.Marks.{codesIn}
+use Rattle.bits.specs.Bits.{codesIn}
 use Rattle.construct.proofs.marks.mark_pair.Statement.{statement}
 use Rattle.construct.proofs.marks.mark_pair.Tie as tie
 
@@ -37,7 +37,7 @@ loop-holds c =
           ∙ first-at (a .head) (a .edges .now) (a .links .now) (a .input .symbol) (a .code) _ (start .pre .0 .valid)
           (start .pre .0 .scaled)
           (start .pre .1 .1)
-          (after-unpack .unpack .ensures))
+          (after-unpack .unpack .ensures (start .pre .0 .scaled .powered)))
           (start .pre .1 .0),
     )
 
@@ -48,14 +48,7 @@ target-requires : tie.Need-target-requires Inv-loop μ-loop
 target-requires c κs = search needs
 
 mark-requires : tie.Need-mark-requires Inv-loop μ-loop
-mark-requires c κs =
-    let at-if1 = c .before .before .before .before in
-    let at-loop = at-if1 .before .before in
-    let after-unpack = at-loop .before .before in
-    let start = after-unpack .before .before .before .before in
-    let l = at-loop .loop in
-    pairing-can (l .inv .1) (start .pre .0) (start .pre .1 .1) (at-if1 .if1 .taken) _ _ (after-unpack .unpack .ensures)
-    (c .before .target .ensures) (l .inv .0)
+mark-requires c κs = search needs
 
 next-edge-requires : tie.Need-next-edge-requires Inv-loop μ-loop
 next-edge-requires c κs = search needs
@@ -79,19 +72,24 @@ loop-again c =
     let after-unpack = at-loop .before .before in
     let start = after-unpack .before .before .before .before in
     let l = at-loop .loop in
+    let powered = start .pre .0 .scaled .powered in
+    let pair-is = after-unpack .unpack .ensures powered in
     ⊎-elim
     (λ w. (
       ap length (w .6) ∙ (w .3 .kept .0 ∙ l .inv .0),
-      pairing-next (l .inv .1) (start .pre .0) (start .pre .1 .1) (at-if1 .if1 .taken) _ _ _ _ _ _
-          (after-unpack .unpack .ensures) (c .before .before .allows .ensures) (w .0 .taken)
-          (w .1 .ensures)
-          (marks-again _ _ (w .3 .ensures) (w .6) (w .7))
+      pairing-next (l .inv .1) (start .pre .0) (start .pre .1 .1) (at-if1 .if1 .taken) _ _ _ _ _ _ pair-is
+          (c .before .before .allows .ensures) (w .0 .taken) (w .1 .ensures powered)
+          (marks-again _ _
+          (w .3 .ensures
+          (pairing-can (l .inv .1) (start .pre .0) (start .pre .1 .1) (at-if1 .if1 .taken) _ _ pair-is
+          (w .1 .ensures powered) (l .inv .0)))
+          (w .6) (w .7))
           (c .next-edge .ensures),
     ))
     (λ w. (
       ap length (w .1) ∙ l .inv .0,
-      pairing-skip (l .inv .1) (start .pre .0) (start .pre .1 .1) (at-if1 .if1 .taken) _ _ _ _ _
-          (after-unpack .unpack .ensures) (c .before .before .allows .ensures) (w .0 .left) (w .1) (w .2)
+      pairing-skip (l .inv .1) (start .pre .0) (start .pre .1 .1) (at-if1 .if1 .taken) _ _ _ _ _ pair-is
+          (c .before .before .allows .ensures) (w .0 .left) (w .1) (w .2)
           (c .next-edge .ensures),
     ))
     (c .before .if2 .came)

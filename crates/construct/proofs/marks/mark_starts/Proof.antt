@@ -42,16 +42,7 @@ mul-code c =
     search needs
 
 mark-requires : tie.Need-mark-requires Inv-loop μ-loop
-mark-requires c κs =
-    let at-if1 = c .before .before in
-    let after-has = at-if1 .before in
-    let in-loop = after-has .before in
-    let at-loop = in-loop .before in
-    let start = at-loop .before .before .before in
-    starting-can (at-loop .loop .inv .2) _ _ (start .pre) (at-loop .loop .inv .1)
-    (omega (arith, at-loop .loop .inv .2 .turns, in-loop .loop-test .taken))
-    (known-bit _ (at-loop .loop .inv .0) (after-has .has-bit .ensures) (at-if1 .if1 .taken))
-    (c .before .wide322 .ensures .0)
+mark-requires c κs = search needs
 
 loop-less : tie.Need-loop-less Inv-loop μ-loop
 loop-less c = search needs
@@ -64,13 +55,15 @@ loop-again c =
     let after-has = at-if1 .before in
     let in-loop = after-has .before in
     let at-loop = in-loop .before in
-    let l = at-loop .loop in (
+    let start = at-loop .before .before .before in
+    let l = at-loop .loop in
+    let here = known-bit _ (l .inv .0) (after-has .has-bit .ensures) (at-if1 .if1 .taken) in (
       l .inv .0,
       after-mark .mark .kept .0 ∙ l .inv .1,
-      starting-next (l .inv .2) _ _ _ _ (in-loop .loop-test .taken) refl
-          (known-bit _ (at-loop .loop .inv .0) (after-has .has-bit .ensures) (at-if1 .if1 .taken))
-          (after-wide322 .wide322 .ensures .0)
-          (after-mark .mark .ensures),
+      starting-next (l .inv .2) _ _ _ _ (in-loop .loop-test .taken) refl here (after-wide322 .wide322 .ensures .0)
+          (after-mark .mark .ensures
+          (starting-can (l .inv .2) _ _ (start .pre) (l .inv .1)
+          (omega (arith, l .inv .2 .turns, in-loop .loop-test .taken)) here (after-wide322 .wide322 .ensures .0))),
     )
 
 loop-less-2 : tie.Need-loop-less-2 Inv-loop μ-loop

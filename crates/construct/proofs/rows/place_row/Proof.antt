@@ -1,26 +1,22 @@
--- `construct::rows::place_row` meets its contract: the guess where it is right, else the number of an equal row, else
--- the next.
+-- `construct::rows::place_row` meets its contract: the row placed last where it is right, else the number of an equal
+-- row, else the next.
 use borrow.Author.Needs.{needs}
-use Rattle.construct.proofs.NewRow.{placed-guess, placed-found, placed-new, number-new}
+use Rattle.bits.specs.Bits.{codesIn}
+use Rattle.construct.proofs.NewRow.{placed-last, placed-found, placed-new, number-new}
 use Rattle.construct.proofs.RowTables.{row-within}
 use Rattle.construct.proofs.rows.place_row.Statement.{statement}
 use Rattle.construct.proofs.rows.place_row.Tie as tie
 
--- after the guess was looked at, after the search, and where the function began
-abbrev Guessed : Type 0
-Guessed = tie.After-is-row
+-- where the function began, from after the row placed last was looked at and from after the search
+abbrev Entry : tie.After-is-row → tie.Start
+Entry l = l .before .before .before .before .before .before
 
-abbrev Searched : Type 0
-Searched = tie.After-find-row
-
-abbrev Entry : Guessed → tie.Start
-Entry g = g .before .before .before .before .before .before
-
-abbrev Begun : Searched → tie.Start
-Begun s = Entry (s .before .before .before .before)
+abbrev Begun : tie.After-find-from → tie.Start
+Begun f = Entry (f .before .before .before .before)
 
 is-row-requires : tie.Need-is-row-requires
-is-row-requires c κs = row-within (c .before .before .before .before .before .pre .0)
+is-row-requires c κs =
+    let s = c .before .before .before .before .before in (row-within (s .pre .1), s .pre .0 .count-is)
 
 same-length : tie.Need-same-length
 same-length c = search needs
@@ -30,12 +26,16 @@ same-length-2 c = search needs
 
 returns : tie.Need-returns
 returns c =
-    let g = c .before in
-    placed-guess (Entry g .pre .0) (Entry g .args .codes .now) (Entry g .args .guess) _ (g .is-row .ensures)
-    (c .if1 .taken)
+    let l = c .before in
+    let s = Entry l in
+    placed-last (s .pre .1) (codesIn (s .args .marks .now)) _ (l .is-row .ensures) (c .if1 .taken)
 
-find-row-requires : tie.Need-find-row-requires
-find-row-requires c κs = row-within (Entry (c .before .before .before) .pre .0)
+find-from-requires : tie.Need-find-from-requires
+find-from-requires c κs =
+    let s = Entry (c .before .before .before) in (
+      row-within (s .pre .1),
+      (s .pre .1 .rows-apart, s .pre .0 .count-is),
+    )
 
 enum-known-found : tie.Need-enum-known-found
 enum-known-found c = search needs
@@ -46,13 +46,12 @@ enum-told c = search needs
 add-row-requires : tie.Need-add-row-requires
 add-row-requires c κs =
     let told = c .before .before in
-    let s = told .before .before in
-    let a = Begun s .args in (
-      Begun s .pre .0,
+    let f = told .before .before in
+    let s = Begun f in (
+      s .pre .0,
       (
-        Begun s .pre .1,
-        number-new (Begun s .pre .0) (a .codes .now) _ (s .find-row .ensures)
-            (told .enum-told .given .1),
+        s .pre .1,
+        number-new (s .pre .1) (codesIn (s .args .marks .now)) _ (f .find-from .ensures) (told .enum-told .given .1),
       ),
     )
 
@@ -66,8 +65,9 @@ returns-2 : tie.Need-returns-2
 returns-2 c =
     let after-add-row = c .before .before .before .before in
     let told = after-add-row .before .before .before in
-    let s = told .before .before in
-    placed-new (Begun s .pre .0) (Begun s .args .codes .now) _ (s .find-row .ensures) (told .enum-told .given .1) _ _ _
+    let f = told .before .before in
+    let s = Begun f in
+    placed-new (s .pre .1) (codesIn (s .args .marks .now)) _ (f .find-from .ensures) (told .enum-told .given .1) _ _ _
     (after-add-row .add-row .ensures)
 
 same-length-5 : tie.Need-same-length-5
@@ -78,8 +78,9 @@ same-length-6 c = search needs
 
 returns-3 : tie.Need-returns-3
 returns-3 c =
-    let s = c .before .before .before in
-    placed-found (Begun s .pre .0) (Begun s .args .codes .now) _ _ (s .find-row .ensures) (c .before .found .given .1)
+    let f = c .before .before .before in
+    let s = Begun f in
+    placed-found (s .pre .1) (codesIn (s .args .marks .now)) _ _ (f .find-from .ensures) (c .before .found .given .1)
 
 pub place-row-spec : {M : Type 1} → statement M
 place-row-spec =
@@ -89,7 +90,7 @@ place-row-spec =
     same-length
     same-length-2
     returns
-    find-row-requires
+    find-from-requires
     enum-known-found
     enum-told
     add-row-requires

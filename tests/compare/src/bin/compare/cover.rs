@@ -1,10 +1,11 @@
 //! What came up: refusals call by call, verdicts runner by runner, limits.
 
+use crate::bit_counts;
 use crate::ceiling::{ceilings, less_ceiling, CEILING_BYTES};
 use crate::partners::{edge_at, lacks_partner, only_unpinned, WrongIn};
 use crate::pins::{from_both_sides, Sides};
 use crate::plain::{only_wrong, Wrong};
-use crate::rules::{code_count, edges_in, Edge, EDGE_NUMBERS, FIRST_CONSTANT, MOST_CONSTANT};
+use crate::rules::{code_count, edges_in, top_in, Edge, EDGE_NUMBERS, MOST_CONSTANT};
 use crate::size_counts::{SizeCounts, COUNTS};
 use crate::sizes::EVERY_SIZE;
 use alderskein::raw::{Answer, BranchAnswer, Built};
@@ -138,7 +139,12 @@ impl Cover {
                 .flat_map(|(name, numbers)| numbers.iter().map(|&number| ((*name, number), 0)))
                 .collect(),
             verdicts: RUNNERS.iter().flat_map(|&name| [((name, false), 0), ((name, true), 0)]).collect(),
-            limits: LIMITS.iter().chain(&COUNTS).map(|&name| (name, 0)).collect(),
+            limits: LIMITS
+                .iter()
+                .chain(&COUNTS)
+                .chain(bit_counts::COUNTS.into_iter().flatten())
+                .map(|&name| (name, 0))
+                .collect(),
             by_hand: false,
             written_as: None,
             row_numbers: None,
@@ -156,6 +162,9 @@ impl Cover {
     /// Counts a command with its reply and the state after it.
     pub fn count(&mut self, call: &Call, reply: &Reply, state: &State) {
         self.count_sizes(call, reply, state);
+        for name in bit_counts::seen(call, reply, state) {
+            self.mark(name, true);
+        }
         if matches!(call, Call::Poke { .. } | Call::Resize { .. } | Call::Restore) {
             self.written_as = None;
             self.row_numbers = None;
@@ -322,7 +331,7 @@ impl Cover {
             return self.mark("read: again what was written less a ceiling", again);
         };
         let (locations, clocks) = (state.head.locations as u16, state.head.clocks as u16);
-        let by_ceiling = code_count(locations, clocks, ceiling.max(top(state)));
+        let by_ceiling = code_count(locations, clocks, ceiling.max(top_in(state)));
         self.mark("read: a ceiling, dropped", true);
         self.mark("read: ceiling 0", ceiling == 0);
         self.mark("read: ceiling 30", ceiling == MOST_CONSTANT);
@@ -421,12 +430,6 @@ fn lowest_edge(state: &State, locations: u32, symbol: u16) -> Option<(usize, Edg
     edges_in(state).enumerate().find(|(_, edge)| locations >> edge.source & 1 == 1 && edge.symbol == symbol)
 }
 
-/// cm of the rule in the state.
-fn top(state: &State) -> u16 {
-    let edges = state.edges.chunks_exact(EDGE_NUMBERS).take(state.head.count as usize);
-    edges.flat_map(|edge| edge[FIRST_CONSTANT..].iter().step_by(3)).copied().max().unwrap_or(0)
-}
-
 /// Whether N is 65,536.
 fn largest(built: &Built) -> bool {
     built.locations * (built.top + 2).pow(built.clocks) == 65_536
@@ -434,7 +437,7 @@ fn largest(built: &Built) -> bool {
 
 /// S · W of the rule in the state.
 fn row_cells(state: &State) -> usize {
-    (state.head.symbols * (2 * u32::from(top(state)) + 2)).max(1) as usize
+    (state.head.symbols * (2 * u32::from(top_in(state)) + 2)).max(1) as usize
 }
 
 fn yes_or_no(yes: bool) -> &'static str {

@@ -3,11 +3,11 @@
 use crate::random::Random;
 use crate::rules::{any_atom, any_edge, largest_top, record, some_ends, Edge, Rule, CEILING, MOST_CONSTANT};
 use crate::scene::Scene;
-use alderskein::ROW_TABLE;
+use alderskein::{BUILD_SCRATCH, ROW_TABLE};
 use protocol::{Call, Room, Word};
 
 /// Room for some rows of any rule, so that a build ends soon.
-const FEW_ROWS: Room = Room { scratch: 65_536, cells: 3_000, rows: 36, pool: 300 };
+const FEW_ROWS: Room = Room { scratch: BUILD_SCRATCH, cells: 3_000, rows: 36, pool: 300 };
 
 /// Files at a limit, read, written and decided over.
 pub fn at_limit(scene: &mut Scene) {
@@ -142,7 +142,7 @@ pub fn largest(scene: &mut Scene) {
     rule.edges = (0..count).map(|_| any_edge(scene.random, &rule, constant)).collect();
     rule.edges.push(edge_for_top(scene.random, &rule));
     scene.read_surely(&rule);
-    let scratch = 65_536 - scene.random.pick(&[0, 0, 0, 0, 0, 1]);
+    let scratch = BUILD_SCRATCH - scene.random.pick(&[0, 0, 0, 0, 0, 1]);
     let cells = 150 * 2 * rule.intervals() + scene.random.below(40);
     let rows = scene.random.pick(&[450, 240]);
     scene.build(Room { scratch, cells, rows, pool: 6_000 });
@@ -163,7 +163,7 @@ fn edge_for_top(random: &mut Random, rule: &Rule) -> Edge {
 pub fn many_rows(scene: &mut Scene) {
     let rule = back_in_the_word(12);
     scene.read_surely(&rule);
-    let exact = Room { scratch: 26, cells: 16_384, rows: ROW_TABLE, pool: 28_672 };
+    let exact = Room { scratch: rule.scratch(), cells: 16_384, rows: ROW_TABLE, pool: 28_672 };
     scene.build(exact);
     scene.add(Call::CheckTable);
     let word = scene.word(&rule, 30);
@@ -171,7 +171,7 @@ pub fn many_rows(scene: &mut Scene) {
     scene.build(Room { rows: ROW_TABLE - 1, ..exact });
     let rule = back_in_the_word(13);
     scene.read_surely(&rule);
-    scene.build(Room { scratch: 28, cells: 40_000, rows: 30_000, pool: 200_000 });
+    scene.build(Room { scratch: rule.scratch(), cells: 40_000, rows: 30_000, pool: 200_000 });
 }
 
 /// Accepts the words whose symbol so far back from the end is 1.

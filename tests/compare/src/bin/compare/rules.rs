@@ -20,6 +20,8 @@ pub const RECORD_HEAD: usize = 4;
 /// The kinds of a ceiling record and of an edge record.
 pub const CEILING: u16 = 4;
 pub const EDGE: u16 = 5;
+/// How many codes a number of the build scratch has bits for.
+pub const NUMBER_BITS: usize = 32;
 /// The relations.
 pub const LESS: u16 = 0;
 pub const AT_MOST: u16 = 1;
@@ -117,6 +119,12 @@ pub fn edges_in(state: &State) -> impl Iterator<Item = Edge> + '_ {
     state.edges.chunks_exact(EDGE_NUMBERS).take(state.head.count as usize).map(Edge::of_places)
 }
 
+/// cm of the state's rule.
+pub fn top_in(state: &State) -> u16 {
+    let edges = state.edges.chunks_exact(EDGE_NUMBERS).take(state.head.count as usize);
+    edges.flat_map(|edge| edge[FIRST_CONSTANT..].iter().step_by(ATOM_NUMBERS)).copied().max().unwrap_or(0)
+}
+
 /// Whether an atom holds at these ages.
 pub fn holds(&[clock, relation, constant]: &Atom, ages: &[u32], grain: u32) -> bool {
     let (age, bound) = (ages[usize::from(clock)], u32::from(constant) * grain);
@@ -155,6 +163,11 @@ impl Rule {
         code_count(self.locations, self.clocks, self.top())
     }
 
+    /// The numbers of build scratch that it needs.
+    pub fn scratch(&self) -> usize {
+        scratch_for(self.code_count())
+    }
+
     /// W.
     pub fn intervals(&self) -> usize {
         2 * usize::from(self.top()) + 2
@@ -164,6 +177,11 @@ impl Rule {
 /// N for so many locations and clocks and this cm.
 pub fn code_count(locations: u16, clocks: u16, top: u16) -> usize {
     usize::from(locations) * (usize::from(top) + 2).pow(u32::from(clocks))
+}
+
+/// The numbers of build scratch for so many codes: a bit each, N / 32 rounded up.
+pub fn scratch_for(code_count: usize) -> usize {
+    code_count.div_ceil(NUMBER_BITS)
 }
 
 /// The largest cm for so many locations and clocks.

@@ -198,7 +198,7 @@ pub fn needs_in(rule: &Rule, most: Room) -> Option<Needs> {
     let built = reference::build_table(&head, &edges, &mut scratch, &mut cells, &mut rows, &mut pool).ok()?;
     let row_count = built.rows as usize;
     let room = Room {
-        scratch: rule.code_count(),
+        scratch: rule.scratch(),
         cells: row_count * usize::from(rule.symbols) * rule.intervals(),
         rows: ROW_NUMBERS * row_count,
         pool: built.pool as usize,

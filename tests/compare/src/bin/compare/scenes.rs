@@ -1,5 +1,6 @@
 //! The kinds of scenes.
 
+use crate::bits;
 use crate::ceiling;
 use crate::damage::{damaged_file, rubbish};
 use crate::held::held_back;
@@ -12,12 +13,13 @@ use crate::sizes::{self, EVERY_SIZE};
 use crate::tables;
 use crate::verdicts;
 use crate::words::spoil;
+use alderskein::BUILD_SCRATCH;
 use protocol::{Call, Room, What, Word};
 
 type Kind = fn(&mut Scene);
 
 /// The common kinds with their weights.
-const COMMON: [(&str, usize, Kind); 14] = [
+const COMMON: [(&str, usize, Kind); 15] = [
     ("whole rules", 30, whole_rule),
     ("damaged files", 25, damaged),
     ("changed rules", 15, changed_rule),
@@ -32,6 +34,7 @@ const COMMON: [(&str, usize, Kind); 14] = [
     ("words held back", 15, held_back),
     ("files with a ceiling", 10, ceiling::dropped),
     ("pins from both sides", 10, pins::both_sides),
+    ("scratch in bits", 12, bits::near_32),
 ];
 
 /// The costly kinds: one scene in so many, the first one early. Where two meet it is the upper one's turn, so that
@@ -123,7 +126,7 @@ fn wide_rule(scene: &mut Scene) {
     scene.read(rule.file());
     scene.add(Call::CheckRule);
     scene.write(&rule.file());
-    scene.build(Room { scratch: rule.code_count(), cells: 30_000, rows: 450, pool: 20_000 });
+    scene.build(Room { scratch: rule.scratch(), cells: 30_000, rows: 450, pool: 20_000 });
     for _ in 0..3 {
         let word = scene.word(&rule, 8);
         scene.run_everywhere(&rule, &word);
@@ -163,7 +166,7 @@ fn changed_rule(scene: &mut Scene) {
         }
         scene.add(Call::CheckRule);
         scene.write(&rule.file());
-        scene.build(Room { scratch: 65_536, cells: 2_000, rows: 150, pool: 500 });
+        scene.build(Room { scratch: BUILD_SCRATCH, cells: 2_000, rows: 150, pool: 500 });
         let word = scene.any_word(&rule, 3);
         scene.exact(&rule, word.clone());
         // A search that is short over the rule can be long over the changed one.

@@ -174,10 +174,10 @@ fn all_differ(bases: &[u32]) -> bool {
 }
 
 /// L, K and cm as a file spells them.
-fn size_in(file: &[u8]) -> Option<Size> {
+pub fn size_in(file: &[u8]) -> Option<Size> {
     let records = records_in(file);
     let sizes = numbers_in(records.first()?.2);
     let edges = records.iter().filter_map(|&(place, ..)| edge_at(file, place));
-    let top = edges.flat_map(|edge| edge.atoms).map(|[_, _, constant]| constant).max()?;
+    let top = edges.flat_map(|edge| edge.atoms).map(|[_, _, constant]| constant).max().unwrap_or(0);
     Some(Size { locations: *sizes.first()?, clocks: *sizes.get(2)?, top })
 }

@@ -47,7 +47,7 @@ impl Size {
 }
 
 /// Every size with N at most 65,536, by K, L and cm.
-fn all_sizes() -> impl Iterator<Item = Size> {
+pub fn all_sizes() -> impl Iterator<Item = Size> {
     let shapes = (1..=MOST_CLOCKS).flat_map(|clocks| (1..=MOST_LOCATIONS).map(move |count| (count, clocks)));
     let sizes = shapes
         .flat_map(|(locations, clocks)| (0..=MOST_CONSTANT).map(move |top| Size { locations, clocks, top }));
@@ -96,7 +96,7 @@ fn enlarged(rule: &Rule, size: Size) -> Rule {
 
 /// A rule of this size that is built soon, and the room that its table needs. If the reference builds none, which the
 /// comparison then shows, any rule and room for few rows.
-fn built_soon(random: &mut Random, size: Size) -> (Rule, Room) {
+pub fn built_soon(random: &mut Random, size: Size) -> (Rule, Room) {
     let mut rule = sized_rule(random, size);
     for _ in 0..MOST_TRIES {
         if let Some(needs) = needs_in(&rule, few_rows(&rule)) {
@@ -110,7 +110,7 @@ fn built_soon(random: &mut Random, size: Size) -> (Rule, Room) {
 
 fn few_rows(rule: &Rule) -> Room {
     let cells = FEW_ROWS * usize::from(rule.symbols) * rule.intervals();
-    Room { scratch: rule.code_count(), cells, rows: FEW_ROWS * ROW_NUMBERS, pool: FEW_CODES }
+    Room { scratch: rule.scratch(), cells, rows: FEW_ROWS * ROW_NUMBERS, pool: FEW_CODES }
 }
 
 /// A rule of this size: edges up to the highest code, and some others.

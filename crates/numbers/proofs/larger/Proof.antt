@@ -1,0 +1,13 @@
+-- `numbers::larger` meets its contract.
+use Rattle.numbers.proofs.TwoNumbers.{larger-second, larger-first}
+use Rattle.numbers.proofs.larger.Statement.{statement}
+use Rattle.numbers.proofs.larger.Tie as tie
+
+returns : tie.Need-returns
+returns c = larger-second (c .before .args .a) (c .before .args .b) (c .if1 .taken)
+
+returns-2 : tie.Need-returns-2
+returns-2 c = larger-first (c .before .args .a) (c .before .args .b) (c .if1 .left)
+
+pub larger-spec : {M : Type 1} → statement M
+larger-spec = tie.close (tie.spec returns returns-2)
