@@ -109,18 +109,18 @@ shl-one-is k h =
     rw o (mod-eq-of-lt p)
 
 -- The codes of one number: those written, and those still in the rest.
-pub record Writing (word first at : ℕ) (was out : List ℕ) (rest to : ℕ) (done : List ℕ) : Type 0 where
+pub record Writing (bits first at : ℕ) (was out : List ℕ) (rest to : ℕ) (done : List ℕ) : Type 0 where
   pub rest-fits : rest < 2 ^ 32
-  pub all-are : done ++ numberCodes 32 first rest ≡ numberCodes 32 first word
+  pub all-are : done ++ numberCodes 32 first rest ≡ numberCodes 32 first bits
   pub to-is : to ≡ at + length done
   pub out-is : out ≡ laid was at done
   pub long : length out ≡ length was
-  pub room : at + length (numberCodes 32 first word) ≤ length was
+  pub room : at + length (numberCodes 32 first bits) ≤ length was
 
 pub writing-start :
-    (word first at : ℕ) (was : List ℕ) → word < 2 ^ 32 → at + length (numberCodes 32 first word) ≤ length was
-    → Writing word first at was was word at []
-writing-start word first at was h g = record {
+    (bits first at : ℕ) (was : List ℕ) → bits < 2 ^ 32 → at + length (numberCodes 32 first bits) ≤ length was
+    → Writing bits first at was was bits at []
+writing-start bits first at was h g = record {
   rest-fits = h;
   all-are = refl;
   to-is = omega arith;
@@ -130,19 +130,19 @@ writing-start word first at was h g = record {
 }
 
 module _
-    {word first at : ℕ} {was out : List ℕ} {rest to : ℕ} {done : List ℕ}
-    (w : Writing word first at was out rest to done) (low : Lowest 32 first rest (trailingZeros 32 rest)) where
+    {bits first at : ℕ} {was out : List ℕ} {rest to : ℕ} {done : List ℕ}
+    (w : Writing bits first at was out rest to done) (low : Lowest 32 first rest (trailingZeros 32 rest)) where
   abbrev left : List ℕ
   left = numberCodes 32 first (rest - 2 ^ trailingZeros 32 rest)
 
   abbrev next : ℕ
   next = first + trailingZeros 32 rest
 
-  all-next : (done ++ (next ∷ [])) ++ left ≡ numberCodes 32 first word
+  all-next : (done ++ (next ∷ [])) ++ left ≡ numberCodes 32 first bits
   all-next =
       append-assoc done (next ∷ []) left ∙ (sym (ap (λ (l : List ℕ). done ++ l) (low .codes-are)) ∙ w .all-are)
 
-  sizes : length done + suc (length left) ≡ length (numberCodes 32 first word)
+  sizes : length done + suc (length left) ≡ length (numberCodes 32 first bits)
   sizes =
       sym (length-append done (next ∷ left))
       ∙ ap length (sym (ap (λ (l : List ℕ). done ++ l) (low .codes-are)) ∙ w .all-are)
@@ -152,7 +152,7 @@ module _
 
   pub writing-next :
       (v : ℕ) (rest′ to′ : ℕ) → v ≡ next → rest′ ≡ rest - 2 ^ trailingZeros 32 rest → to′ ≡ to + 1
-      → Writing word first at was (set out to v) rest′ to′ (done ++ (next ∷ []))
+      → Writing bits first at was (set out to v) rest′ to′ (done ++ (next ∷ []))
   writing-next v rest′ to′ e f g =
       let inside : at + length done < length was = omega (arith, w .to-is, w .long, writing-room) in
       record {
@@ -166,11 +166,11 @@ module _
       }
 
 pub writing-end :
-    {word first at : ℕ} {was out : List ℕ} {rest to : ℕ} {done : List ℕ} → Writing word first at was out rest to done
+    {bits first at : ℕ} {was out : List ℕ} {rest to : ℕ} {done : List ℕ} → Writing bits first at was out rest to done
     → rest ≡ 0
-    → (to ≡ at + length (numberCodes 32 first word)) × (out ≡ laid was at (numberCodes 32 first word))
-writing-end {word} {first} {at} {was} {out} {rest} {to} {done} w z =
-    let e : done ≡ numberCodes 32 first word =
+    → (to ≡ at + length (numberCodes 32 first bits)) × (out ≡ laid was at (numberCodes 32 first bits))
+writing-end {bits} {first} {at} {was} {out} {rest} {to} {done} w z =
+    let e : done ≡ numberCodes 32 first bits =
     sym (append-nil done)
     ∙ (sym (ap (λ (l : List ℕ). done ++ l) (ap (numberCodes 32 first) z ∙ number-zero 32 first)) ∙ w .all-are) in
     (w .to-is ∙ ap (λ (l : List ℕ). at + length l) e, w .out-is ∙ ap (laid was at) e)
