@@ -7,7 +7,7 @@ use native.Mathlib.Nat.{mod-eq-of-lt}
 use lib.Pow.{pow-lt}
 use native.Mathlib.Numerals.{add-one}
 use lib.ListN.{length, getD, set, take, drop, length-append, length-set, take-append-drop}
-use lib.ListN.{replicate-append-replicate}
+use lib.ListN.{length-drop, length-replicate, replicate-append-replicate}
 use lib.Count.{trailingZeros}
 use lib.Dec.{leb}
 use lib.Seq.{drop-length}
@@ -265,10 +265,16 @@ clearing-start span was s =
           sym (take-append-drop (span .low) was) ∙ ap (λ (l : List ℕ). l ++ drop (span .low) was) front;
     }
 
+clearing-long : {was marks : List ℕ} {k : ℕ} → Clearing was marks k → length marks ≡ length was
+clearing-long {was} {marks} {k} m =
+    ap length (m .marks-are)
+    ∙ (length-append (zeros k) (drop k was) ∙ simp (length-replicate, length-drop) (omega (arith, m .inside)))
+
 pub clearing-next :
-    {was marks : List ℕ} {k : ℕ} → Clearing was marks k → k < length was → Clearing was (set marks k 0) (k + 1)
+    {was marks : List ℕ} {k : ℕ} → Clearing was marks k → k < length marks → Clearing was (set marks k 0) (k + 1)
 clearing-next {was} {marks} {k} m h =
-    record { inside = omega arith; marks-are = rw (m .marks-are) (fill-more k 0 was h) }
+    let inside : k < length was = omega (arith, clearing-long m) in
+    record { inside = omega arith; marks-are = rw (m .marks-are) (fill-more k 0 was inside) }
 
 pub clearing-end :
     {was marks : List ℕ} {k past : ℕ} (span : Span) → InSpan was span

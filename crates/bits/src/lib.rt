@@ -107,13 +107,19 @@ pub fn lay_codes(marks: &[u32], span: Span, out: &mut [u32])
     }
 }
 
-// Takes the marks away.
+// Takes the marks away. Mostly they lie in one number, so the first stands before the loop, of which the compiler makes a
+// call.
 pub fn unmark(marks: &mut [u32], span: Span)
     ensures { λ _.
         ⌜ (InSpan (now (marks .entry)) span → now (marks .exit) ≡ zeros (length (now (marks .entry)))) ⌝ }
 {
     let past = lesser(span.past, marks.len());
     let mut k = span.low;
+    if past <= k {
+        return;
+    }
+    marks[k] = 0;
+    k += 1;
     while k < past {
         marks[k] = 0;
         k += 1;
