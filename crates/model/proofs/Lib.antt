@@ -94,3 +94,10 @@ pub mod ThreeCalls
 pub mod Decision
 -- The runners agree
 pub mod Runners
+-- The list of words: half seconds; each word once, how many; words alike; the word after another; in order; short lists
+-- and whole answers by computation
+pub mod Seconds
+pub mod Lists
+pub mod Alike
+pub mod NextWord
+pub mod ListExamples

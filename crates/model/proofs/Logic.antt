@@ -24,6 +24,11 @@ same-truth true b f g = sym (f refl)
 same-truth false true f g = g refl
 same-truth false false f g = refl
 
+pub eqb-suc : (a b : ℕ) → eqb (suc a) (suc b) ≡ eqb a b
+eqb-suc a b =
+    same-truth (eqb (suc a) (suc b)) (eqb a b) (λ e. eq-eqb a b (omega (arith, eqb-true (suc a) (suc b) e)))
+    (λ e. eq-eqb (suc a) (suc b) (omega (arith, eqb-true a b e)))
+
 pub and-left : (a b : Bool) → (a && b) ≡ true → a ≡ true
 and-left true b h = refl
 and-left false b h = h

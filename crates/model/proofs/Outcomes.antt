@@ -13,9 +13,12 @@ use Rattle.model.specs.declared.Follower.{Follower}
 use Rattle.model.specs.declared.Started.{Started}
 use Rattle.model.specs.declared.Followed.{Followed}
 use Rattle.model.specs.declared.Moved.{Moved}
+use Rattle.model.specs.declared.Size.{Size}
+use Rattle.model.specs.declared.Listed.{Listed}
+use Rattle.model.specs.declared.Next.{Next}
 use Rattle.model.specs.Promises.{ChecksRule, ChecksWord, ChecksTable, ReadsRule, WritesRule, BuildsTable}
 use Rattle.model.specs.Promises.{RunsExact, RunsBranches, RunsTable, StartsFollower, FollowsEvent}
-use Rattle.model.specs.Promises.{FollowsInPlace, Decides}
+use Rattle.model.specs.Promises.{FollowsInPlace, Decides, GivesNext}
 
 -- two things that equal a third
 both : {A : Type 0} {x y z : A} → x ≡ z → y ≡ z → x ≡ y
@@ -106,3 +109,6 @@ one-decision a e e₁ e₂ s s₁ s₂ c c₁ c₂ n n₁ n₂ m m₁ m₂ d xs 
   both (p .rows-are) (q .rows-are),
   both (p .pool-is) (q .pool-is),
 )
+
+pub one-next-word : (z : Size) (w : Listed) (x y : Next) → GivesNext z w x → GivesNext z w y → x ≡ y
+one-next-word z w x y p q = both (p .answer-is) (q .answer-is)

@@ -7,6 +7,7 @@ use lib.ListN.{length, getD}
 use Rattle.model.specs.Basics.{pick, oneIf, isIn, same, zeros, quotient, remainder}
 use Rattle.model.specs.Rules.{Atom, Edge, Rule, cm, baseCount}
 use Rattle.model.specs.Words.{Event}
+use Rattle.model.specs.Alike.{halfSeconds}
 use Rattle.model.specs.Guards.{guard, isMet}
 use Rattle.model.specs.Runs.{zeroed}
 
@@ -21,10 +22,9 @@ intervalCount c = 2 * c + 2
 abbrev pub width : Rule → ℕ
 width r = intervalCount (cm r)
 
--- the interval of an age, for a cm and a D
+-- the interval of an age, for a cm and a D: up to cm its half seconds
 abbrev pub intervalOf : ℕ → ℕ → ℕ → ℕ
-intervalOf c d age =
-    pick (ltb (c * d) age) (topInterval c) (2 * quotient age d + oneIf (leb 1 (remainder age d)))
+intervalOf c d age = pick (ltb (c * d) age) (topInterval c) (halfSeconds d age)
 
 -- a clock's region: its base plus the timer's interval, "above cm" absorbing
 abbrev pub regionOf : ℕ → ℕ → ℕ → ℕ

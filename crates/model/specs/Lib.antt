@@ -5,6 +5,8 @@ pub mod Basics
 pub mod Rules
 -- "The rule": words, and what a word may not be (30 to 33)
 pub mod Words
+-- Words alike, and half seconds (2.6)
+pub mod Alike
 -- "The rule": guards, and the first atom that does not hold (2.1)
 pub mod Guards
 -- "The rule": ages, runs, acceptance; "Runners": the least accepting run, what held the rule back (2.1), configurations
@@ -20,10 +22,12 @@ pub mod Construction
 pub mod Tables
 -- "Runners": tables in shape (25), the step of the one timer, the follower (34)
 pub mod Walks
+-- All words up to a size, in order; the word after another (2.6: 38, 39)
+pub mod Lists
 -- What every public entry promises: its answer and every lent buffer at exit
 pub mod Promises
 -- Demands 2 and 3 as claims about the definitions and the promises
 pub mod Demands
 -- Further claims that pin the definitions: runs, configurations, successor sets, the tables by place, the follower,
--- guards, what held a rule back, what pins a guard
+-- guards, what held a rule back, what pins a guard, the list of words
 pub mod Claims

@@ -18,6 +18,9 @@ use Rattle.model.specs.declared.Follower.{Follower}
 use Rattle.model.specs.declared.Started.{Started}
 use Rattle.model.specs.declared.Followed.{Followed}
 use Rattle.model.specs.declared.Moved.{Moved}
+use Rattle.model.specs.declared.Size.{Size}
+use Rattle.model.specs.declared.Listed.{Listed}
+use Rattle.model.specs.declared.Next.{Next}
 use Rattle.model.specs.Basics.{pick, oneIf, zeros, filled, written, Refusal, refuse, passes, _⨾_}
 use Rattle.model.specs.Rules.{Rule}
 use Rattle.model.specs.Words.{Event, eventsOf, mostEvents, mostBranchEvents, grainOk, wordRefusal}
@@ -27,6 +30,7 @@ use Rattle.model.specs.Files.{readRule, ruleBytes}
 use Rattle.model.specs.Layout.{edgeNeed, headOf, noHead, edgeTable, ruleIn, ruleRefusal}
 use Rattle.model.specs.Tables.{Tables, tables, tablesOf, builtOf, noBuilt, tableRefusal}
 use Rattle.model.specs.Walks.{shapeRefusal, verdict, startAt, step, tableAccepts, followRefusal}
+use Rattle.model.specs.Lists.{Following, listOf, following, listedOf, eventsIn, listRefusal}
 
 -- the refusal with its place and value 0, or the value
 abbrev pub answerOf : Refusal → ℕ → Answer
@@ -250,3 +254,15 @@ pub record Decides
       ≡ decideLeaves (readRefusal file edges) (roomedRefusal file scratch cells rows pool)
       (tablesMade (readRule file .rule-is) cells rows pool .pool)
       pool
+
+-- next_word (2.6): 38, 39. The next word of the list; the same word where it was the last, and on a refusal.
+abbrev pub nextOf : Refusal → Following → Listed → Next
+nextOf f after word = record {
+  number = f .number;
+  place = f .place;
+  last = passes f && not (after .some);
+  word = pick (passes f && after .some) (listedOf (after .word)) word;
+}
+
+pub record GivesNext (size : Size) (word : Listed) (answer : Next) : Type 0 where
+  pub answer-is : answer ≡ nextOf (listRefusal size word) (following (eventsIn word) (listOf size)) word

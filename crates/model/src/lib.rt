@@ -35,6 +35,13 @@ pub const MOST_BRANCH_EVENTS: usize = 12;
 
 pub const MOST_ROWS: usize = 4096;
 
+// The sizes of a list of words: its events and whole seconds at most, and its D.
+pub const MOST_LISTED: usize = 6;
+
+pub const MOST_SECONDS: usize = 30;
+
+pub const LIST_GRAIN: usize = 2;
+
 // Bytes of a file: of a number, of body length and kind, of the bodies of sizes, an edge's four fields, an atom and the
 // longest edge.
 pub const NUMBER_BYTES: usize = 2;
@@ -203,4 +210,29 @@ pub struct Moved {
     pub number: u8,
     pub place: usize,
     pub yes: bool,
+}
+
+// The size of a list of words: S symbols, at most m `events`, stamps up to H whole `seconds`.
+#[repr(C)]
+pub struct Size {
+    pub symbols: u32,
+    pub events: u32,
+    pub seconds: u32,
+}
+
+// A word by value, D = 2: its number of events and six places, unused ones zero.
+#[repr(C)]
+pub struct Listed {
+    pub count: u32,
+    pub symbols: [u16; 6],
+    pub stamps: [u32; 6],
+}
+
+// The next word of a list; `last`: there is none, and the word is the one given. It is that on a refusal too.
+#[repr(C)]
+pub struct Next {
+    pub number: u8,
+    pub place: usize,
+    pub last: bool,
+    pub word: Listed,
 }
