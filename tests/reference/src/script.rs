@@ -1,9 +1,9 @@
 //! The script protocol: one command per line in, one result line per command out.
 
 use crate::{
-    build_table, check_rule, check_table, check_word, decide, follow_event, follow_event_in_place,
-    list_table, read_rule, run_branches, run_exact, run_table, start_follower, write_rule, Built, Follower,
-    Head, Refusal,
+    all_words, build_table, check_rule, check_table, check_word, count_words, decide, follow_event,
+    follow_event_in_place, list_table, next_word, read_rule, run_branches, run_exact, run_table,
+    start_follower, write_rule, Built, Follower, Head, Listed, Refusal, Size, MOST_LISTED_EVENTS,
 };
 use std::io::{self, BufRead, Write};
 use std::str::SplitAsciiWhitespace;
@@ -68,6 +68,8 @@ impl Machine {
             "check_word" => check_word_command(fields),
             "check_table" => state.check_table(fields),
             "decide" => decide_command(fields),
+            "next" => next_command(fields),
+            "words" => words_command(fields),
             "poke" => state.poke(fields),
             "resize" => state.resize(fields),
             "state" => state.show(fields),
@@ -336,6 +338,32 @@ fn decide_command(mut fields: Fields) -> Option<String> {
     ))
 }
 
+fn next_command(mut fields: Fields) -> Option<String> {
+    let (size, count) = (fields.size()?, fields.number()?);
+    let (symbols, stamps): (Vec<u16>, Vec<u32>) = (fields.list()?, fields.list()?);
+    fields.end()?;
+    let word = Listed { count, symbols: symbols.try_into().ok()?, stamps: stamps.try_into().ok()? };
+    let outcome = next_word(size, &word);
+    let Listed { count, symbols, stamps } = outcome.ok().flatten().unwrap_or(word);
+    let more = verdict_text(outcome.map(|next| next.is_some()));
+    Some(format!("{more} {count} {} {}", numbers_text(&symbols), numbers_text(&stamps)))
+}
+
+/// The whole list, hashed word by word; a list of more numbers than a buffer may have is malformed.
+fn words_command(mut fields: Fields) -> Option<String> {
+    let size = fields.size()?;
+    fields.end()?;
+    if count_words(size).is_ok_and(|total| LISTED_NUMBERS * total > MOST_NUMBERS as u64) {
+        return None;
+    }
+    let (mut total, mut hash) = (0, FNV_OFFSET);
+    let outcome = all_words(size, |word| {
+        total += 1;
+        hash = hash_listed(hash, word);
+    });
+    Some(result_text(outcome.map(|()| format!("{total} {}:{hash:016x}", LISTED_NUMBERS * total))))
+}
+
 /// The fields of a command, taken one by one; nothing if one is missing or malformed.
 struct Fields<'a>(SplitAsciiWhitespace<'a>);
 
@@ -365,6 +393,11 @@ impl<'a> Fields<'a> {
     /// D, symbols and stamps.
     fn word(&mut self) -> Option<(u32, Vec<u16>, Vec<u32>)> {
         Some((self.number()?, self.list()?, self.list()?))
+    }
+
+    /// S, m and H.
+    fn size(&mut self) -> Option<Size> {
+        Some(Size { symbols: self.number()?, events: self.number()?, seconds: self.number()? })
     }
 
     /// Passes if no field is left.
@@ -493,6 +526,16 @@ fn buffer_text<T: Copy + Into<u64>>(numbers: &[T]) -> String {
 
 const FNV_OFFSET: u64 = 0xcbf2_9ce4_8422_2325;
 const FNV_PRIME: u64 = 0x100_0000_01b3;
+
+/// Numbers of a listed word: the count, the symbols, the stamps.
+const LISTED_NUMBERS: u64 = 1 + 2 * MOST_LISTED_EVENTS as u64;
+
+/// The hash with a listed word's numbers after it.
+fn hash_listed(hash: u64, word: &Listed) -> u64 {
+    let hash = hash_number(hash, word.count.into());
+    let hash = word.symbols.iter().fold(hash, |hash, &symbol| hash_number(hash, symbol.into()));
+    word.stamps.iter().fold(hash, |hash, &stamp| hash_number(hash, stamp.into()))
+}
 
 /// FNV-1a 64 over a number's eight bytes. A zero byte only multiplies, so a small number takes one step.
 fn hash_number(hash: u64, number: u64) -> u64 {
