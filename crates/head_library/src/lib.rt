@@ -2,6 +2,7 @@
 // Records cross by value, a lent table as pointer and length, the follower kept in place as one pointer.
 ghost use Rattle.model.specs.Promises.{ChecksRule, ChecksWord, ChecksTable, ReadsRule, WritesRule, BuildsTable};
 ghost use Rattle.model.specs.Promises.{RunsExact, RunsTable, StartsFollower, FollowsEvent, FollowsInPlace, Decides};
+ghost use Rattle.model.specs.Promises.{GivesNext};
 ghost use Rattle.head_library.specs.Lent.{RunsBranchesInto};
 use model::Answer;
 use model::Building;
@@ -9,9 +10,12 @@ use model::Built;
 use model::Followed;
 use model::Follower;
 use model::Head;
+use model::Listed;
 use model::MOST_BRANCH_EVENTS;
 use model::Moved;
+use model::Next;
 use model::Reading;
+use model::Size;
 use model::Stamp;
 use model::Started;
 
@@ -233,4 +237,11 @@ pub extern "C" fn alderskein_decide(
         symbols,
         stamps,
     )
+}
+
+#[no_mangle]
+pub extern "C" fn alderskein_next_word(size: Size, word: Listed) -> Next
+    ensures { λ r. ⌜ GivesNext size word r ⌝ }
+{
+    lists::next_word(size, word)
 }
