@@ -35,6 +35,9 @@
  *       at an odd interval number, a stored verdict that differs from what the row's codes say
  *   26  more configurations than room after event i; place: i, 0 before the first event
  *   27  output shorter than the file to be written
+ *   38  size of a list of words with S outside 1 to 16, m over 6 or H over 30
+ *   39  word that is not in the list: more than m events, a symbol not below S, a stamp above 2H or below the
+ *       one before, an unused place that is not zero
  *   34  follower with row not below R, reset stamp above last stamp or no multiple of D, or count over 4,096
  *
  *   THE SENDER OF THE WORD; place: event from 1, 0 for 30 and 31. The earliest bad event is named.
@@ -66,6 +69,9 @@ extern "C" {
 /* The most events of a word, and of a word run by branch. */
 #define ALDERSKEIN_EVENTS 4096
 #define ALDERSKEIN_BRANCH_EVENTS 12
+/* The most events of a word of a list, and the D of its stamps: half seconds. */
+#define ALDERSKEIN_LISTED_EVENTS 6
+#define ALDERSKEIN_LIST_GRAIN 2
 /* The most rows of a table. */
 #define ALDERSKEIN_ROWS 4096
 /* The numbers of a row in the row table: start, length, verdict; and the row numbers of the most rows. */
@@ -156,6 +162,27 @@ typedef struct {
     size_t place;
     bool yes;
 } alderskein_moved;
+
+/* The size of a list of words. */
+typedef struct {
+    uint32_t symbols; /* S, 1 to 16 */
+    uint32_t events;  /* m, the most events of a word, 0 to 6 */
+    uint32_t seconds; /* H, the whole seconds up to which stamps go, 0 to 30 */
+} alderskein_size;
+
+/* A word of a list, by value. Unused places are zero. */
+typedef struct {
+    uint32_t count;                              /* events */
+    uint16_t symbols[ALDERSKEIN_LISTED_EVENTS];
+    uint32_t stamps[ALDERSKEIN_LISTED_EVENTS];   /* half seconds */
+} alderskein_listed;
+
+typedef struct {
+    uint8_t number;
+    size_t place;
+    bool last;              /* the word given was the last; false on a refusal */
+    alderskein_listed word; /* the next word; the word given where that was the last, and on a refusal */
+} alderskein_next;
 
 /*
  * Checks that a head record and an edge table are what reading some accepted file leaves.
@@ -292,6 +319,14 @@ alderskein_answer alderskein_decide(const uint8_t *file, size_t file_length,
                                     uint32_t *pool, size_t pool_length, uint32_t grain,
                                     const uint16_t *symbols, size_t symbols_length,
                                     const uint32_t *stamps, size_t stamps_length);
+
+/*
+ * The word after another in the list of all words up to a size: D = 2, at most m events, symbols below S,
+ * stamps from 0 to 2H that never fall; shorter words first, among equal lengths by event, stamp before symbol.
+ * The first is the empty word, all zero. If the word is the last, `last` is true and the same word comes back.
+ * Refuses: 38, 39; then `last` is false and the word comes back as it was given.
+ */
+alderskein_next alderskein_next_word(alderskein_size size, alderskein_listed word);
 
 #ifdef __cplusplus
 }

@@ -10,6 +10,9 @@
 /// The most events of a word run by branch.
 pub const BRANCH_EVENTS: usize = 12;
 
+/// The most events of a word of a list.
+pub const LISTED_EVENTS: usize = 6;
+
 /// A time since the start of the word, in D-ths of a second.
 #[repr(C)]
 #[derive(Clone, Copy, Debug, Default, PartialEq, Eq, PartialOrd, Ord, Hash)]
@@ -161,6 +164,44 @@ pub struct Moved {
     pub yes: bool,
 }
 
+/// The size of a list of words.
+#[repr(C)]
+#[derive(Clone, Copy, Debug, Default, PartialEq, Eq, Hash)]
+pub struct Size {
+    /// S, the count of symbols.
+    pub symbols: u32,
+    /// m, the most events of a word.
+    pub events: u32,
+    /// H, the whole seconds up to which stamps go.
+    pub seconds: u32,
+}
+
+/// A word of a list by value, D being 2. Unused places are zero.
+#[repr(C)]
+#[derive(Clone, Copy, Debug, Default, PartialEq, Eq, Hash)]
+pub struct Listed {
+    /// The count of events.
+    pub count: u32,
+    /// The events' symbols.
+    pub symbols: [u16; LISTED_EVENTS],
+    /// The events' stamps, in half seconds.
+    pub stamps: [u32; LISTED_EVENTS],
+}
+
+/// The next word of a list.
+#[repr(C)]
+#[derive(Clone, Copy, Debug, Default, PartialEq, Eq)]
+pub struct Next {
+    /// The refusal's number, 0 for none.
+    pub number: u8,
+    /// The refusal's place.
+    pub place: usize,
+    /// Whether the word given was the last, false on a refusal.
+    pub last: bool,
+    /// The next word; the word given where that was the last, and on a refusal.
+    pub word: Listed,
+}
+
 /// The C names. A lent table is a pointer and a count.
 mod c {
     use super::*;
@@ -219,6 +260,7 @@ mod c {
             rows: *mut u32, rows_length: usize, pool: *mut u32, pool_length: usize, grain: u32,
             symbols: *const u16, symbols_length: usize, stamps: *const u32, stamps_length: usize,
         ) -> Answer;
+        pub fn alderskein_next_word(size: Size, word: Listed) -> Next;
     }
 }
 
@@ -406,4 +448,10 @@ pub fn decide(
             grain, symbols.as_ptr(), symbols.len(), stamps.as_ptr(), stamps.len(),
         )
     }
+}
+
+/// The word after another in the list of all words up to a size: 38, 39.
+#[inline]
+pub fn next_word(size: Size, word: Listed) -> Next {
+    unsafe { c::alderskein_next_word(size, word) }
 }
