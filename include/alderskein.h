@@ -35,10 +35,10 @@
  *       at an odd interval number, a stored verdict that differs from what the row's codes say
  *   26  more configurations than room after event i; place: i, 0 before the first event
  *   27  output shorter than the file to be written
+ *   34  follower with row not below R, reset stamp above last stamp or no multiple of D, or count over 4,096
  *   38  size of a list of words with S outside 1 to 16, m over 6 or H over 30
  *   39  word that is not in the list: more than m events, a symbol not below S, a stamp above 2H or below the
  *       one before, an unused place that is not zero
- *   34  follower with row not below R, reset stamp above last stamp or no multiple of D, or count over 4,096
  *
  *   THE SENDER OF THE WORD; place: event from 1, 0 for 30 and 31. The earliest bad event is named.
  *   30  D outside 1 to 1,000
@@ -172,9 +172,9 @@ typedef struct {
 
 /* A word of a list, by value. Unused places are zero. */
 typedef struct {
-    uint32_t count;                              /* events */
+    uint32_t count; /* events */
     uint16_t symbols[ALDERSKEIN_LISTED_EVENTS];
-    uint32_t stamps[ALDERSKEIN_LISTED_EVENTS];   /* half seconds */
+    uint32_t stamps[ALDERSKEIN_LISTED_EVENTS]; /* half seconds */
 } alderskein_listed;
 
 typedef struct {
