@@ -100,4 +100,5 @@ pub mod Seconds
 pub mod Lists
 pub mod Alike
 pub mod NextWord
+pub mod ListOrder
 pub mod ListExamples

@@ -95,7 +95,7 @@ unfolding countIf
 count-both p [] ys = omega arith
 count-both p (x ∷ xs) ys = ap (λ (k : ℕ). oneIf (p x) + k) (count-both p xs ys) ∙ omega arith
 
-none-empty : (v : Event) (ws : List (List Event)) → times [] (behind v ws) ≡ 0
+pub none-empty : (v : Event) (ws : List (List Event)) → times [] (behind v ws) ≡ 0
 unfolding countIf
 none-empty v [] = refl
 none-empty v (w ∷ ws) = omega (arith, none-empty v ws)
@@ -109,7 +109,7 @@ times-behind u v w (x ∷ ws) =
     ap (λ (k : ℕ). oneIf (sameEvent u v && sameWord w x) + k) (times-behind u v w ws)
     ∙ by-test (sameEvent u v) (λ e. rw e) (λ e. rw e)
 
-none-symbols : (n i t : ℕ) (ws : List (List Event)) → times [] (bySymbols n i t ws) ≡ 0
+pub none-symbols : (n i t : ℕ) (ws : List (List Event)) → times [] (bySymbols n i t ws) ≡ 0
 unfolding countIf
 none-symbols zero i t ws = refl
 none-symbols (suc n) i t ws =

@@ -17,10 +17,10 @@ use Rattle.model.proofs.Logic.{by-test, no-way, and-left, and-right, an
 use Rattle.model.proofs.Logic.{Two, two, less, least}
 use Rattle.model.proofs.Lists.{words-once, list-once, times-behind, times-symbols, Fits, fits-of}
 
-abbrev nothing : Following
+abbrev pub nothing : Following
 nothing = record { some = false; word = [] }
 
-abbrev found : List Event → Following
+abbrev pub found : List Event → Following
 found w = record { some = true; word = w }
 
 abbrev orElse : Following → Following → Following
@@ -45,15 +45,15 @@ bump s top [] = nothing
 bump s top (v ∷ vs) = onto v (bump s top vs) (raised s top v (length vs))
 
 -- what follows a word in a list that goes on with r
-abbrev firstOr : List (List Event) → Following → Following
+abbrev pub firstOr : List (List Event) → Following → Following
 firstOr [] r = r
 firstOr (w ∷ ws) r = found w
 
-abbrev followingOr : List Event → List (List Event) → Following → Following
+abbrev pub followingOr : List Event → List (List Event) → Following → Following
 followingOr w [] r = nothing
 followingOr w (v ∷ ws) r = elim (sameWord w v) [ true ↦ firstOr ws r | false ↦ followingOr w ws r ]
 
-following-is : (w : List Event) (ws : List (List Event)) → following w ws ≡ followingOr w ws nothing
+pub following-is : (w : List Event) (ws : List (List Event)) → following w ws ≡ followingOr w ws nothing
 following-is w [] = refl
 following-is w (v ∷ ws) = go (sameWord w v) refl (following-is w ws)
   where
@@ -86,7 +86,7 @@ in-first w (x ∷ xs) ys r h = go (sameWord w x) refl (in-first w xs ys r)
         let n : 1 ≤ 0 + times w xs = rw e at h in
         rw (e, followingOr) (k (omega arith))
 
-not-first :
+pub not-first :
     (w : List Event) (xs ys : List (List Event)) (r : Following) → times w xs ≡ 0
     → followingOr w (xs ++ ys) r ≡ followingOr w ys r
 unfolding countIf
