@@ -11,7 +11,7 @@ use Rattle.model.specs.declared.Next.{Next}
 use Rattle.model.specs.Basics.{zeros, fine}
 use Rattle.model.specs.Words.{Event}
 use Rattle.model.specs.Alike.{alike, halfSeconds}
-use Rattle.model.specs.Lists.{eventOf, wordsFrom, wordsOf, listed, listOf, following, inList, listedOf, eventsIn}
+use Rattle.model.specs.Lists.{eventOf, wordsFrom, wordsOf, listed, listOf, following, inList, eventsIn}
 use Rattle.model.specs.Lists.{listRefusal}
 use Rattle.model.specs.Promises.{nextOf}
 use Rattle.model.specs.Claims.{choose, before}

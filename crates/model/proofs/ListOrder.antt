@@ -1,22 +1,22 @@
 -- The list is in order: what stands behind a word comes after it; and the word after another is the one next to it.
 use mathlib.Core.Path.{_≡_, refl, sym, _∙_, ap}
-use mathlib.Core.Bool.{Bool, true, false, _&&_, _||_}
+use mathlib.Core.Bool.{Bool, true, false, _&&_}
 use mathlib.Core.List.{List, [], _∷_, _++_}
 use Prim.Native.Nat.{ℕ, zero, suc, _+_, _≤_, _<_}
 use native.Mathlib.Omega.{arith}
 use lib.Dec.{eqb, ltb, leb}
 use lib.ListN.{length}
-use borrow.Author.Tests.{ltb-true, leb-true, eqb-true, lt-ltb, eq-eqb, ne-eqb}
+use borrow.Author.Tests.{leb-true, eqb-true, lt-ltb, eq-eqb}
 use Rattle.model.specs.Basics.{pick, oneIf}
 use Rattle.model.specs.Words.{Event}
 use Rattle.model.specs.Lists.{behind, bySymbols, wordsFrom, wordsOf, listed, sameEvent, sameWord, fitsFrom, fits}
-use Rattle.model.specs.Lists.{eventOf, lastStamp, stampCount, Following, following}
+use Rattle.model.specs.Lists.{eventOf, lastStamp, stampCount, following}
 use Rattle.model.specs.Claims.{countIf, times, eventBefore, byEvent, before, Lists-are}
-use Rattle.model.proofs.Logic.{by-test, and-left, and-right, and-both, or-left, or-right, Two, two, less, least}
+use Rattle.model.proofs.Logic.{and-left, and-right, and-both, or-left, or-right, Two, two, less, least}
 use Rattle.model.proofs.Lists.{count-both, none-empty, none-symbols, times-behind, times-symbols, amongSymbols}
 use Rattle.model.proofs.Lists.{words-once, words-counted, list-once, listed-legal, fits-of}
 use Rattle.model.proofs.Alike.{halves-listed, each-once}
-use Rattle.model.proofs.NextWord.{nothing, found, firstOr, followingOr, following-is, not-first}
+use Rattle.model.proofs.NextWord.{nothing, firstOr, followingOr, following-is, not-first}
 
 -- what a count of at least one tells
 is-one : (b : Bool) → 1 ≤ oneIf b → b ≡ true
