@@ -6,7 +6,7 @@
 //! and turns its answers into [`Result`]s with a [`Refusal`].
 //!
 //! ```
-//! use alderskein::{Room, Rule, Stamp, Word};
+//! use alderskein::{Room, Rule, Size, Stamp, Word, Words};
 //!
 //! // The worked case: 0 to 1 on symbol 0 at age 1 with reset, 1 to 0 on symbol 1 at age at least 1.
 //! let file = [
@@ -24,6 +24,11 @@
 //! let mut follower = table.follower(2)?;
 //! assert!(!follower.event(0, Stamp(2))?);
 //! assert!(follower.event(1, Stamp(4))?);
+//!
+//! // Of all words up to a size: the empty one, and symbol 0 at 1 s with symbol 1 at 2, 2.5 or 3 s.
+//! let size = Size { symbols: 2, events: 2, seconds: 3 };
+//! let accepted = Words::up_to(size)?.filter(|&word| table.run(&word.into()) == Ok(true));
+//! assert_eq!(accepted.count(), 4);
 //! # Ok::<(), alderskein::Refusal>(())
 //! ```
 //!
@@ -34,6 +39,7 @@
 
 mod follower;
 mod listing;
+mod lists;
 pub mod raw;
 mod refusal;
 mod rule;
@@ -41,7 +47,8 @@ mod table;
 mod word;
 
 pub use follower::Follower;
-pub use raw::Stamp;
+pub use lists::{Words, LIST_GRAIN};
+pub use raw::{Listed, Size, Stamp};
 pub use refusal::{Cause, Refusal};
 pub use rule::{LeastRun, Rule, Run, EDGE_TABLE, LONGEST_FILE};
 pub use table::{decide, Cell, Room, Table, BUILD_SCRATCH, ROW_NUMBERS, ROW_TABLE};
