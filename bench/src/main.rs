@@ -1,13 +1,16 @@
 //! Measures the verified library beside the reference: same machine, same run, same input, same room. Builds are also
-//! measured beside the fastest Rust, which makes the same table by hashed rows and bits in its own memory.
+//! measured beside the fastest Rust, which makes the same table by hashed rows and bits in its own memory, and the next
+//! word of a list beside the same odometer in plain Rust.
 //!
 //! Every line is the median of some samples with the lowest and the highest; they take turns, sample by
 //! sample. Lent tables are not cleared before a call: they hold what the call before left in them.
 
 mod desk;
 mod fastest;
+mod odometer;
 mod rules;
 
+use alderskein::raw::{self, Listed, Next, Size};
 use desk::{Call, Desk};
 use protocol::{Engine, Library, Reference};
 use std::hint::black_box;
@@ -24,7 +27,7 @@ fn main() -> ExitCode {
         eprintln!("usage: bench");
         return ExitCode::from(2);
     }
-    let done = calls().and_then(|()| growth());
+    let done = calls().and_then(|()| growth()).and_then(|()| lists());
     match done {
         Ok(()) => ExitCode::SUCCESS,
         Err(fault) => {
@@ -86,6 +89,57 @@ fn growth() -> Done {
     heading("build, dense rows (32 locations, 3 clocks, cm 2)");
     let mut dense = Desk::new(rules::dense());
     line(&format!("{:.0} codes a row", dense.mean_length()), &mut dense, Call::Build)
+}
+
+/// The next word, over whole lists from the empty word to the last: S, m, H.
+fn lists() -> Done {
+    println!(
+        "\nnext word, a call of a whole list{:>13}  {:<30}{:<30}ratio",
+        "words", "library", "the same in Rust"
+    );
+    for [symbols, events, seconds] in [[1, 6, 13], [2, 6, 2], [3, 4, 3], [16, 2, 30]] {
+        let size = Size { symbols, events, seconds };
+        let name = format!("S = {symbols}, m = {events}, H = {seconds}");
+        let (words, end) = walk(raw::next_word, size);
+        if (words, end) != walk(in_rust, size) || !end.last {
+            return Err(format!("{name}: the library's list ends otherwise than the same in Rust"));
+        }
+        let (mut library, mut rust) = (Vec::new(), Vec::new());
+        for _ in 0..SAMPLES {
+            library.push(sample_list(raw::next_word, size));
+            rust.push(sample_list(in_rust, size));
+        }
+        let (library, rust) = (Spread::of(library), Spread::of(rust));
+        let ratio = library.median / rust.median;
+        println!("{name:<33}{words:>13}  {:<30}{:<30}{ratio:.2}", library.text(), rust.text());
+    }
+    Ok(())
+}
+
+/// The same in Rust, by a call as C makes it.
+fn in_rust(size: Size, word: Listed) -> Next {
+    odometer::next_word(size, word)
+}
+
+/// The words of a list, counted, and the answer that ended it: the last word, or a refusal.
+fn walk(next_word: impl Fn(Size, Listed) -> Next, size: Size) -> (u32, Next) {
+    let (mut words, mut word) = (1, Listed::default());
+    loop {
+        let next = next_word(black_box(size), word);
+        if next.last || next.number != 0 {
+            return (words, next);
+        }
+        (words, word) = (words + 1, next.word);
+    }
+}
+
+/// Seconds a call takes, over a whole list, or over as many as make a sample long enough.
+fn sample_list(next_word: impl Fn(Size, Listed) -> Next + Copy, size: Size) -> f64 {
+    let (begun, mut calls) = (Instant::now(), 0);
+    while begun.elapsed() < SAMPLE {
+        calls += black_box(walk(next_word, size)).0;
+    }
+    begun.elapsed().as_secs_f64() / f64::from(calls)
 }
 
 fn heading(text: &str) {
