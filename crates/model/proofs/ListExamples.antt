@@ -4,6 +4,7 @@ use mathlib.Core.Path.{_≡_, refl}
 use mathlib.Core.Bool.{true, false}
 use mathlib.Core.List.{List, [], _∷_}
 use Prim.Native.Nat.{ℕ, _+_, _*_, _^_}
+use lib.Dec.{leb}
 use lib.ListN.{length}
 use Rattle.model.specs.declared.Size.{Size}
 use Rattle.model.specs.declared.Listed.{Listed}
@@ -14,7 +15,7 @@ use Rattle.model.specs.Alike.{alike, halfSeconds}
 use Rattle.model.specs.Lists.{eventOf, wordsFrom, wordsOf, listed, listOf, following, inList, eventsIn}
 use Rattle.model.specs.Lists.{listRefusal}
 use Rattle.model.specs.Promises.{nextOf}
-use Rattle.model.specs.Claims.{choose, before}
+use Rattle.model.specs.Claims.{countIf, times, before, upTo, choose}
 
 -- one symbol, stamps 0 to 2 half seconds, at most 2 events: 1 + 3 + 6 words
 ten : List (List Event)
@@ -65,11 +66,22 @@ alike-are :
     × (alike 100 (eventOf 0 123 ∷ []) 1000 (eventOf 0 2230 ∷ []) ≡ false)
     × (alike 10 (eventOf 0 19 ∷ eventOf 1 20 ∷ []) 2 (eventOf 0 3 ∷ eventOf 1 4 ∷ []) ≡ true)
     × (alike 10 (eventOf 0 19 ∷ eventOf 1 20 ∷ []) 2 (eventOf 0 3 ∷ eventOf 1 5 ∷ []) ≡ false)
+    × (alike 10 (eventOf 0 5 ∷ []) 2 (eventOf 0 2 ∷ []) ≡ false)
     × (alike 10 (eventOf 0 19 ∷ []) 2 (eventOf 1 3 ∷ []) ≡ false)
     × (alike 10 (eventOf 0 19 ∷ []) 2 [] ≡ false)
     × (alike 10 [] 2 (eventOf 0 3 ∷ []) ≡ false)
     × (alike 10 [] 2 [] ≡ true)
-alike-are = (refl, refl, refl, refl, refl, refl, refl, refl, refl)
+alike-are = (refl, refl, refl, refl, refl, refl, refl, refl, refl, refl)
+
+-- counted in the list of ten: words with an event, a word that is there, one that is not; stamps up to an end
+counts-are :
+    (countIf (λ w. leb 1 (length w)) ten ≡ 9) × (times (eventOf 0 1 ∷ []) ten ≡ 1)
+    × (times (eventOf 0 3 ∷ []) ten ≡ 0)
+    × (upTo 2 (eventOf 0 1 ∷ eventOf 0 2 ∷ []) ≡ true)
+    × (upTo 2 (eventOf 0 1 ∷ eventOf 0 3 ∷ []) ≡ false)
+    × (upTo 0 [] ≡ true)
+unfolding countIf ten
+counts-are = (refl, refl, refl, refl, refl, refl)
 
 -- the order: a shorter word first, whatever its stamps; then the first event that differs, by stamp before symbol
 before-are :
@@ -79,8 +91,10 @@ before-are :
     × (before (eventOf 0 1 ∷ []) (eventOf 1 0 ∷ []) ≡ false)
     × (before (eventOf 0 1 ∷ []) (eventOf 1 1 ∷ []) ≡ true)
     × (before (eventOf 0 0 ∷ eventOf 1 9 ∷ []) (eventOf 1 0 ∷ eventOf 0 0 ∷ []) ≡ true)
+    × (before (eventOf 1 0 ∷ eventOf 0 0 ∷ []) (eventOf 0 0 ∷ eventOf 1 9 ∷ []) ≡ false)
+    × (before (eventOf 0 0 ∷ eventOf 0 1 ∷ []) (eventOf 0 0 ∷ eventOf 0 2 ∷ []) ≡ true)
     × (before (eventOf 1 1 ∷ []) (eventOf 1 1 ∷ []) ≡ false)
-before-are = (refl, refl, refl, refl, refl, refl, refl)
+before-are = (refl, refl, refl, refl, refl, refl, refl, refl, refl)
 
 -- What next_word says, by the definition of its promise: S, m, H, and a word.
 abbrev sized : ℕ → ℕ → ℕ → Size
