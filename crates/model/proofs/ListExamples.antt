@@ -11,7 +11,7 @@ use Rattle.model.specs.declared.Listed.{Listed}
 use Rattle.model.specs.declared.Next.{Next}
 use Rattle.model.specs.Basics.{zeros, fine}
 use Rattle.model.specs.Words.{Event}
-use Rattle.model.specs.Alike.{alike, halfSeconds}
+use Rattle.model.specs.Alike.{alike, halfSeconds, inHalves}
 use Rattle.model.specs.Lists.{eventOf, wordsFrom, wordsOf, listed, listOf, following, inList, eventsIn}
 use Rattle.model.specs.Lists.{listRefusal}
 use Rattle.model.specs.Promises.{nextOf}
@@ -57,7 +57,8 @@ halves-are :
     × (halfSeconds 1 7 ≡ 14)
     × (halfSeconds 2 7 ≡ 7)
     × (halfSeconds 1000 30999 ≡ 61)
-halves-are = (refl, refl, refl, refl, refl, refl, refl)
+    × (inHalves 10 (eventOf 0 19 ∷ eventOf 1 20 ∷ []) ≡ (eventOf 0 3 ∷ eventOf 1 4 ∷ []))
+halves-are = (refl, refl, refl, refl, refl, refl, refl, refl)
 
 -- words alike: a part of a second is a part of a second, whatever its size; whole seconds, symbols and lengths count
 alike-are :
