@@ -4,10 +4,10 @@
  * Reads the rule file and a word of at most 12 events from standard input, one a line: SYMBOL STAMP. Stamps
  * are in D-ths of a second (2 if D is not given). Prints the least accepting run, its start location and its
  * edges; or that no run accepts, and which atom held the rule back at the first event, if one did. Locations,
- * edges and atoms are numbered from 0. Input and exit status are as common.h says.
+ * edges and atoms are numbered from 0. Input is as events.h says, exit status as common.h says.
  */
 #define PROGRAM "branch"
-#include "common.h"
+#include "events.h"
 
 /* One event more than can be run: the library refuses it. */
 #define EVENTS (ALDERSKEIN_BRANCH_EVENTS + 1)
