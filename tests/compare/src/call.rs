@@ -1,6 +1,7 @@
 //! The commands of a script, and the line that spells each.
 
-use crate::lists::{hex_text, list_text};
+use crate::lists::{hex_text, list_text, listed_text};
+use alderskein::raw::{Listed, Size};
 use std::fmt;
 
 /// D and two lists, which need not be equally long.
@@ -83,6 +84,8 @@ pub enum Call {
     CheckWord { symbol_count: u32, most: u32, word: Word },
     CheckTable,
     Decide { file: Vec<u8>, edges: usize, room: Room, fill: u16, word: Word },
+    Next { size: Size, word: Listed },
+    Words { size: Size },
     Poke { what: What, index: usize, value: u32 },
     Resize { what: What, length: usize, fill: u32 },
     Save,
@@ -110,6 +113,8 @@ impl Call {
             Call::CheckWord { .. } => "check_word",
             Call::CheckTable => "check_table",
             Call::Decide { .. } => "decide",
+            Call::Next { .. } => "next",
+            Call::Words { .. } => "words",
             Call::Poke { .. } => "poke",
             Call::Resize { .. } => "resize",
             Call::Save => "save",
@@ -143,6 +148,8 @@ impl fmt::Display for Call {
             Call::Decide { file, edges, room, fill, word } => {
                 write!(f, " {} {edges} {room} {fill} {word}", hex_text(file))
             }
+            Call::Next { size, word } => write!(f, " {} {}", size_text(size), listed_text(word)),
+            Call::Words { size } => write!(f, " {}", size_text(size)),
             Call::Poke { what, index, value } => write!(f, " {} {index} {value}", what.name()),
             Call::Resize { what, length, fill } => write!(f, " {} {length} {fill}", what.name()),
             Call::Dump { what } => write!(f, " {}", what.name()),
@@ -161,4 +168,8 @@ impl fmt::Display for Room {
     fn fmt(&self, f: &mut fmt::Formatter) -> fmt::Result {
         write!(f, "{} {} {} {}", self.scratch, self.cells, self.rows, self.pool)
     }
+}
+
+fn size_text(size: &Size) -> String {
+    format!("{} {} {}", size.symbols, size.events, size.seconds)
 }

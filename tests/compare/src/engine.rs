@@ -1,8 +1,10 @@
 //! The calls of the library, behind which either implementation stands.
 
+use crate::all_words::MOST_WORDS;
 use crate::Word;
 use alderskein::raw::{
-    Answer, BranchAnswer, Building, Built, Followed, Follower, Head, Moved, Reading, Started,
+    Answer, BranchAnswer, Building, Built, Followed, Follower, Head, Listed, Moved, Next, Reading, Size,
+    Started,
 };
 
 /// A head record and an edge table.
@@ -56,6 +58,24 @@ pub trait Engine {
     fn follow_event(follower: Follower, table: Table, event: Event) -> Followed;
     fn follow_in_place(follower: &mut Follower, table: Table, event: Event) -> Moved;
     fn decide(file: &[u8], edges: &mut [u16], lent: Tables, word: &Word) -> Answer;
+    fn next_word(size: Size, word: Listed) -> Next;
+    /// Visits a list's words by the next of each from the empty one on, and gives how many there were. A list that
+    /// does not end is left.
+    fn all_words(size: Size, visit: &mut dyn FnMut(&Listed)) -> Answer {
+        let mut word = Listed::default();
+        for value in 1..=MOST_WORDS {
+            let next = Self::next_word(size, word);
+            if next.number != 0 {
+                return Answer { number: next.number, place: next.place, value: 0 };
+            }
+            visit(&word);
+            if next.last {
+                return Answer { value, ..Answer::default() };
+            }
+            word = next.word;
+        }
+        Answer { value: MOST_WORDS, ..Answer::default() }
+    }
     /// What the listing program prints for a file.
     fn list(file: &[u8]) -> Vec<u8>;
 }

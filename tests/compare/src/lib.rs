@@ -6,6 +6,7 @@
 
 #![warn(missing_docs)]
 
+mod all_words;
 mod call;
 mod engine;
 mod lent;
@@ -16,10 +17,12 @@ mod parse;
 mod reference;
 mod reply;
 
+pub use all_words::word_count;
 pub use call::{Call, Room, What, Word};
 pub use engine::{Engine, Event, Rule, Table, Tables};
 pub use lent::Lent;
 pub use library::Library;
+pub use lists::Hashed;
 pub use machine::{Machine, State};
 pub use reference::Reference;
 pub use reply::Reply;

@@ -3,7 +3,8 @@
 use crate::engine::{Engine, Event, Rule, Table, Tables};
 use crate::Word;
 use alderskein::raw::{
-    self, Answer, BranchAnswer, Building, Followed, Follower, Moved, Reading, Stamp, Started,
+    self, Answer, BranchAnswer, Building, Followed, Follower, Listed, Moved, Next, Reading, Size, Stamp,
+    Started,
 };
 
 /// The verified library.
@@ -61,6 +62,10 @@ impl Engine for Library {
     fn decide(file: &[u8], edges: &mut [u16], lent: Tables, w: &Word) -> Answer {
         let Tables { scratch, cells, rows, pool } = lent;
         raw::decide(file, edges, scratch, cells, rows, pool, w.grain, &w.symbols, &w.stamps)
+    }
+
+    fn next_word(size: Size, word: Listed) -> Next {
+        raw::next_word(size, word)
     }
 
     fn list(file: &[u8]) -> Vec<u8> {

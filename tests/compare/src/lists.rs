@@ -1,5 +1,8 @@
 //! Numbers, lists and bytes as a script spells them.
 
+use alderskein::raw::Listed;
+use std::fmt;
+
 /// The longest buffer or list a script may ask for; more is malformed.
 pub const MOST_NUMBERS: usize = 1 << 26;
 
@@ -95,15 +98,59 @@ pub fn numbers_text<T: ToString>(numbers: &[T]) -> String {
     numbers.iter().map(T::to_string).collect::<Vec<_>>().join(",")
 }
 
-/// A buffer's length and FNV-1a hash over eight bytes a number.
+/// A listed word: count, symbols, stamps.
+pub fn listed_text(word: &Listed) -> String {
+    format!("{} {} {}", word.count, numbers_text(&word.symbols), numbers_text(&word.stamps))
+}
+
+/// A buffer's length and hash.
 pub fn buffer_text<T: Copy + Into<u64>>(numbers: &[T]) -> String {
-    let mut hash = 0xcbf2_9ce4_8422_2325_u64;
-    for &number in numbers {
-        for byte in number.into().to_le_bytes() {
-            hash = (hash ^ u64::from(byte)).wrapping_mul(0x100_0000_01b3);
-        }
+    let mut hashed = Hashed::default();
+    numbers.iter().for_each(|&number| hashed.add(number.into()));
+    hashed.to_string()
+}
+
+/// How many numbers there were, and their FNV-1a hash over eight bytes each.
+#[derive(Clone, Copy, Debug, PartialEq)]
+pub struct Hashed {
+    length: usize,
+    hash: u64,
+}
+
+impl Default for Hashed {
+    fn default() -> Self {
+        Hashed { length: 0, hash: 0xcbf2_9ce4_8422_2325 }
     }
-    format!("{}:{hash:016x}", numbers.len())
+}
+
+impl Hashed {
+    const PRIME: u64 = 0x100_0000_01b3;
+
+    /// Takes one number more. Of a small one the seven bytes of zero only multiply.
+    pub fn add(&mut self, number: u64) {
+        self.length += 1;
+        self.hash = match number {
+            0..=255 => (self.hash ^ number).wrapping_mul(Self::PRIME.wrapping_pow(8)),
+            _ => number
+                .to_le_bytes()
+                .iter()
+                .fold(self.hash, |hash, &byte| (hash ^ u64::from(byte)).wrapping_mul(Self::PRIME)),
+        };
+    }
+
+    /// Takes a listed word's numbers: count, symbols, stamps.
+    pub fn add_listed(&mut self, word: &Listed) {
+        self.add(word.count.into());
+        word.symbols.iter().for_each(|&symbol| self.add(symbol.into()));
+        word.stamps.iter().for_each(|&stamp| self.add(stamp.into()));
+    }
+}
+
+/// The length and the hash, as a script shows a buffer.
+impl fmt::Display for Hashed {
+    fn fmt(&self, f: &mut fmt::Formatter) -> fmt::Result {
+        write!(f, "{}:{:016x}", self.length, self.hash)
+    }
 }
 
 #[cfg(test)]
@@ -121,6 +168,16 @@ mod tests {
         for text in ["-", "7", "7,6,5", "5*3,6", "0+3*5,1*4", "4294967295,0"] {
             assert_eq!(list_text(&list::<u32>(text).unwrap()), text);
         }
+    }
+
+    #[test]
+    fn numbers_are_hashed_byte_by_byte() {
+        let numbers = [0, 1, 255, 256, 65_535, 1 << 32, u64::MAX, 0];
+        let bytes = numbers.iter().flat_map(|number| number.to_le_bytes());
+        let step = |hash: u64, byte| (hash ^ u64::from(byte)).wrapping_mul(0x100_0000_01b3);
+        let hash = bytes.fold(0xcbf2_9ce4_8422_2325, step);
+        assert_eq!(buffer_text(&numbers), format!("8:{hash:016x}"));
+        assert_eq!(buffer_text::<u8>(&[]), "0:cbf29ce484222325");
     }
 
     #[test]

@@ -1,7 +1,8 @@
 //! The state between commands, and the commands over it.
 
+use crate::all_words::whole_list;
 use crate::engine::{Event, Rule, Table, Tables};
-use crate::lists::{buffer_text, numbers_text};
+use crate::lists::{buffer_text, listed_text, numbers_text};
 use crate::{Call, Engine, Lent, Reply, Room, What, Word};
 use alderskein::raw::{Built, Followed, Follower, Head};
 use std::marker::PhantomData;
@@ -80,6 +81,8 @@ impl<E: Engine> Machine<E> {
             }
             Call::CheckTable => Reply::Checked(E::check_table(state.table())),
             Call::Decide { file, edges, room, fill, word } => decide::<E>(file, *edges, *room, *fill, word)?,
+            Call::Next { size, word } => Reply::Next(E::next_word(*size, *word)),
+            Call::Words { size } => whole_list::<E>(*size)?,
             Call::Poke { what, index, value } => Reply::Text(state.poke(*what, *index, *value)?.to_string()),
             Call::Resize { what, length, fill } => Reply::Text(state.resize(*what, *length, *fill)?),
             Call::Dump { what } => Reply::Text(state.dump(*what)),
@@ -116,8 +119,10 @@ impl<E: Engine> Machine<E> {
             Reply::Decided(_, edges, [scratch, cells, rows, pool]) => {
                 format!("edges={} {}", buffer_text(edges), tables_text(scratch, cells, rows, pool))
             }
+            Reply::Next(next) => listed_text(&next.word),
+            Reply::Words(answer, hashed) if answer.number == 0 => hashed.to_string(),
             Reply::Text(text) => text.clone(),
-            Reply::Checked(_) | Reply::Table(_) | Reply::Branch(..) => String::new(),
+            Reply::Words(..) | Reply::Checked(_) | Reply::Table(_) | Reply::Branch(..) => String::new(),
         };
         let parts = [call.name().into(), reply.front(), rest];
         parts.into_iter().filter(|part| !part.is_empty()).collect::<Vec<String>>().join(" ")

@@ -2,6 +2,7 @@
 
 use crate::lists::{bytes, list, number, MOST_NUMBERS};
 use crate::{Call, Room, What, Word};
+use alderskein::raw::{Listed, Size};
 use std::str::{FromStr, SplitAsciiWhitespace};
 
 /// A line that is no command.
@@ -39,6 +40,8 @@ impl Fields<'_> {
             "check_word" => self.check_word()?,
             "check_table" => Call::CheckTable,
             "decide" => self.decide()?,
+            "next" => Call::Next { size: self.size()?, word: self.listed()? },
+            "words" => Call::Words { size: self.size()? },
             "poke" => self.poke()?,
             "resize" => self.resize()?,
             "save" => Call::Save,
@@ -98,6 +101,16 @@ impl Fields<'_> {
 
     fn word(&mut self) -> Option<Word> {
         Some(Word { grain: self.number()?, symbols: self.list()?, stamps: self.list()? })
+    }
+
+    fn size(&mut self) -> Option<Size> {
+        Some(Size { symbols: self.number()?, events: self.number()?, seconds: self.number()? })
+    }
+
+    /// A word with just as many symbols and stamps as there are places.
+    fn listed(&mut self) -> Option<Listed> {
+        let (count, symbols, stamps) = (self.number()?, self.list()?, self.list()?);
+        Some(Listed { count, symbols: symbols.try_into().ok()?, stamps: stamps.try_into().ok()? })
     }
 
     fn room(&mut self) -> Option<Room> {

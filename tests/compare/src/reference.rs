@@ -3,7 +3,8 @@
 use crate::engine::{Engine, Event, Rule, Table, Tables};
 use crate::Word;
 use alderskein::raw::{
-    Answer, BranchAnswer, Building, Built, Followed, Follower, Head, Moved, Reading, Stamp, Started,
+    Answer, BranchAnswer, Building, Built, Followed, Follower, Head, Listed, Moved, Next, Reading, Size,
+    Stamp, Started,
 };
 use reference::Refusal;
 
@@ -89,6 +90,23 @@ impl Engine for Reference {
         verdict(reference::decide(file, edges, scratch, cells, rows, pool, w.grain, &w.symbols, &w.stamps))
     }
 
+    fn next_word(size: Size, word: Listed) -> Next {
+        let outcome = reference::next_word(plain_size(size), &plain_listed(word));
+        let (number, place) = refusal(outcome);
+        let (last, next) = (outcome == Ok(None), outcome.ok().flatten());
+        Next { number, place, last, word: next.map_or(word, listed_of) }
+    }
+
+    /// By nested loops.
+    fn all_words(size: Size, visit: &mut dyn FnMut(&Listed)) -> Answer {
+        let mut total = 0;
+        let outcome = reference::all_words(plain_size(size), |word| {
+            total += 1;
+            visit(&listed_of(*word));
+        });
+        answer(outcome.map(|()| total))
+    }
+
     fn list(file: &[u8]) -> Vec<u8> {
         reference::list_table(file)
     }
@@ -136,4 +154,19 @@ fn plain_follower(follower: Follower) -> reference::Follower {
 fn follower_of(follower: reference::Follower) -> Follower {
     let [grain, row, reset, last, count] = follower.to_numbers();
     Follower { grain, row, reset: Stamp(reset), last: Stamp(last), count }
+}
+
+fn plain_size(size: Size) -> reference::Size {
+    let Size { symbols, events, seconds } = size;
+    reference::Size { symbols, events, seconds }
+}
+
+fn plain_listed(word: Listed) -> reference::Listed {
+    let Listed { count, symbols, stamps } = word;
+    reference::Listed { count, symbols, stamps }
+}
+
+fn listed_of(word: reference::Listed) -> Listed {
+    let reference::Listed { count, symbols, stamps } = word;
+    Listed { count, symbols, stamps }
 }

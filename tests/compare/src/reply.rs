@@ -1,8 +1,8 @@
 //! What a command answers, in full.
 
-use crate::lists::{buffer_text, numbers_text};
+use crate::lists::{buffer_text, numbers_text, Hashed};
 use crate::Lent;
-use alderskein::raw::{Answer, BranchAnswer, Building, Followed, Moved, Reading, Started};
+use alderskein::raw::{Answer, BranchAnswer, Building, Followed, Moved, Next, Reading, Started};
 
 /// Every part of an answer, with every buffer that was lent and is not kept in the state.
 #[allow(missing_docs)]
@@ -22,6 +22,9 @@ pub enum Reply {
     Walked(Vec<Followed>),
     /// Edges; scratch, cells, rows, pool.
     Decided(Answer, Lent<u16>, [Lent<u32>; 4]),
+    Next(Next),
+    /// How many words there are, and all their numbers.
+    Words(Answer, Hashed),
     /// What a command over the state itself shows.
     Text(String),
     /// A malformed command.
@@ -52,6 +55,8 @@ impl Reply {
             Reply::Followed(followed) => (followed.number, followed.place),
             Reply::Moved(moved) => (moved.number, moved.place),
             Reply::Walked(steps) => steps.last().map_or((0, 0), |last| (last.number, last.place)),
+            Reply::Next(next) => (next.number, next.place),
+            Reply::Words(answer, _) => (answer.number, answer.place),
             Reply::Text(_) | Reply::Bad => return None,
         })
     }
@@ -84,6 +89,8 @@ impl Reply {
     fn value(&self) -> String {
         match self {
             Reply::Written(answer, _) => answer.value.to_string(),
+            Reply::Words(answer, _) => answer.value.to_string(),
+            Reply::Next(next) => u8::from(!next.last).to_string(),
             Reply::Branch(branch, taken) => {
                 let (found, edges) = (u8::from(branch.found), numbers_text(taken));
                 let held = if branch.held { branch.position.saturating_add(1) } else { 0 };

@@ -2,6 +2,7 @@
 
 use crate::bit_counts;
 use crate::ceiling::{ceilings, less_ceiling, CEILING_BYTES};
+use crate::listed_counts::{self, ListedCounts};
 use crate::partners::{edge_at, lacks_partner, only_unpinned, WrongIn};
 use crate::pins::{from_both_sides, Sides};
 use crate::plain::{only_wrong, Wrong};
@@ -15,7 +16,7 @@ use std::collections::BTreeMap;
 use std::fmt;
 
 /// The refusals that each call can give.
-const REFUSALS: [(&str, &[u8]); 13] = [
+const REFUSALS: [(&str, &[u8]); 15] = [
     ("check_rule", &[20, 21]),
     ("read", &[20, 1, 2, 3, 4, 5, 6, 7, 8]),
     ("write", &[20, 21, 27]),
@@ -29,6 +30,8 @@ const REFUSALS: [(&str, &[u8]); 13] = [
     ("follow", &[25, 30, 34, 31, 32, 33]),
     ("follow_in_place", &[25, 30, 34, 31, 32, 33]),
     ("decide", &[20, 1, 2, 3, 4, 5, 6, 7, 8, 22, 23, 24, 30, 31, 32, 33]),
+    ("next", &[38, 39]),
+    ("words", &[38]),
 ];
 
 /// The calls that answer yes or no.
@@ -128,6 +131,8 @@ pub struct Cover {
     /// Whether the scene is one of every size, and the sizes that came up in these.
     every_size: bool,
     sizes: SizeCounts,
+    /// The walks from word to word.
+    listed: ListedCounts,
 }
 
 impl Cover {
@@ -142,7 +147,7 @@ impl Cover {
             limits: LIMITS
                 .iter()
                 .chain(&COUNTS)
-                .chain(bit_counts::COUNTS.into_iter().flatten())
+                .chain(bit_counts::COUNTS.into_iter().chain(listed_counts::COUNTS).flatten())
                 .map(|&name| (name, 0))
                 .collect(),
             by_hand: false,
@@ -151,6 +156,7 @@ impl Cover {
             was_wrong: false,
             every_size: false,
             sizes: SizeCounts::default(),
+            listed: ListedCounts::default(),
         }
     }
 
@@ -162,7 +168,7 @@ impl Cover {
     /// Counts a command with its reply and the state after it.
     pub fn count(&mut self, call: &Call, reply: &Reply, state: &State) {
         self.count_sizes(call, reply, state);
-        for name in bit_counts::seen(call, reply, state) {
+        for name in [bit_counts::seen(call, reply, state), self.listed.seen(call, reply)].concat() {
             self.mark(name, true);
         }
         if matches!(call, Call::Poke { .. } | Call::Resize { .. } | Call::Restore) {

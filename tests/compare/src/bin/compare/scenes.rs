@@ -5,6 +5,7 @@ use crate::ceiling;
 use crate::damage::{damaged_file, rubbish};
 use crate::held::held_back;
 use crate::limits;
+use crate::listed;
 use crate::pins;
 use crate::random::Random;
 use crate::rules::{any_rule, Rule, EDGE_NUMBERS, FIRST_CONSTANT, MIDDLE, SMALL, WIDE};
@@ -19,7 +20,7 @@ use protocol::{Call, Room, What, Word};
 type Kind = fn(&mut Scene);
 
 /// The common kinds with their weights.
-const COMMON: [(&str, usize, Kind); 15] = [
+const COMMON: [(&str, usize, Kind); 16] = [
     ("whole rules", 30, whole_rule),
     ("damaged files", 25, damaged),
     ("changed rules", 15, changed_rule),
@@ -35,6 +36,7 @@ const COMMON: [(&str, usize, Kind); 15] = [
     ("files with a ceiling", 10, ceiling::dropped),
     ("pins from both sides", 10, pins::both_sides),
     ("scratch in bits", 12, bits::near_32),
+    ("lists of words", 12, listed::lists_of_words),
 ];
 
 /// The costly kinds: one scene in so many, the first one early. Where two meet it is the upper one's turn, so that
