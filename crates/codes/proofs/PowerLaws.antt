@@ -13,7 +13,7 @@ use borrow.Author.Tests.{leb-true, le-leb, lt-leb}
 use Rattle.model.specs.Basics.{within, zeros, filled}
 use Rattle.model.specs.Rules.{mostLocations, mostClocks, mostConstant, mostPairs}
 use Rattle.model.proofs.EdgesWritten.{filled-length}
-use Rattle.model.proofs.Logic.{by-test, and-left, and-right, within-least, within-most, first-part}
+use Rattle.model.proofs.Logic.{by-test, zeros-at, and-left, and-right, within-least, within-most, first-part}
 use Rattle.codes.specs.Powers.{powerPlaces, powersFrom, powersOf}
 use Rattle.codes.specs.declared.Scale.{Scale}
 use Rattle.codes.specs.Codes.{scaleOf, noScale, smallScale, powerAt, Powered}
@@ -29,11 +29,6 @@ from-at (suc n) i m zero h = let e : i + 0 ≡ i = omega arith in rw e
 from-at (suc n) i m (suc j) h =
     let e : suc i + j ≡ i + suc j = omega arith in
     from-at n (suc i) m j (omega arith) ∙ ap (λ (k : ℕ). m ^ k) e
-
-zeros-at : (n j : ℕ) → getD (zeros n) j 0 ≡ 0
-zeros-at zero j = refl
-zeros-at (suc n) zero = refl
-zeros-at (suc n) (suc j) = zeros-at n j
 
 pub power-at : (c k i : ℕ) → i ≤ k → getD (powersOf c k) i 0 ≡ (c + 2) ^ i
 unfolding powersOf

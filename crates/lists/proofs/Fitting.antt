@@ -8,7 +8,7 @@ use native.Mathlib.Numerals.{add-one}
 use lib.Dec.{eqb, leb}
 use lib.ListN.{length, getD, take, drop, take-append-drop, length-take, length-drop, drop-of-length-le}
 use lib.Seq.{drop-cons, length-take-le}
-use borrow.Author.Tests.{leb-true, eqb-true, eqb-false, lt-ltb, le-ltb, le-leb, lt-leb, eq-eqb, ne-eqb}
+use borrow.Author.Tests.{leb-true, eqb-true, lt-ltb, le-ltb, le-leb, lt-leb, eq-eqb, ne-eqb}
 use Rattle.model.specs.declared.Size.{Size}
 use Rattle.model.specs.declared.Listed.{Listed}
 use Rattle.model.specs.Basics.{within, same, zeros, filled}
@@ -16,9 +16,11 @@ use Rattle.model.specs.Words.{eventsOf}
 use Rattle.model.specs.Rules.{mostSymbols}
 use Rattle.model.specs.Lists.{mostListed, mostSeconds, sizeOk, lastStamp, fitsFrom, fits, symbolsOf, stampsOf, listedOf}
 use Rattle.model.specs.Lists.{eventsIn, sameListed, inList}
-use Rattle.model.proofs.Logic.{by-test, and-left, and-right, within-least, within-most}
+use Rattle.model.proofs.Logic.{and-left, and-right, within-least, within-most}
 use Rattle.model.proofs.Events.{eventAt}
-use Rattle.lists.specs.Odometer.{Six, allZero, restZero}
+use Rattle.numbers.specs.Lent.{allZero}
+use Rattle.numbers.proofs.Zeros.{same-zeros}
+use Rattle.lists.specs.Odometer.{Six, restZero}
 use Rattle.lists.proofs.Places.{events-count, symbols-are, stamps-are, event-at}
 
 and-no : (a : Bool) → (a && false) ≡ false
@@ -36,11 +38,13 @@ fit-start s top w = record { turns = omega arith; rest-is = refl }
 module _ {s top last i : ℕ} {w : Listed} (inv : Fit s top w last i) (f : Six w) (h : w .count ≤ mostListed) where
   pub fit-end : w .count ≤ i → true ≡ fitsFrom s top 0 (eventsIn w)
   fit-end g =
-      sym (ap (fitsFrom s top last) (drop-of-length-le (eventsIn w) {i = i} (omega (arith, events-count w f h)))) ∙ inv .rest-is
+      sym (ap (fitsFrom s top last) (drop-of-length-le (eventsIn w) {i = i} (omega (arith, events-count w f h))))
+      ∙ inv .rest-is
 
   module _ (g : i < w .count) where
     now-is :
-        fitsFrom s top last (eventAt (w .symbols) (w .stamps) i ∷ drop (i + 1) (eventsIn w)) ≡ fitsFrom s top 0 (eventsIn w)
+        fitsFrom s top last (eventAt (w .symbols) (w .stamps) i ∷ drop (i + 1) (eventsIn w))
+        ≡ fitsFrom s top 0 (eventsIn w)
     now-is = ap (fitsFrom s top last) (sym (event-at w f h i g)) ∙ inv .rest-is
 
     pub fit-symbol : s ≤ getD (w .symbols) i 0 → false ≡ fitsFrom s top 0 (eventsIn w)
@@ -98,7 +102,8 @@ module _ {w : Listed} {i : ℕ} (inv : Zeroed w i) (f : Six w) where
 
     pub zeroed-stamp : (getD (w .stamps) i 0 ≡ 0 → ⊥) → false ≡ restZero w
     zeroed-stamp g =
-        rw (← inv .zeros-are, stamps-split, ne-eqb (getD (w .stamps) i 0) 0 g) (sym (and-no (allZero (drop i (w .symbols)))))
+        rw (← inv .zeros-are, stamps-split, ne-eqb (getD (w .stamps) i 0) 0 g)
+        (sym (and-no (allZero (drop i (w .symbols)))))
 
     pub zeroed-turn : getD (w .symbols) i 0 ≡ 0 → getD (w .stamps) i 0 ≡ 0 → Zeroed w (i + 1)
     zeroed-turn p q = record {
@@ -117,22 +122,10 @@ same-front : (ys zs xs : List ℕ) → same (ys ++ zs) (ys ++ xs) ≡ same zs xs
 same-front [] zs xs = refl
 same-front (y ∷ ys) zs xs = rw (eq-eqb y y refl) (same-front ys zs xs)
 
-eqb-swap : (a b : ℕ) → eqb a b ≡ eqb b a
-eqb-swap a b = by-test (eqb a b) (λ e. yes-both e) (λ e. no-both e)
-  where
-    yes-both : eqb a b ≡ true → eqb a b ≡ eqb b a
-    yes-both e = e ∙ sym (eq-eqb b a (sym (eqb-true a b e)))
-
-    no-both : eqb a b ≡ false → eqb a b ≡ eqb b a
-    no-both e = e ∙ sym (ne-eqb b a (λ (g : b ≡ a). eqb-false a b e (sym g)))
-
-same-zeros : (xs : List ℕ) → same (zeros (length xs)) xs ≡ allZero xs
-same-zeros [] = refl
-same-zeros (x ∷ xs) = ap₂ (λ (a b : Bool). a && b) (eqb-swap 0 x) (same-zeros xs)
-
 same-filled : (n k : ℕ) (xs : List ℕ) → length xs ≡ k → n ≤ k → same (filled k (take n xs)) xs ≡ allZero (drop n xs)
 same-filled n k xs e h =
-    let left : k - length (take n xs) ≡ length (drop n xs) = omega (arith, length-take-le n xs (omega arith), length-drop n xs) in
+    let left : k - length (take n xs) ≡ length (drop n xs) =
+    omega (arith, length-take-le n xs (omega arith), length-drop n xs) in
     ap (λ (m : ℕ). same (take n xs ++ zeros m) xs) left
     ∙ ap (same (take n xs ++ zeros (length (drop n xs)))) (sym (take-append-drop n xs))
     ∙ same-front (take n xs) (zeros (length (drop n xs))) (drop n xs)
@@ -150,7 +143,13 @@ same-listed w f h =
 
 -- in_list
 most-length : (w : Listed) → Six w → length (eventsIn w) ≤ mostListed
-most-length w f = omega (arith, events-most (take (w .count) (w .symbols)) (take (w .count) (w .stamps)), length-take (w .count) (w .symbols), f .symbols-six)
+most-length w f =
+    omega (
+      arith,
+      events-most (take (w .count) (w .symbols)) (take (w .count) (w .stamps)),
+      length-take (w .count) (w .symbols),
+      f .symbols-six,
+    )
   where
     events-most : (xs ts : List ℕ) → length (eventsOf xs ts) ≤ length xs
     events-most [] ts = omega arith
@@ -161,7 +160,8 @@ module _ (z : Size) (w : Listed) (f : Six w) where
   pub over-six : mostListed < w .count → false ≡ inList z w
   unfolding inList
   over-six h =
-      rw (ne-eqb (length (eventsIn w)) (w .count) (λ (e : length (eventsIn w) ≡ w .count). omega (arith, e, most-length w f)))
+      let other : length (eventsIn w) ≡ w .count → ⊥ = λ e. omega (arith, e, most-length w f) in
+      rw (ne-eqb (length (eventsIn w)) (w .count) other)
       (sym (and-no (fits (z .symbols) (z .seconds) (z .events) (eventsIn w))))
 
   module _ (h : w .count ≤ mostListed) where
@@ -175,7 +175,8 @@ module _ (z : Size) (w : Listed) (f : Six w) where
       not-zero e = rw (same-listed w f h, e) (sym (and-no (fits (z .symbols) (z .seconds) (z .events) (eventsIn w))))
 
       pub events-decide :
-          (s top : ℕ) → s ≡ z .symbols → top ≡ lastStamp (z .seconds) → restZero w ≡ true → (r : Bool) → r ≡ fitsFrom s top 0 (eventsIn w)
+          (s top : ℕ) → s ≡ z .symbols → top ≡ lastStamp (z .seconds) → restZero w ≡ true → (r : Bool)
+          → r ≡ fitsFrom s top 0 (eventsIn w)
           → r ≡ inList z w
       unfolding inList
       events-decide s top p q e r k =
@@ -184,7 +185,8 @@ module _ (z : Size) (w : Listed) (f : Six w) where
           ∙ go (fitsFrom (z .symbols) (lastStamp (z .seconds)) 0 (eventsIn w))
         where
           go : (b : Bool) → b ≡ ((leb (length (eventsIn w)) (z .events) && b) && sameListed (listedOf (eventsIn w)) w)
-          go true = rw (le-leb (length (eventsIn w)) (z .events) (omega (arith, events-count w f h)), same-listed w f h, e)
+          go true =
+              rw (le-leb (length (eventsIn w)) (z .events) (omega (arith, events-count w f h)), same-listed w f h, e)
           go false = rw (le-leb (length (eventsIn w)) (z .events) (omega (arith, events-count w f h)))
 
 -- size_ok: each number as wide as it is compared
@@ -240,7 +242,7 @@ member z w f h =
     let counts : length (eventsIn w) ≡ w .count =
     eqb-true (length (eventsIn w)) (w .count)
     (and-left (eqb (length (eventsIn w)) (w .count))
-    (same (filled mostListed (symbolsOf (eventsIn w))) (w .symbols) && same (filled mostListed (stampsOf (eventsIn w))) (w .stamps))
+    (same (listedOf (eventsIn w) .symbols) (w .symbols) && same (listedOf (eventsIn w) .stamps) (w .stamps))
     same-is) in
     let most : w .count ≤ mostListed = omega (arith, counts, most-length w f) in
     record {
@@ -250,7 +252,9 @@ member z w f h =
             arith,
             counts,
             leb-true (length (eventsIn w)) (z .events)
-                (and-left (leb (length (eventsIn w)) (z .events)) (fitsFrom (z .symbols) (lastStamp (z .seconds)) 0 (eventsIn w)) fit),
+                (and-left (leb (length (eventsIn w)) (z .events))
+                (fitsFrom (z .symbols) (lastStamp (z .seconds)) 0 (eventsIn w))
+                fit),
           );
       rest-zero = sym (same-listed w f most) ∙ same-is;
       all-fit = fit;

@@ -11,14 +11,16 @@ use Rattle.model.specs.declared.Listed.{Listed}
 use Rattle.model.specs.declared.Next.{Next}
 use Rattle.model.specs.Basics.{zeros, filled, fine}
 use Rattle.model.specs.Words.{Event}
-use Rattle.model.specs.Lists.{mostListed, listGrain, lastStamp, sizeOk, listOf, following, Following, symbolsOf, stampsOf}
+use Rattle.model.specs.Lists.{mostListed, listGrain, lastStamp, sizeOk, listOf, following, Following, symbolsOf}
+use Rattle.model.specs.Lists.{stampsOf}
 use Rattle.model.specs.Lists.{eventsIn, listedOf, inList, listRefusal}
 use Rattle.model.specs.Promises.{nextOf}
 use Rattle.model.proofs.NextWord.{floor, nextOrLonger, next-is}
 use Rattle.lists.specs.Odometer.{wordOf, answerOf, Six, upToRaised, raisedAt, leastFrom, Raising}
 use Rattle.lists.proofs.Places.{events-count}
 use Rattle.lists.proofs.Fitting.{InRange, in-range, Member, member}
-use Rattle.lists.proofs.Raised.{zeros-both, up-to-most, bump-none, bump-raised, floor-is, least-length, least-symbols, least-stamps}
+use Rattle.lists.proofs.Raised.{zeros-both, up-to-most, bump-none, bump-raised, floor-is, least-length}
+use Rattle.lists.proofs.Raised.{least-symbols, least-stamps}
 
 -- the word's own places, with its count as a wider number
 pub own-word : (w : Listed) {n : ℕ} → n ≡ w .count → wordOf n (w .symbols) (w .stamps) ≡ w
@@ -49,10 +51,13 @@ filled-zeros k h =
     zeros-both k (mostListed - length (zeros k)) ∙ ap zeros all
 
 -- the first word of a length
-first-word : (n : ℕ) → n ≤ mostListed → listedOf (floor n 0) ≡ record { count = n; symbols = replicate mostListed 0; stamps = replicate mostListed 0 }
+first-word :
+    (n : ℕ) → n ≤ mostListed
+    → listedOf (floor n 0) ≡ record { count = n; symbols = replicate mostListed 0; stamps = replicate mostListed 0 }
 first-word n h =
+    let least : Listed = listedOf (leastFrom n 0) in
     ap listedOf (floor-is n 0)
-    ∙ ap (λ (k : ℕ). record { count = k; symbols = filled mostListed (symbolsOf (leastFrom n 0)); stamps = filled mostListed (stampsOf (leastFrom n 0)) })
+    ∙ ap (λ (k : ℕ). record { count = k; symbols = least .symbols; stamps = least .stamps })
     (least-length n 0)
     ∙ ap₂ (λ (a b : List ℕ). record { count = n; symbols = a; stamps = b })
     (ap (filled mostListed) (least-symbols n 0) ∙ filled-zeros n h)
@@ -138,7 +143,8 @@ module _ {z : Size} {w : Listed} {r : ℕ} (x : Found z w r) where
 
     pub next-longer :
         (w .count ≡ z .events → ⊥)
-        → answerOf 0 false (record { count = w .count + 1; symbols = replicate mostListed 0; stamps = replicate mostListed 0 }) ≡ said z w
+        → answerOf 0 false
+        (record { count = w .count + 1; symbols = replicate mostListed 0; stamps = replicate mostListed 0 }) ≡ said z w
     next-longer n =
         let longer : w .count < z .events = omega (arith, of-list .count-within) in
         let one : suc (length vs) ≡ w .count + 1 = omega (arith, counts) in

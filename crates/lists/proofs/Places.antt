@@ -23,7 +23,8 @@ six w vs is = record {
   stamps-six = sym (length-map (w .stamps) (λ (x : ℕ). x)) ∙ is .1 .1 .1 .1 .0 .1 .0 .1;
 }
 
-drop-events : (i : ℕ) (xs ts : List ℕ) → length xs ≡ length ts → drop i (eventsOf xs ts) ≡ eventsOf (drop i xs) (drop i ts)
+drop-events :
+    (i : ℕ) (xs ts : List ℕ) → length xs ≡ length ts → drop i (eventsOf xs ts) ≡ eventsOf (drop i xs) (drop i ts)
 drop-events zero xs ts h = refl
 drop-events (suc i) [] ts h = refl
 drop-events (suc i) (x ∷ xs) [] h = absurd (omega arith)
@@ -70,5 +71,6 @@ module _ (w : Listed) (f : Six w) (h : w .count ≤ mostListed) where
       drop-events i xs ts taken-both
       ∙ events-rest xs ts i (omega (arith, symbols-taken)) (omega (arith, stamps-taken))
       ∙ ap₂ (λ (v : Event) (vs : List Event). v ∷ vs)
-      (ap₂ (λ (x t : ℕ). record { symbol = x; stamp = t }) (getD-take (w .count) (w .symbols) i 0 g) (getD-take (w .count) (w .stamps) i 0 g))
+      (ap₂ (λ (x t : ℕ). record { symbol = x; stamp = t }) (getD-take (w .count) (w .symbols) i 0 g)
+      (getD-take (w .count) (w .stamps) i 0 g))
       (sym (drop-events (i + 1) xs ts taken-both))

@@ -7,7 +7,7 @@ use native.Mathlib.Omega.{arith}
 use lib.Dec.{eqb, ltb, leb}
 use lib.ListN.{length, getD, take, drop, replicate, length-append, length-drop, length-replicate, drop-of-length-le}
 use lib.Seq.{ext-getD, length-take-le, take-take}
-use borrow.Author.Tests.{ltb-true, ltb-false, eqb-true, lt-ltb, le-ltb, ne-eqb}
+use borrow.Author.Tests.{lt-ltb, le-ltb, ne-eqb}
 use Rattle.model.specs.declared.Size.{Size}
 use Rattle.model.specs.declared.Listed.{Listed}
 use Rattle.model.specs.Basics.{pick, oneIf, zeros, filled}
@@ -15,11 +15,14 @@ use Rattle.model.specs.Words.{Event}
 use Rattle.model.specs.Rules.{mostSymbols}
 use Rattle.model.specs.Lists.{mostListed, mostSeconds, eventOf, fitsFrom, symbolsOf, stampsOf, eventsIn, listedOf}
 use Rattle.model.specs.Lists.{lastStamp, Following}
-use Rattle.model.proofs.Logic.{by-test, or-left, or-right, neither-left, neither-right, and-left, and-right}
+use Rattle.model.proofs.Logic.{by-test, ltb-suc, zeros-at, or-left, or-right, neither-left, neither-right, and-right}
 use Rattle.model.proofs.Events.{eventAt}
 use Rattle.model.proofs.Lists.{symbols-length, stamps-length, fits-of}
 use Rattle.model.proofs.NextWord.{bump, floor, raised}
-use Rattle.lists.specs.Odometer.{Six, allZero, restZero, canRaise, raisedEvent, upToRaised, leastFrom, raisedAt, symbolAt, stampAt, placed, Raising}
+use Rattle.numbers.specs.Lent.{allZero}
+use Rattle.numbers.proofs.Zeros.{zeros-are}
+use Rattle.lists.specs.Odometer.{Six, restZero, canRaise, raisedEvent, upToRaised, leastFrom, raisedAt, symbolAt}
+use Rattle.lists.specs.Odometer.{stampAt, placed, Raising}
 use Rattle.lists.proofs.Fitting.{in-range, member}
 use Rattle.lists.proofs.Places.{events-count, symbols-are, stamps-are, event-at}
 
@@ -42,7 +45,8 @@ module _ (s top : ℕ) where
   pub up-to-most : (vs : List Event) → upToRaised s top vs ≤ length vs
   up-to-most [] = omega arith
   up-to-most (v ∷ vs) =
-      by-test (eqb (upToRaised s top vs) 0) (λ e. rw e (one (canRaise s top v))) (λ e. rw e (omega (arith, up-to-most vs)))
+      by-test (eqb (upToRaised s top vs) 0) (λ e. rw e (one (canRaise s top v)))
+      (λ e. rw e (omega (arith, up-to-most vs)))
     where
       one : (b : Bool) → oneIf b ≤ suc (length vs)
       one true = omega arith
@@ -99,10 +103,6 @@ module _ {s top i : ℕ} {w : Listed} (inv : Stuck s top w i) (f : Six w) (h : w
     }
 
 -- Six places, place by place.
-ltb-suc : (a b : ℕ) → ltb (suc a) (suc b) ≡ ltb a b
-ltb-suc a b = by-test (ltb a b) (λ e. lt-ltb (suc a) (suc b) (omega (arith, ltb-true a b e)) ∙ sym e)
-    (λ e. le-ltb (suc a) (suc b) (omega (arith, ltb-false a b e)) ∙ sym e)
-
 module _ (j i was new : ℕ) where
   pub symbol-before : j < i → was ≡ symbolAt j i was new
   symbol-before h = rw (lt-ltb j i h)
@@ -123,19 +123,16 @@ module _ (j i was new : ℕ) where
     pub stamp-unused : i ≤ j → n ≤ j → was ≡ stampAt j i n was new
     stamp-unused g h = rw (le-ltb j i g, le-ltb j n h)
 
-zeros-at : (n j : ℕ) → getD (zeros n) j 0 ≡ 0
-zeros-at zero j = refl
-zeros-at (suc n) zero = refl
-zeros-at (suc n) (suc j) = zeros-at n j
-
 symbols-at :
     (k i j : ℕ) (xs : List ℕ) (symbol : ℕ) → i ≤ length xs
     → getD (take i xs ++ (symbol ∷ zeros k)) j 0 ≡ symbolAt j i (getD xs j 0) symbol
 symbols-at k zero zero xs symbol h = refl
-symbols-at k zero (suc j) xs symbol h = rw (le-ltb (suc j) 0 (omega arith), lt-ltb 0 (suc j) (omega arith)) (zeros-at k j)
+symbols-at k zero (suc j) xs symbol h =
+    rw (le-ltb (suc j) 0 (omega arith), lt-ltb 0 (suc j) (omega arith)) (zeros-at k j)
 symbols-at k (suc i) j [] symbol h = absurd (omega arith)
 symbols-at k (suc i) zero (x ∷ xs) symbol h = rw (lt-ltb 0 (suc i) (omega arith))
-symbols-at k (suc i) (suc j) (x ∷ xs) symbol h = rw (ltb-suc j i, ltb-suc i j) (symbols-at k i j xs symbol (omega arith))
+symbols-at k (suc i) (suc j) (x ∷ xs) symbol h =
+    rw (ltb-suc j i, ltb-suc i j) (symbols-at k i j xs symbol (omega arith))
 
 run-at :
     (n j : ℕ) (xs : List ℕ) (v : ℕ) → n ≤ length xs
@@ -176,15 +173,21 @@ six-are f l e h = ext-getD 0 (six-of f) l (sym e) (λ j g. at j g ∙ sym (h j))
 module _ (w : Listed) (i symbol stamp : ℕ) (f : Six w) (h : w .count ≤ mostListed) (g : i < w .count) where
   placed-symbols : six-of (λ j. symbolAt j i (getD (w .symbols) j 0) symbol) ≡ placed w i symbol stamp .symbols
   placed-symbols =
-      six-are (λ j. symbolAt j i (getD (w .symbols) j 0) symbol) (take i (w .symbols) ++ (symbol ∷ zeros (mostListed - suc i)))
+      six-are (λ j. symbolAt j i (getD (w .symbols) j 0) symbol)
+      (take i (w .symbols) ++ (symbol ∷ zeros (mostListed - suc i)))
       (length-append (take i (w .symbols)) (symbol ∷ zeros (mostListed - suc i))
-      ∙ omega (arith, length-take-le i (w .symbols) (omega (arith, f .symbols-six)), length-replicate {A = ℕ} (mostListed - suc i) 0))
+      ∙ omega (
+        arith,
+        length-take-le i (w .symbols) (omega (arith, f .symbols-six)),
+        length-replicate {A = ℕ} (mostListed - suc i) 0,
+      ))
       (λ j. symbols-at (mostListed - suc i) i j (w .symbols) symbol (omega (arith, f .symbols-six)))
 
   placed-stamps : six-of (λ j. stampAt j i (w .count) (getD (w .stamps) j 0) stamp) ≡ placed w i symbol stamp .stamps
   placed-stamps =
       let run : List ℕ = replicate (w .count - i) stamp in
-      six-are (λ j. stampAt j i (w .count) (getD (w .stamps) j 0) stamp) (take i (w .stamps) ++ (run ++ drop (w .count) (w .stamps)))
+      six-are (λ j. stampAt j i (w .count) (getD (w .stamps) j 0) stamp)
+      (take i (w .stamps) ++ (run ++ drop (w .count) (w .stamps)))
       (length-append (take i (w .stamps)) (run ++ drop (w .count) (w .stamps))
       ∙ omega (
         arith,
@@ -241,7 +244,8 @@ module _ (s : ℕ) where
   raised-symbols zero (u ∷ vs) rest v e =
       let first : u ≡ v = cc in
       let k : suc (length vs) - 1 ≡ length vs = omega arith in
-      rw (first, k) (ap (λ (xs : List ℕ). raisedEvent s v .symbol ∷ xs) (least-symbols (length vs) (raisedEvent s v .stamp)))
+      rw (first, k)
+      (ap (λ (xs : List ℕ). raisedEvent s v .symbol ∷ xs) (least-symbols (length vs) (raisedEvent s v .stamp)))
   raised-symbols (suc i) (u ∷ vs) rest v e =
       let k : suc (length vs) - suc (suc i) ≡ length vs - suc i = omega arith in
       rw k (ap (λ (xs : List ℕ). u .symbol ∷ xs) (raised-symbols i vs rest v e))
@@ -254,21 +258,16 @@ module _ (s : ℕ) where
   raised-stamps zero (u ∷ vs) rest v e =
       let first : u ≡ v = cc in
       let k : suc (length vs) - 0 ≡ suc (length vs) = omega arith in
-      rw (first, k) (ap (λ (xs : List ℕ). raisedEvent s v .stamp ∷ xs) (least-stamps (length vs) (raisedEvent s v .stamp)))
+      rw (first, k)
+      (ap (λ (xs : List ℕ). raisedEvent s v .stamp ∷ xs) (least-stamps (length vs) (raisedEvent s v .stamp)))
   raised-stamps (suc i) (u ∷ vs) rest v e =
       let k : suc (length vs) - suc i ≡ length vs - i = omega arith in
       rw k (ap (λ (xs : List ℕ). u .stamp ∷ xs) (raised-stamps i vs rest v e))
 
--- unused places of a word of the list are zero
-zeros-are : (xs : List ℕ) → allZero xs ≡ true → xs ≡ zeros (length xs)
-zeros-are [] h = refl
-zeros-are (x ∷ xs) h =
-    ap₂ (λ (y : ℕ) (ys : List ℕ). y ∷ ys) (eqb-true x 0 (and-left (eqb x 0) (allZero xs) h))
-    (zeros-are xs (and-right (eqb x 0) (allZero xs) h))
-
 pub zeros-both : (a b : ℕ) → zeros a ++ zeros b ≡ zeros (a + b)
 zeros-both zero b = let e : 0 + b ≡ b = omega arith in rw e
-zeros-both (suc a) b = let e : suc a + b ≡ suc (a + b) = omega arith in rw e (ap (λ (xs : List ℕ). 0 ∷ xs) (zeros-both a b))
+zeros-both (suc a) b =
+    let e : suc a + b ≡ suc (a + b) = omega arith in rw e (ap (λ (xs : List ℕ). 0 ∷ xs) (zeros-both a b))
 
 -- raise: the word placed is the word with event i raised
 filled-up :
@@ -292,19 +291,27 @@ module _ (s i : ℕ) (w : Listed) (f : Six w) (h : w .count ≤ mostListed) (z :
 
   after-symbols : symbolsOf after ≡ take i (w .symbols) ++ (up .symbol ∷ zeros (w .count - suc i))
   after-symbols =
-      raised-symbols s i (eventsIn w) (drop (i + 1) (eventsIn w)) (eventAt (w .symbols) (w .stamps) i) (event-at w f h i g)
-      ∙ ap₂ (λ (a : List ℕ) (b : ℕ). take i a ++ (up .symbol ∷ zeros (b - suc i))) (symbols-are w f h) (events-count w f h)
-      ∙ ap (λ (a : List ℕ). a ++ (up .symbol ∷ zeros (w .count - suc i))) (take-take i (w .count) (w .symbols) (omega arith))
+      raised-symbols s i (eventsIn w) (drop (i + 1) (eventsIn w)) (eventAt (w .symbols) (w .stamps) i)
+      (event-at w f h i g)
+      ∙ ap₂ (λ (a : List ℕ) (b : ℕ). take i a ++ (up .symbol ∷ zeros (b - suc i))) (symbols-are w f h)
+      (events-count w f h)
+      ∙ ap (λ (a : List ℕ). a ++ (up .symbol ∷ zeros (w .count - suc i)))
+      (take-take i (w .count) (w .symbols) (omega arith))
 
   after-stamps : stampsOf after ≡ take i (w .stamps) ++ replicate (w .count - i) (up .stamp)
   after-stamps =
-      raised-stamps s i (eventsIn w) (drop (i + 1) (eventsIn w)) (eventAt (w .symbols) (w .stamps) i) (event-at w f h i g)
+      raised-stamps s i (eventsIn w) (drop (i + 1) (eventsIn w)) (eventAt (w .symbols) (w .stamps) i)
+      (event-at w f h i g)
       ∙ ap₂ (λ (a : List ℕ) (b : ℕ). take i a ++ replicate (b - i) (up .stamp)) (stamps-are w f h) (events-count w f h)
-      ∙ ap (λ (a : List ℕ). a ++ replicate (w .count - i) (up .stamp)) (take-take i (w .count) (w .stamps) (omega arith))
+      ∙ ap (λ (a : List ℕ). a ++ replicate (w .count - i) (up .stamp))
+      (take-take i (w .count) (w .stamps) (omega arith))
 
-  filled-symbols : filled mostListed (symbolsOf after) ≡ take i (w .symbols) ++ (up .symbol ∷ zeros (mostListed - suc i))
+  filled-symbols :
+      filled mostListed (symbolsOf after)
+      ≡ take i (w .symbols) ++ (up .symbol ∷ zeros (mostListed - suc i))
   filled-symbols =
-      let left : mostListed - length (symbolsOf after) ≡ mostListed - w .count = omega (arith, symbols-length after, after-count) in
+      let left : mostListed - length (symbolsOf after) ≡ mostListed - w .count =
+      omega (arith, symbols-length after, after-count) in
       let all : w .count - suc i + (mostListed - w .count) ≡ mostListed - suc i = omega arith in
       ap₂ (λ (a : List ℕ) (b : ℕ). a ++ zeros b) after-symbols left
       ∙ append-assoc (take i (w .symbols)) (up .symbol ∷ zeros (w .count - suc i)) (zeros (mostListed - w .count))
@@ -316,40 +323,42 @@ module _ (s i : ℕ) (w : Listed) (f : Six w) (h : w .count ≤ mostListed) (z :
       ≡ take i (w .stamps) ++ (replicate (w .count - i) (up .stamp) ++ drop (w .count) (w .stamps))
   filled-stamps =
       ap (filled mostListed) after-stamps
-      ∙ filled-up mostListed (w .count) (w .stamps) (take i (w .stamps)) (replicate (w .count - i) (up .stamp)) (f .stamps-six) h
+      ∙ filled-up mostListed (w .count) (w .stamps) (take i (w .stamps)) (replicate (w .count - i) (up .stamp))
+      (f .stamps-six) h
       (and-right (allZero (drop (w .count) (w .symbols))) (allZero (drop (w .count) (w .stamps))) z)
       (sym (ap length after-stamps) ∙ stamps-length after ∙ after-count)
 
   pub raised-is : listedOf after ≡ placed w i (up .symbol) (up .stamp)
   raised-is =
-      ap (λ (n : ℕ). record { count = n; symbols = filled mostListed (symbolsOf after); stamps = filled mostListed (stampsOf after) }) after-count
+      ap (λ (n : ℕ). record { count = n; symbols = listedOf after .symbols; stamps = listedOf after .stamps })
+      after-count
       ∙ ap₂ (λ (a b : List ℕ). record { count = w .count; symbols = a; stamps = b }) filled-symbols filled-stamps
 
+  abbrev symbol : ℕ
+  symbol = getD (w .symbols) i 0
+
+  abbrev stamp : ℕ
+  stamp = getD (w .stamps) i 0
+
+  abbrev either : Bool → Event
+  either b = pick b (eventOf (suc symbol) stamp) (eventOf 0 (suc stamp))
+
   -- its symbol is raised
-  pub symbol-raised :
-      getD (w .symbols) i 0 + 1 < s
-      → placed w i (getD (w .symbols) i 0 + 1) (getD (w .stamps) i 0) ≡ listedOf after
+  pub symbol-raised : symbol + 1 < s → placed w i (symbol + 1) stamp ≡ listedOf after
   symbol-raised p =
-      let one : getD (w .symbols) i 0 + 1 ≡ suc (getD (w .symbols) i 0) = omega arith in
+      let one : symbol + 1 ≡ suc symbol = omega arith in
       sym
       (raised-is
-      ∙ ap (λ (v : Event). placed w i (v .symbol) (v .stamp))
-      (ap
-      (λ (b : Bool). pick b (eventOf (suc (getD (w .symbols) i 0)) (getD (w .stamps) i 0)) (eventOf 0 (suc (getD (w .stamps) i 0))))
-      (lt-ltb (suc (getD (w .symbols) i 0)) s (omega arith)))
-      ∙ ap (λ (x : ℕ). placed w i x (getD (w .stamps) i 0)) (sym one))
+      ∙ ap (λ (v : Event). placed w i (v .symbol) (v .stamp)) (ap either (lt-ltb (suc symbol) s (omega arith)))
+      ∙ ap (λ (x : ℕ). placed w i x stamp) (sym one))
 
   -- its stamp is
-  pub stamp-raised :
-      s ≤ getD (w .symbols) i 0 + 1 → placed w i 0 (getD (w .stamps) i 0 + 1) ≡ listedOf after
+  pub stamp-raised : s ≤ symbol + 1 → placed w i 0 (stamp + 1) ≡ listedOf after
   stamp-raised p =
-      let one : getD (w .stamps) i 0 + 1 ≡ suc (getD (w .stamps) i 0) = omega arith in
+      let one : stamp + 1 ≡ suc stamp = omega arith in
       sym
       (raised-is
-      ∙ ap (λ (v : Event). placed w i (v .symbol) (v .stamp))
-      (ap
-      (λ (b : Bool). pick b (eventOf (suc (getD (w .symbols) i 0)) (getD (w .stamps) i 0)) (eventOf 0 (suc (getD (w .stamps) i 0))))
-      (le-ltb (suc (getD (w .symbols) i 0)) s (omega arith)))
+      ∙ ap (λ (v : Event). placed w i (v .symbol) (v .stamp)) (ap either (le-ltb (suc symbol) s (omega arith)))
       ∙ ap (λ (x : ℕ). placed w i 0 x) (sym one))
 
 -- a stamp of a word that fits ends in time
@@ -376,7 +385,9 @@ pub raisable-at : {z : Size} {w : Listed} {i : ℕ} → Six w → Raising z w i 
 raisable-at {z} {w} {i} f r =
     let k = in-range z (r .size-ok) in
     let m = member z w f (r .in-list) in
-    let fit = and-right (leb (length (eventsIn w)) (z .events)) (fitsFrom (z .symbols) (lastStamp (z .seconds)) 0 (eventsIn w)) (m .all-fit) in
+    let fit =
+    and-right (leb (length (eventsIn w)) (z .events)) (fitsFrom (z .symbols) (lastStamp (z .seconds)) 0 (eventsIn w))
+    (m .all-fit) in
     record {
       place-of = r .below;
       most-count = m .most-count;
@@ -407,7 +418,10 @@ module _ (s top : ℕ) where
 
   not-raised : (v : Event) (n : ℕ) → canRaise s top v ≡ false → raised s top v n ≡ none
   not-raised v n h =
-      rw (neither-left (ltb (suc (v .symbol)) s) (ltb (v .stamp) top) h, neither-right (ltb (suc (v .symbol)) s) (ltb (v .stamp) top) h)
+      rw (
+        neither-left (ltb (suc (v .symbol)) s) (ltb (v .stamp) top) h,
+        neither-right (ltb (suc (v .symbol)) s) (ltb (v .stamp) top) h,
+      )
 
   is-raised :
       (v : Event) (n : ℕ) → canRaise s top v ≡ true
@@ -441,7 +455,9 @@ module _ (s top : ℕ) where
   bump-raised i [] h = absurd (omega arith)
   bump-raised zero (v ∷ vs) h = go (upToRaised s top vs) (canRaise s top v) refl refl
     where
-      go : (k : ℕ) (b : Bool) → upToRaised s top vs ≡ k → canRaise s top v ≡ b → bump s top (v ∷ vs) ≡ found (raisedAt s 0 (v ∷ vs))
+      go :
+          (k : ℕ) (b : Bool) → upToRaised s top vs ≡ k → canRaise s top v ≡ b
+          → bump s top (v ∷ vs) ≡ found (raisedAt s 0 (v ∷ vs))
       go zero true e g = rw (bump-none vs e) (is-raised v (length vs) g)
       go zero false e g = let n : _≡_ {A = ℕ} 0 1 = rw (e, g) at h in absurd (omega arith)
       go (suc k) b e g = let n : suc (suc k) ≡ 1 = rw (e, more k) at h in absurd (omega arith)

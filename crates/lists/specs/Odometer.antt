@@ -10,6 +10,7 @@ use Rattle.model.specs.declared.Listed.{Listed}
 use Rattle.model.specs.declared.Next.{Next}
 use Rattle.model.specs.Basics.{pick, oneIf, zeros}
 use Rattle.model.specs.Words.{Event}
+use Rattle.numbers.specs.Lent.{allZero}
 use Rattle.model.specs.Lists.{mostListed, eventOf, sizeOk, inList}
 
 -- a word from its count and its places
@@ -20,10 +21,6 @@ wordOf n xs ts = record { count = n; symbols = xs; stamps = ts }
 pub record Six (w : Listed) : Type 0 where
   pub symbols-six : length (w .symbols) ≡ mostListed
   pub stamps-six : length (w .stamps) ≡ mostListed
-
-abbrev pub allZero : List ℕ → Bool
-allZero [] = true
-allZero (x ∷ xs) = eqb x 0 && allZero xs
 
 -- unused places are zero
 abbrev pub restZero : Listed → Bool
@@ -53,7 +50,8 @@ raisedAt s i [] = []
 raisedAt s zero (v ∷ vs) = raisedEvent s v ∷ leastFrom (length vs) (raisedEvent s v .stamp)
 raisedAt s (suc i) (v ∷ vs) = v ∷ raisedAt s i vs
 
--- What stands at place j once event i has a new symbol and a new stamp: the events after it take symbol 0 and that stamp.
+-- What stands at place j once event i has a new symbol and a new stamp: the events after it take symbol 0 and that
+-- stamp.
 abbrev pub symbolAt : ℕ → ℕ → ℕ → ℕ → ℕ
 symbolAt j i was symbol = pick (ltb j i) was (pick (ltb i j) 0 symbol)
 

@@ -1,13 +1,13 @@
 -- The configurations that 26 counts: those that some run over the events so far reaches, each once. 26 comes at the
 -- first place where they are more than there is room for, and only there.
-use mathlib.Core.Path.{_≡_, refl, sym, _∙_, ap}
+use mathlib.Core.Path.{_≡_, refl, _∙_, ap}
 use mathlib.Core.Bool.{Bool, true, false, _&&_, _||_, not}
 use mathlib.Core.List.{List, [], _∷_, _++_}
 use Prim.Native.Nat.{ℕ, zero, suc, _+_, _-_, _≤_, _<_}
 use native.Mathlib.Omega.{arith}
 use lib.Dec.{eqb, ltb}
 use lib.ListN.{length, take}
-use borrow.Author.Tests.{eqb-true, leb-true, eq-eqb, ne-eqb, lt-ltb, le-leb, not-true}
+use borrow.Author.Tests.{leb-true, ne-eqb, lt-ltb, le-leb, not-true}
 use Rattle.model.specs.Basics.{isIn, same, refusal, fine}
 use Rattle.model.specs.Rules.{Edge, Rule}
 use Rattle.model.specs.Words.{Event}
@@ -15,7 +15,7 @@ use Rattle.model.specs.Runs.{older, zeroed, canTake, startAges, isAccept
 use Rattle.model.specs.Runs.{Config, config, hasConfig, withConfig, byEdges, byConfigs, startConfigs}
 use Rattle.model.specs.Runs.{roomRefusalFrom, roomRefusal}
 use Rattle.model.specs.Claims.{anyAtFinal, configsAfter, configsOf, eachOnce, Configs-are}
-use Rattle.model.proofs.Logic.{by-test, same-truth, and-left, and-right}
+use Rattle.model.proofs.Logic.{by-test, same-truth, eqb-swap, and-left, and-right}
 use Rattle.model.proofs.Logic.{same-equal, same-self, neither-left, neither-right}
 use Rattle.model.proofs.Masks.{Asc}
 use Rattle.model.proofs.Valid.{valid-of}
@@ -28,10 +28,6 @@ same-swap : (xs ys : List ℕ) → same xs ys ≡ same ys xs
 same-swap xs ys =
     same-truth (same xs ys) (same ys xs) (λ h. rw (same-equal xs ys h) (same-self ys))
     (λ h. rw (same-equal ys xs h) (same-self xs))
-
-eqb-swap : (a b : ℕ) → eqb a b ≡ eqb b a
-eqb-swap a b =
-    same-truth (eqb a b) (eqb b a) (λ h. eq-eqb b a (sym (eqb-true a b h))) (λ h. eq-eqb a b (sym (eqb-true b a h)))
 
 has-append :
     (x c : Config) (cs : List Config) → hasConfig x cs ≡ false

@@ -7,8 +7,8 @@ use Prim.Native.Nat.{ℕ, zero, suc, _/_, _%_, _≤_, _<_}
 use native.Mathlib.Omega.{arith}
 use lib.Dec.{eqb, ltb, leb}
 use lib.ListN.{length, getD}
-use borrow.Author.Tests.{ltb-true, ltb-false, leb-true, leb-false, eqb-true, le-leb, eq-eqb}
-use Rattle.model.specs.Basics.{larger, lesser, within, quotient, remainder, isIn, same}
+use borrow.Author.Tests.{ltb-true, ltb-false, leb-true, leb-false, eqb-true, lt-ltb, le-leb, eq-eqb}
+use Rattle.model.specs.Basics.{larger, lesser, within, quotient, remainder, isIn, same, zeros}
 
 -- false is not true
 pub no-way : {A : Type 0} → false ≡ true → A
@@ -28,6 +28,20 @@ pub eqb-suc : (a b : ℕ) → eqb (suc a) (suc b) ≡ eqb a b
 eqb-suc a b =
     same-truth (eqb (suc a) (suc b)) (eqb a b) (λ e. eq-eqb a b (omega (arith, eqb-true (suc a) (suc b) e)))
     (λ e. eq-eqb (suc a) (suc b) (omega (arith, eqb-true a b e)))
+
+pub ltb-suc : (a b : ℕ) → ltb (suc a) (suc b) ≡ ltb a b
+ltb-suc a b =
+    same-truth (ltb (suc a) (suc b)) (ltb a b) (λ e. lt-ltb a b (omega (arith, ltb-true (suc a) (suc b) e)))
+    (λ e. lt-ltb (suc a) (suc b) (omega (arith, ltb-true a b e)))
+
+pub eqb-swap : (a b : ℕ) → eqb a b ≡ eqb b a
+eqb-swap a b =
+    same-truth (eqb a b) (eqb b a) (λ e. eq-eqb b a (sym (eqb-true a b e))) (λ e. eq-eqb a b (sym (eqb-true b a e)))
+
+pub zeros-at : (n i : ℕ) → getD (zeros n) i 0 ≡ 0
+zeros-at zero i = refl
+zeros-at (suc n) zero = refl
+zeros-at (suc n) (suc i) = zeros-at n i
 
 pub and-left : (a b : Bool) → (a && b) ≡ true → a ≡ true
 and-left true b h = refl

@@ -3,3 +3,4 @@ pub mod TwoNumbers
 pub mod Masks
 pub mod Parts
 pub mod Laid
+pub mod Zeros

@@ -15,12 +15,13 @@ use Rattle.model.specs.Rules.{Atom, Edge, mostAtoms, sizesOk, atomsOk, isPinned
 use Rattle.model.specs.Layout.{edgeFields, atomWidth, edgeWidth, atomsIn, edgeIn, edgeAt}
 use Rattle.model.proofs.Logic.{by-test}
 use Rattle.model.proofs.EdgeTable.{atoms-length}
+use Rattle.numbers.specs.Lent.{allZero}
 use Rattle.numbers.proofs.Answers.{failed, passed}
 use Rattle.numbers.proofs.Parts.{part-rest, part-whole}
 use Rattle.edges.specs.Checks.{fieldsOk, wholeAtoms}
 use Rattle.edges.proofs.EdgeChecks.{atoms-part, edge-part}
 use Rattle.edges.proofs.PinLaws.{reset-known}
-use Rattle.rule.specs.Checks.{allZero, unusedZero, edgeGood, edgesGood}
+use Rattle.rule.specs.Checks.{unusedZero, edgeGood, edgesGood}
 
 -- no bit seen up to a place, and zeros from there on
 pub record Zeros (i seen : ℕ) (xs : List ℕ) : Type 0 where

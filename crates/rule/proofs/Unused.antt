@@ -1,6 +1,6 @@
 -- The edge table that its own rule becomes is the lent table exactly if every unused place is zero: the places of the
 -- atoms that an edge does not have, and all places past the last edge.
-use mathlib.Core.Path.{_≡_, refl, sym, _∙_, ap, ap₂}
+use mathlib.Core.Path.{_≡_, refl, sym, _∙_, ap}
 use mathlib.Core.Bool.{Bool, true, false, _&&_}
 use mathlib.Core.List.{List, [], _∷_, _++_, append-assoc}
 use Prim.Native.Nat.{ℕ, zero, suc, _+_, _-_, _*_, _≤_}
@@ -8,18 +8,20 @@ use native.Mathlib.Omega.{arith}
 use lib.Dec.{eqb, leb}
 use lib.ListN.{length, getD, take, drop, length-append, length-drop, take-append-drop}
 use lib.Seq.{length-take-le, take-add}
-use borrow.Author.Tests.{eq-eqb, eqb-true, leb-true}
+use borrow.Author.Tests.{eq-eqb, leb-true}
 use Rattle.model.specs.Basics.{same, zeros, filled}
 use Rattle.model.specs.declared.Head.{Head}
 use Rattle.model.specs.Rules.{Edge, rule, mostAtoms, atomsOk, integerReset, edgesOk}
 use Rattle.model.specs.Files.{atomNumbers}
 use Rattle.model.specs.Layout.{edgeFields, atomWidth, edgeWidth, atomsIn, edgeIn, edgesIn, edgeNumbers, edgesNumbers}
-use Rattle.model.proofs.Logic.{same-truth, same-self}
+use Rattle.model.proofs.Logic.{same-self}
 use Rattle.model.proofs.EdgeTable.{atoms-length}
 use Rattle.model.proofs.EdgesWritten.{edge-numbers-length}
+use Rattle.numbers.specs.Lent.{allZero}
+use Rattle.numbers.proofs.Zeros.{same-zeros}
 use Rattle.edges.specs.Checks.{fieldsOk}
 use Rattle.edges.proofs.EdgeChecks.{atom-numbers}
-use Rattle.rule.specs.Checks.{allZero, unusedZero, edgeGood, edgesGood}
+use Rattle.rule.specs.Checks.{unusedZero, edgeGood, edgesGood}
 
 -- two lists in two parts each
 same-parts :
@@ -34,15 +36,6 @@ same-parts (x ∷ a) (y ∷ c) b d h = go (eqb x y) (same-parts a c b d (omega a
         → (t && same (a ++ b) (c ++ d)) ≡ (t && same a c && same b d)
     go true e = e
     go false e = refl
-
-eqb-turned : (x y : ℕ) → eqb x y ≡ eqb y x
-eqb-turned x y =
-    same-truth (eqb x y) (eqb y x) (λ e. eq-eqb y x (sym (eqb-true x y e)))
-    (λ e. eq-eqb x y (sym (eqb-true y x e)))
-
-same-zeros : (xs : List ℕ) → same (zeros (length xs)) xs ≡ allZero xs
-same-zeros [] = refl
-same-zeros (x ∷ xs) = ap₂ _&&_ (eqb-turned 0 x) (same-zeros xs)
 
 -- the places of an edge's atoms: those that it has, then zeros
 abbrev atomPlaces : ℕ

@@ -1,17 +1,14 @@
 -- The direct test of a head record and an edge table, part by part.
-use mathlib.Core.Bool.{Bool, true, _&&_}
-use mathlib.Core.List.{List, [], _∷_}
+use mathlib.Core.Bool.{Bool, _&&_}
+use mathlib.Core.List.{List}
 use Prim.Native.Nat.{ℕ, zero, suc, _+_, _-_, _*_, _^_}
-use lib.Dec.{eqb, ltb, leb}
+use lib.Dec.{ltb, leb}
 use lib.ListN.{getD, take, drop}
 use Rattle.model.specs.declared.Head.{Head}
 use Rattle.model.specs.Rules.{pairCount, mostPairs, mostEdges, mostAtoms, sizesOk, atomsOk, integerReset}
 use Rattle.model.specs.Layout.{edgeFields, atomWidth, edgeWidth, edgeIn, ruleIn}
+use Rattle.numbers.specs.Lent.{allZero}
 use Rattle.edges.specs.Checks.{fieldsOk}
-
-abbrev pub allZero : List ℕ → Bool
-allZero [] = true
-allZero (x ∷ xs) = eqb x 0 && allZero xs
 
 -- the head record: sizes in range, no location at or past L in either set, edge count in range
 unfoldable pub headGood : Head → Bool

@@ -58,7 +58,8 @@ answer-requires c κs = search needs
 returns : tie.Need-returns
 returns c =
     let asked = c .before .before in
-    record { answer-is = c .answer .ensures ∙ size-refused _ _ (is-false (asked .size-ok .ensures) (c .before .if1 .taken)) }
+    let refused = is-false (asked .size-ok .ensures) (c .before .if1 .taken) in
+    record { answer-is = c .answer .ensures ∙ size-refused _ _ refused }
 
 wide32-requires : tie.Need-wide32-requires
 wide32-requires c κs = search needs
@@ -107,7 +108,8 @@ answer-requires-3 c κs = search needs
 returns-3 : tie.Need-returns-3
 returns-3 c =
     let test = c .before .before in
-    record { answer-is = c .answer3 .ensures ∙ next-raised (found (test .before)) (test .if3 .taken) (c .before .raise .ensures) }
+    let k = found (test .before) in
+    record { answer-is = c .answer3 .ensures ∙ next-raised k (test .if3 .taken) (c .before .raise .ensures) }
 
 answer-requires-4 : tie.Need-answer-requires-4
 answer-requires-4 c κs = search needs
@@ -115,9 +117,8 @@ answer-requires-4 c κs = search needs
 returns-4 : tie.Need-returns-4
 returns-4 c =
     let test = c .before in
-    record {
-      answer-is = c .answer4 .ensures ∙ was-last (found (test .before .before .before .before)) (search needs) (test .if4 .taken);
-    }
+    let k = found (test .before .before .before .before) in
+    record { answer-is = c .answer4 .ensures ∙ was-last k (search needs) (test .if4 .taken) }
 
 add-t19 : tie.Need-add-t19
 add-t19 c =
@@ -130,9 +131,8 @@ answer-requires-5 c κs = search needs
 returns-5 : tie.Need-returns-5
 returns-5 c =
     let test = c .before .before in
-    record {
-      answer-is = c .answer5 .ensures ∙ next-longer (found (test .before .before .before .before)) (search needs) (test .if4 .left);
-    }
+    let k = found (test .before .before .before .before) in
+    record { answer-is = c .answer5 .ensures ∙ next-longer k (search needs) (test .if4 .left) }
 
 pub next-word-spec : {M : Type 1} → statement M
 next-word-spec =

@@ -25,7 +25,8 @@ returns-3 c =
     let events = c .before in
     let symbols = events .before .before in
     let z = symbols .before .before .before .args .size in
-    many-events z (search needs) (omega (arith, symbols .wide32 .ensures .0)) (omega (arith, events .wide322 .ensures .0))
+    many-events z (search needs) (omega (arith, symbols .wide32 .ensures .0))
+    (omega (arith, events .wide322 .ensures .0))
 
 wide32-requires-3 : tie.Need-wide32-requires-3
 wide32-requires-3 c κs = search needs
