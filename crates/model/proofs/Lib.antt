@@ -94,11 +94,12 @@ pub mod ThreeCalls
 pub mod Decision
 -- The runners agree
 pub mod Runners
--- The list of words: half seconds; each word once, how many; words alike; the word after another; in order; short lists
--- and whole answers by computation
+-- The list of words: half seconds; each word once, how many; words alike; the word after another; in order; what is taken
+-- and refused; short lists and whole answers by computation
 pub mod Seconds
 pub mod Lists
 pub mod Alike
 pub mod NextWord
 pub mod ListOrder
+pub mod ListTaken
 pub mod ListExamples

@@ -11,17 +11,20 @@ use Rattle.model.specs.Basics.{pick, oneIf}
 use Rattle.model.specs.Words.{Event}
 use Rattle.model.specs.Lists.{behind, bySymbols, wordsFrom, wordsOf, listed, sameEvent, sameWord, fitsFrom, fits}
 use Rattle.model.specs.Lists.{eventOf, lastStamp, stampCount, following}
-use Rattle.model.specs.Claims.{countIf, times, eventBefore, byEvent, before, Lists-are}
+use Rattle.model.specs.Claims.{countIf, times, eventBefore, byEvent, before}
 use Rattle.model.proofs.Logic.{and-left, and-right, and-both, or-left, or-right, Two, two, less, least}
 use Rattle.model.proofs.Lists.{count-both, none-empty, none-symbols, times-behind, times-symbols, amongSymbols}
-use Rattle.model.proofs.Lists.{words-once, words-counted, list-once, listed-legal, fits-of}
-use Rattle.model.proofs.Alike.{halves-listed, each-once}
+use Rattle.model.proofs.Lists.{words-once, list-once, fits-of}
 use Rattle.model.proofs.NextWord.{nothing, firstOr, followingOr, following-is, not-first}
 
 -- what a count of at least one tells
-is-one : (b : Bool) → 1 ≤ oneIf b → b ≡ true
+pub is-one : (b : Bool) → 1 ≤ oneIf b → b ≡ true
 is-one true h = refl
 is-one false h = absurd (omega arith)
+
+pub most-one : (b : Bool) → oneIf b ≤ 1
+most-one true = omega arith
+most-one false = omega arith
 
 is-picked : (b : Bool) (k : ℕ) → 1 ≤ pick b k 0 → (b ≡ true) × (1 ≤ k)
 is-picked true k h = (refl, h)
@@ -34,11 +37,11 @@ same-word : (w : List Event) → sameWord w w ≡ true
 same-word [] = refl
 same-word (v ∷ vs) = and-both (sameEvent v v) (sameWord vs vs) (same-event v) (same-word vs)
 
-stands-first : (w : List Event) (ws : List (List Event)) → times w (w ∷ ws) ≡ 1 + times w ws
+pub stands-first : (w : List Event) (ws : List (List Event)) → times w (w ∷ ws) ≡ 1 + times w ws
 unfolding countIf
 stands-first w ws = rw (same-word w)
 
-stands-later : (v w : List Event) (ws : List (List Event)) → 1 ≤ times v ws → 1 ≤ times v (w ∷ ws)
+pub stands-later : (v w : List Event) (ws : List (List Event)) → 1 ≤ times v ws → 1 ≤ times v (w ∷ ws)
 unfolding countIf
 stands-later v w ws h = omega arith
 
@@ -87,12 +90,14 @@ symbol-first u v a b e h =
 rest-first :
     (u v : Event) (a b : List Event) → sameEvent v u ≡ true → byEvent a b ≡ true → byEvent (u ∷ a) (v ∷ b) ≡ true
 rest-first u v a b e h =
-    let stamps = eqb-true (v .stamp) (u .stamp) (and-left (eqb (v .stamp) (u .stamp)) (eqb (v .symbol) (u .symbol)) e) in
-    let symbols = eqb-true (v .symbol) (u .symbol) (and-right (eqb (v .stamp) (u .stamp)) (eqb (v .symbol) (u .symbol)) e) in
+    let stamps : Bool = eqb (v .stamp) (u .stamp) in
+    let symbols : Bool = eqb (v .symbol) (u .symbol) in
+    let stamp-is : v .stamp ≡ u .stamp = eqb-true (v .stamp) (u .stamp) (and-left stamps symbols e) in
+    let symbol-is : v .symbol ≡ u .symbol = eqb-true (v .symbol) (u .symbol) (and-right stamps symbols e) in
     or-right (eventBefore u v) (sameEvent u v && byEvent a b)
     (and-both (sameEvent u v) (byEvent a b)
-    (and-both (eqb (u .stamp) (v .stamp)) (eqb (u .symbol) (v .symbol)) (eq-eqb (u .stamp) (v .stamp) (sym stamps))
-    (eq-eqb (u .symbol) (v .symbol) (sym symbols)))
+    (and-both (eqb (u .stamp) (v .stamp)) (eqb (u .symbol) (v .symbol)) (eq-eqb (u .stamp) (v .stamp) (sym stamp-is))
+    (eq-eqb (u .symbol) (v .symbol) (sym symbol-is)))
     h)
 
 -- behind one event
@@ -186,7 +191,8 @@ of-length n (w ∷ ws) h a = (now, of-length n ws (λ v m. h v (stands-later v w
         let here : length w ≡ n = h w (omega (arith, stands-first w ws)) in
         let there-is : length v ≡ n = h v (stands-later v w ws m) in
         or-right (ltb (length w) (length v)) (eqb (length w) (length v) && byEvent w v)
-        (and-both (eqb (length w) (length v)) (byEvent w v) (eq-eqb (length w) (length v) (here ∙ sym there-is)) (a .0 v m))
+        (and-both (eqb (length w) (length v)) (byEvent w v) (eq-eqb (length w) (length v) (here ∙ sym there-is))
+        (a .0 v m))
 
 words-rise : (s h n : ℕ) → Rising before (wordsOf s h n)
 words-rise s h n =
@@ -208,7 +214,7 @@ list-rises s h (suc m) =
         or-left (ltb (length x) (length y)) (eqb (length x) (length y) && byEvent x y)
         (lt-ltb (length x) (length y) (omega (arith, short, long)))
 
-in-order :
+pub in-order :
     (s h m : ℕ) (xs ys : List (List Event)) (v w : List Event) → listed s h m ≡ xs ++ (v ∷ ys) → 1 ≤ times w ys
     → before v w ≡ true
 in-order s h m xs ys v w e n = rising-rest before xs (v ∷ ys) (rw e at (list-rises s h m)) .0 w n
@@ -223,12 +229,8 @@ none-before s h m xs ys v e =
       stands-first v ys,
       most-one (fits s h m v),
     )
-  where
-    most-one : (b : Bool) → oneIf b ≤ 1
-    most-one true = omega arith
-    most-one false = omega arith
 
-stands :
+pub stands :
     (s h m : ℕ) (xs ys : List (List Event)) (v : List Event) → listed s h m ≡ xs ++ (v ∷ ys)
     → following v (listed s h m) ≡ firstOr ys nothing
 stands s h m xs ys v e =
@@ -236,16 +238,3 @@ stands s h m xs ys v e =
     ∙ ap (λ (ws : List (List Event)). followingOr v ws nothing) e
     ∙ not-first v xs (v ∷ ys) nothing (none-before s h m xs ys v e)
     ∙ rw (same-word v, followingOr)
-
-pub lists-are : Lists-are
-lists-are = record {
-  once = list-once;
-  in-order = in-order;
-  stands-next = λ s h m xs ys v w e. stands s h m xs (w ∷ ys) v e;
-  stands-last = λ s h m xs v e. stands s h m xs [] v e;
-  each = each-once;
-  halves-listed = halves-listed;
-  legal = listed-legal;
-  counted = λ s h n. words-counted s n (lastStamp h) 0;
-  of-length = λ s h n w. words-once s (lastStamp h) n (stampCount h) 0 w (omega arith);
-}
