@@ -17,7 +17,7 @@ use numbers::wide16;
 use numbers::wide32;
 
 // Are S, m and H in their ranges?
-pub fn size_ok(size: Size) -> bool
+pub(crate) fn size_ok(size: Size) -> bool
     ensures { λ r. ⌜ r ≡ sizeOk size ⌝ }
 {
     if size.symbols < 1 {
@@ -37,8 +37,8 @@ pub(crate) fn events_fit(
     known: usize,
     top: usize,
     count: usize,
-    symbols: &[u16; 6],
-    stamps: &[u32; 6],
+    symbols: &[u16; MOST_LISTED],
+    stamps: &[u32; MOST_LISTED],
 ) -> bool
     requires { ⌜ (count ≤ mostListed) × Six (wordOf count (now symbols) (now stamps)) ⌝ }
     ensures { λ r. ⌜ r ≡ fitsFrom known top 0 (eventsIn (wordOf count (now (symbols .entry)) (now (stamps .entry)))) ⌝ }
@@ -63,7 +63,11 @@ pub(crate) fn events_fit(
 }
 
 // Are the unused places zero?
-pub(crate) fn rest_zero(count: usize, symbols: &[u16; 6], stamps: &[u32; 6]) -> bool
+pub(crate) fn rest_zero(
+    count: usize,
+    symbols: &[u16; MOST_LISTED],
+    stamps: &[u32; MOST_LISTED],
+) -> bool
     requires { ⌜ Six (wordOf count (now symbols) (now stamps)) ⌝ }
     ensures { λ r. ⌜ r ≡ restZero (wordOf count (now (symbols .entry)) (now (stamps .entry))) ⌝ }
 {
@@ -81,7 +85,12 @@ pub(crate) fn rest_zero(count: usize, symbols: &[u16; 6], stamps: &[u32; 6]) -> 
 }
 
 // Is the word in the list?
-pub(crate) fn in_list(size: Size, count: usize, symbols: &[u16; 6], stamps: &[u32; 6]) -> bool
+pub(crate) fn in_list(
+    size: Size,
+    count: usize,
+    symbols: &[u16; MOST_LISTED],
+    stamps: &[u32; MOST_LISTED],
+) -> bool
     requires { ⌜ Six (wordOf count (now symbols) (now stamps)) ⌝ }
     ensures { λ r. ⌜ r ≡ inList size (wordOf count (now (symbols .entry)) (now (stamps .entry))) ⌝ }
 {
@@ -108,8 +117,8 @@ pub(crate) fn raisable(
     known: usize,
     top: usize,
     count: usize,
-    symbols: &[u16; 6],
-    stamps: &[u32; 6],
+    symbols: &[u16; MOST_LISTED],
+    stamps: &[u32; MOST_LISTED],
 ) -> usize
     requires { ⌜ (count ≤ mostListed) × Six (wordOf count (now symbols) (now stamps)) ⌝ }
     ensures { λ r. ⌜ r ≡ upToRaised known top (eventsIn (wordOf count (now (symbols .entry)) (now (stamps .entry)))) ⌝ }
@@ -231,8 +240,8 @@ pub fn next_word(size: Size, word: Listed) -> Next
     }
     let longer = Listed {
         count: word.count + 1,
-        symbols: [0; 6],
-        stamps: [0; 6],
+        symbols: [0; MOST_LISTED],
+        stamps: [0; MOST_LISTED],
     };
     answer(0, false, longer)
 }

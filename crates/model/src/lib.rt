@@ -224,8 +224,8 @@ pub struct Size {
 #[repr(C)]
 pub struct Listed {
     pub count: u32,
-    pub symbols: [u16; 6],
-    pub stamps: [u32; 6],
+    pub symbols: [u16; MOST_LISTED],
+    pub stamps: [u32; MOST_LISTED],
 }
 
 // The next word of a list; `last`: there is none, and the word is the one given. It is that on a refusal too.
