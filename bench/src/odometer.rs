@@ -2,15 +2,20 @@
 //! is raised, those after it fall to their least. It checks size and word as the library does.
 
 use alderskein::raw::{Listed, Next, Size, LISTED_EVENTS};
+use alderskein::LIST_GRAIN;
 use std::cmp::Ordering;
+
+const MOST_SYMBOLS: u32 = 16;
+const MOST_EVENTS: u32 = LISTED_EVENTS as u32;
+const MOST_SECONDS: u32 = 30;
 
 /// The word after another. Not inlined, as the library is not.
 #[inline(never)]
 pub extern "C" fn next_word(size: Size, word: Listed) -> Next {
-    if !(1..=16).contains(&size.symbols) || size.events > 6 || size.seconds > 30 {
+    if !(1..=MOST_SYMBOLS).contains(&size.symbols) || size.events > MOST_EVENTS || size.seconds > MOST_SECONDS {
         return Next { number: 38, place: 0, last: false, word };
     }
-    let top = 2 * size.seconds;
+    let top = LIST_GRAIN * size.seconds;
     if !in_list(size, top, &word) {
         return Next { number: 39, place: 0, last: false, word };
     }

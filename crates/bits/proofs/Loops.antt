@@ -7,13 +7,13 @@ use native.Mathlib.Omega.{arith}
 use native.Mathlib.Nat.{zero-div}
 use native.Mathlib.Numerals.{add-one}
 use lib.Dec.{eqb, ltb}
-use lib.ListN.{length, getD, drop, length-set, length-replicate, List·getD-eq-default, getD-replicate}
+use lib.ListN.{length, getD, drop, length-set, List·getD-eq-default}
 use lib.Seq.{drop-cons, drop-length, getD-set-other}
 use borrow.Author.Tests.{eqb-true}
 use Rattle.model.specs.Basics.{isIn, zeros, lesser, larger}
 use Rattle.model.specs.Construction.{withCode}
 use Rattle.model.specs.Tables.{scratchBits, mostScratch}
-use Rattle.model.proofs.Logic.{by-test, or-none, no-way, two, less, least, lesser-left, lesser-right}
+use Rattle.model.proofs.Logic.{by-test, zeros-at, or-none, no-way, lesser-left, lesser-right}
 use Rattle.model.proofs.Logic.{larger-left, larger-right, larger-most}
 use Rattle.model.proofs.RowsKeep.{with-ascends}
 use Rattle.bits.specs.declared.Span.{Span}
@@ -22,13 +22,6 @@ use Rattle.bits.proofs.Sets.{codes-rise, codes-are, codes-set, codes-ze
 use Rattle.bits.proofs.Laying.{codes-few}
 
 -- no marks
-zero-at : (n k : ℕ) → getD (zeros n) k 0 ≡ 0
-zero-at n k =
-    elim (two k n) [
-      | less h ↦ getD-replicate n k 0 0 h
-      | least h ↦ List·getD-eq-default (zeros n) 0 (rw (length-replicate {A = ℕ} n 0) h)
-    ]
-
 pub no-codes : (n : ℕ) → codesIn (zeros n) ≡ []
 unfolding codesIn
 no-codes n = codes-zeros 0 n
@@ -41,8 +34,8 @@ no-marks marks e =
     record {
       codes-are = none;
       in-span = record {
-        none-below = λ k l. ap (λ (x : List ℕ). getD x k 0) e ∙ zero-at (length marks) k;
-        none-past = λ k l. ap (λ (x : List ℕ). getD x k 0) e ∙ zero-at (length marks) k;
+        none-below = λ k l. ap (λ (x : List ℕ). getD x k 0) e ∙ zeros-at (length marks) k;
+        none-past = λ k l. ap (λ (x : List ℕ). getD x k 0) e ∙ zeros-at (length marks) k;
         low-most = omega arith;
         past-most = omega arith;
         few = omega arith;

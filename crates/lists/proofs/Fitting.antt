@@ -2,7 +2,7 @@
 use mathlib.Core.Path.{_≡_, refl, sym, _∙_, ap, ap₂}
 use mathlib.Core.Bool.{Bool, true, false, _&&_}
 use mathlib.Core.List.{List, [], _∷_, _++_}
-use Prim.Native.Nat.{ℕ, zero, _+_, _-_, _≤_, _<_}
+use Prim.Native.Nat.{ℕ, _+_, _-_, _≤_, _<_}
 use native.Mathlib.Omega.{arith}
 use native.Mathlib.Numerals.{add-one}
 use lib.Dec.{eqb, leb}
@@ -14,7 +14,8 @@ use Rattle.model.specs.declared.Listed.{Listed}
 use Rattle.model.specs.Basics.{within, same, zeros, filled}
 use Rattle.model.specs.Words.{eventsOf}
 use Rattle.model.specs.Rules.{mostSymbols}
-use Rattle.model.specs.Lists.{mostListed, mostSeconds, sizeOk, lastStamp, fitsFrom, fits, symbolsOf, stampsOf, listedOf}
+use Rattle.model.specs.Lists.{mostListedEvents, mostSeconds, sizeOk, topStamp, fitsFrom, fits}
+use Rattle.model.specs.Lists.{listedOf}
 use Rattle.model.specs.Lists.{eventsIn, sameListed, inList}
 use Rattle.model.proofs.Logic.{and-left, and-right, within-least, within-most}
 use Rattle.model.proofs.Events.{eventAt}
@@ -35,7 +36,7 @@ pub record Fit (s top : ℕ) (w : Listed) (last i : ℕ) : Type 0 where
 pub fit-start : (s top : ℕ) (w : Listed) → Fit s top w 0 0
 fit-start s top w = record { turns = omega arith; rest-is = refl }
 
-module _ {s top last i : ℕ} {w : Listed} (inv : Fit s top w last i) (f : Six w) (h : w .count ≤ mostListed) where
+module _ {s top last i : ℕ} {w : Listed} (inv : Fit s top w last i) (f : Six w) (h : w .count ≤ mostListedEvents) where
   pub fit-end : w .count ≤ i → true ≡ fitsFrom s top 0 (eventsIn w)
   fit-end g =
       sym (ap (fitsFrom s top last) (drop-of-length-le (eventsIn w) {i = i} (omega (arith, events-count w f h))))
@@ -84,13 +85,13 @@ pub zeroed-start : (w : Listed) (i : ℕ) → i ≡ w .count → Zeroed w i
 zeroed-start w i h = record { zeros-are = rw h }
 
 module _ {w : Listed} {i : ℕ} (inv : Zeroed w i) (f : Six w) where
-  pub zeroed-end : mostListed ≤ i → true ≡ restZero w
+  pub zeroed-end : mostListedEvents ≤ i → true ≡ restZero w
   zeroed-end h =
       let a : drop i (w .symbols) ≡ [] = drop-of-length-le (w .symbols) {i = i} (omega (arith, f .symbols-six)) in
       let b : drop i (w .stamps) ≡ [] = drop-of-length-le (w .stamps) {i = i} (omega (arith, f .stamps-six)) in
       rw (← inv .zeros-are, a, b)
 
-  module _ (h : i < mostListed) where
+  module _ (h : i < mostListedEvents) where
     symbols-split : drop i (w .symbols) ≡ getD (w .symbols) i 0 ∷ drop (i + 1) (w .symbols)
     symbols-split = rw (add-one i) (drop-cons (w .symbols) i 0 (omega (arith, f .symbols-six)))
 
@@ -131,18 +132,18 @@ same-filled n k xs e h =
     ∙ same-front (take n xs) (zeros (length (drop n xs))) (drop n xs)
     ∙ same-zeros (drop n xs)
 
-pub same-listed : (w : Listed) → Six w → w .count ≤ mostListed → sameListed (listedOf (eventsIn w)) w ≡ restZero w
+same-listed : (w : Listed) → Six w → w .count ≤ mostListedEvents → sameListed (listedOf (eventsIn w)) w ≡ restZero w
 same-listed w f h =
     rw (
       eq-eqb (length (eventsIn w)) (w .count) (events-count w f h),
       symbols-are w f h,
       stamps-are w f h,
-      same-filled (w .count) mostListed (w .symbols) (f .symbols-six) h,
-      same-filled (w .count) mostListed (w .stamps) (f .stamps-six) h,
+      same-filled (w .count) mostListedEvents (w .symbols) (f .symbols-six) h,
+      same-filled (w .count) mostListedEvents (w .stamps) (f .stamps-six) h,
     )
 
 -- in_list
-most-length : (w : Listed) → Six w → length (eventsIn w) ≤ mostListed
+most-length : (w : Listed) → Six w → length (eventsIn w) ≤ mostListedEvents
 most-length w f =
     omega (
       arith,
@@ -157,14 +158,14 @@ most-length w f =
     events-most (x ∷ xs) (t ∷ ts) = omega (arith, events-most xs ts)
 
 module _ (z : Size) (w : Listed) (f : Six w) where
-  pub over-six : mostListed < w .count → false ≡ inList z w
+  pub over-six : mostListedEvents < w .count → false ≡ inList z w
   unfolding inList
   over-six h =
       let other : length (eventsIn w) ≡ w .count → ⊥ = λ e. omega (arith, e, most-length w f) in
       rw (ne-eqb (length (eventsIn w)) (w .count) other)
       (sym (and-no (fits (z .symbols) (z .seconds) (z .events) (eventsIn w))))
 
-  module _ (h : w .count ≤ mostListed) where
+  module _ (h : w .count ≤ mostListedEvents) where
     pub too-long : z .events < w .count → false ≡ inList z w
     unfolding inList
     too-long g = rw (lt-leb (length (eventsIn w)) (z .events) (omega (arith, events-count w f h)))
@@ -175,14 +176,14 @@ module _ (z : Size) (w : Listed) (f : Six w) where
       not-zero e = rw (same-listed w f h, e) (sym (and-no (fits (z .symbols) (z .seconds) (z .events) (eventsIn w))))
 
       pub events-decide :
-          (s top : ℕ) → s ≡ z .symbols → top ≡ lastStamp (z .seconds) → restZero w ≡ true → (r : Bool)
+          (s top : ℕ) → s ≡ z .symbols → top ≡ topStamp (z .seconds) → restZero w ≡ true → (r : Bool)
           → r ≡ fitsFrom s top 0 (eventsIn w)
           → r ≡ inList z w
       unfolding inList
       events-decide s top p q e r k =
           k
           ∙ ap₂ (λ (a b : ℕ). fitsFrom a b 0 (eventsIn w)) p q
-          ∙ go (fitsFrom (z .symbols) (lastStamp (z .seconds)) 0 (eventsIn w))
+          ∙ go (fitsFrom (z .symbols) (topStamp (z .seconds)) 0 (eventsIn w))
         where
           go : (b : Bool) → b ≡ ((leb (length (eventsIn w)) (z .events) && b) && sameListed (listedOf (eventsIn w)) w)
           go true =
@@ -199,35 +200,36 @@ module _ (z : Size) where
     many-symbols q = rw (le-leb 1 (z .symbols) p, lt-leb (z .symbols) mostSymbols q)
 
     module _ (q : z .symbols ≤ mostSymbols) where
-      pub many-events : mostListed < z .events → false ≡ sizeOk z
-      many-events r = rw (le-leb 1 (z .symbols) p, le-leb (z .symbols) mostSymbols q, lt-leb (z .events) mostListed r)
+      pub many-events : mostListedEvents < z .events → false ≡ sizeOk z
+      many-events r =
+          rw (le-leb 1 (z .symbols) p, le-leb (z .symbols) mostSymbols q, lt-leb (z .events) mostListedEvents r)
 
-      pub seconds-decide : {h : ℕ} → h ≡ z .seconds → z .events ≤ mostListed → leb h mostSeconds ≡ sizeOk z
+      pub seconds-decide : {h : ℕ} → h ≡ z .seconds → z .events ≤ mostListedEvents → leb h mostSeconds ≡ sizeOk z
       seconds-decide e r =
-          rw (e, le-leb 1 (z .symbols) p, le-leb (z .symbols) mostSymbols q, le-leb (z .events) mostListed r)
+          rw (e, le-leb 1 (z .symbols) p, le-leb (z .symbols) mostSymbols q, le-leb (z .events) mostListedEvents r)
 
 -- a size in its ranges, and a word of the list
 pub record InRange (z : Size) : Type 0 where
   pub some-symbols : 1 ≤ z .symbols
   pub most-symbols : z .symbols ≤ mostSymbols
-  pub most-events : z .events ≤ mostListed
+  pub most-events : z .events ≤ mostListedEvents
   pub most-seconds : z .seconds ≤ mostSeconds
 
 pub in-range : (z : Size) → sizeOk z ≡ true → InRange z
 in-range z h =
     let a = within 1 mostSymbols (z .symbols) in
-    let b = leb (z .events) mostListed in
+    let b = leb (z .events) mostListedEvents in
     let c = leb (z .seconds) mostSeconds in
     let front = and-left (a && b) c h in
     record {
       some-symbols = within-least 1 mostSymbols (z .symbols) (and-left a b front);
       most-symbols = within-most 1 mostSymbols (z .symbols) (and-left a b front);
-      most-events = leb-true (z .events) mostListed (and-right a b front);
+      most-events = leb-true (z .events) mostListedEvents (and-right a b front);
       most-seconds = leb-true (z .seconds) mostSeconds (and-right (a && b) c h);
     }
 
 pub record Member (z : Size) (w : Listed) : Type 0 where
-  pub most-count : w .count ≤ mostListed
+  pub most-count : w .count ≤ mostListedEvents
   pub count-within : w .count ≤ z .events
   pub rest-zero : restZero w ≡ true
   pub all-fit : fits (z .symbols) (z .seconds) (z .events) (eventsIn w) ≡ true
@@ -244,7 +246,7 @@ member z w f h =
     (and-left (eqb (length (eventsIn w)) (w .count))
     (same (listedOf (eventsIn w) .symbols) (w .symbols) && same (listedOf (eventsIn w) .stamps) (w .stamps))
     same-is) in
-    let most : w .count ≤ mostListed = omega (arith, counts, most-length w f) in
+    let most : w .count ≤ mostListedEvents = omega (arith, counts, most-length w f) in
     record {
       most-count = most;
       count-within =
@@ -253,7 +255,7 @@ member z w f h =
             counts,
             leb-true (length (eventsIn w)) (z .events)
                 (and-left (leb (length (eventsIn w)) (z .events))
-                (fitsFrom (z .symbols) (lastStamp (z .seconds)) 0 (eventsIn w))
+                (fitsFrom (z .symbols) (topStamp (z .seconds)) 0 (eventsIn w))
                 fit),
           );
       rest-zero = sym (same-listed w f most) ∙ same-is;

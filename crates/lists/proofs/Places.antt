@@ -11,7 +11,7 @@ use denote.Struct.Declared.{row}
 use Rattle.model.proofs.Listed.{the-type}
 use Rattle.model.specs.declared.Listed.{Listed}
 use Rattle.model.specs.Words.{Event, eventsOf}
-use Rattle.model.specs.Lists.{mostListed, eventsIn, symbolsOf, stampsOf}
+use Rattle.model.specs.Lists.{mostListedEvents, eventsIn, symbolsOf, stampsOf}
 use Rattle.lists.specs.Odometer.{Six}
 use Rattle.model.proofs.Words.{events-length}
 use Rattle.model.proofs.Events.{eventAt, events-rest}
@@ -42,7 +42,7 @@ stamps-events (x ∷ xs) [] h = absurd (omega arith)
 stamps-events (x ∷ xs) (t ∷ ts) h = ap (λ (ys : List ℕ). t ∷ ys) (stamps-events xs ts (omega arith))
 
 -- the events of a word with at most six
-module _ (w : Listed) (f : Six w) (h : w .count ≤ mostListed) where
+module _ (w : Listed) (f : Six w) (h : w .count ≤ mostListedEvents) where
   symbols-taken : length (take (w .count) (w .symbols)) ≡ w .count
   symbols-taken = length-take-le (w .count) (w .symbols) (omega (arith, f .symbols-six))
 

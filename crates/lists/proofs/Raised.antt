@@ -13,12 +13,12 @@ use Rattle.model.specs.declared.Listed.{Listed}
 use Rattle.model.specs.Basics.{pick, oneIf, zeros, filled}
 use Rattle.model.specs.Words.{Event}
 use Rattle.model.specs.Rules.{mostSymbols}
-use Rattle.model.specs.Lists.{mostListed, mostSeconds, eventOf, fitsFrom, symbolsOf, stampsOf, eventsIn, listedOf}
-use Rattle.model.specs.Lists.{lastStamp, Following}
+use Rattle.model.specs.Lists.{mostListedEvents, mostSeconds, eventOf, fitsFrom, symbolsOf, stampsOf, eventsIn, listedOf}
+use Rattle.model.specs.Lists.{topStamp}
 use Rattle.model.proofs.Logic.{by-test, ltb-suc, zeros-at, or-left, or-right, neither-left, neither-right, and-right}
 use Rattle.model.proofs.Events.{eventAt}
 use Rattle.model.proofs.Lists.{symbols-length, stamps-length, fits-of}
-use Rattle.model.proofs.NextWord.{bump, floor, raised}
+use Rattle.model.proofs.NextWord.{nothing, found, bump, floor, raised}
 use Rattle.numbers.specs.Lent.{allZero}
 use Rattle.numbers.proofs.Zeros.{zeros-are}
 use Rattle.lists.specs.Odometer.{Six, restZero, canRaise, raisedEvent, upToRaised, leastFrom, raisedAt, symbolAt}
@@ -52,13 +52,13 @@ module _ (s top : ℕ) where
       one true = omega arith
       one false = omega arith
 
-  pub stuck-start : (w : Listed) → Six w → w .count ≤ mostListed → (i : ℕ) → i ≡ w .count → Stuck s top w i
+  pub stuck-start : (w : Listed) → Six w → w .count ≤ mostListedEvents → (i : ℕ) → i ≡ w .count → Stuck s top w i
   stuck-start w f h i e = record {
     within = omega arith;
     none-there = ap (upToRaised s top) (drop-of-length-le (eventsIn w) {i = i} (omega (arith, events-count w f h)));
   }
 
-module _ {s top i : ℕ} {w : Listed} (inv : Stuck s top w i) (f : Six w) (h : w .count ≤ mostListed) where
+module _ {s top i : ℕ} {w : Listed} (inv : Stuck s top w i) (f : Six w) (h : w .count ≤ mostListedEvents) where
   pub stuck-all : i ≤ 0 → 0 ≡ upToRaised s top (eventsIn w)
   stuck-all g =
       let z : i ≡ 0 = omega arith in
@@ -155,13 +155,13 @@ stamps-at (suc i) (suc n) (suc j) (x ∷ xs) v g h =
     let less-one : suc n - suc i ≡ n - i = omega arith in
     rw (less-one, ltb-suc j i, ltb-suc j n) (stamps-at i n j xs v (omega arith) (omega arith))
 
-abbrev pub six-of : (ℕ → ℕ) → List ℕ
+abbrev six-of : (ℕ → ℕ) → List ℕ
 six-of f = f 0 ∷ f 1 ∷ f 2 ∷ f 3 ∷ f 4 ∷ f 5 ∷ []
 
-six-are : (f : ℕ → ℕ) (l : List ℕ) → length l ≡ mostListed → ((j : ℕ) → getD l j 0 ≡ f j) → six-of f ≡ l
+six-are : (f : ℕ → ℕ) (l : List ℕ) → length l ≡ mostListedEvents → ((j : ℕ) → getD l j 0 ≡ f j) → six-of f ≡ l
 six-are f l e h = ext-getD 0 (six-of f) l (sym e) (λ j g. at j g ∙ sym (h j))
   where
-    at : (j : ℕ) → j < mostListed → getD (six-of f) j 0 ≡ f j
+    at : (j : ℕ) → j < mostListedEvents → getD (six-of f) j 0 ≡ f j
     at zero g = refl
     at (suc zero) g = refl
     at (suc (suc zero)) g = refl
@@ -170,18 +170,18 @@ six-are f l e h = ext-getD 0 (six-of f) l (sym e) (λ j g. at j g ∙ sym (h j))
     at (suc (suc (suc (suc (suc zero))))) g = refl
     at (suc (suc (suc (suc (suc (suc j)))))) g = absurd (omega arith)
 
-module _ (w : Listed) (i symbol stamp : ℕ) (f : Six w) (h : w .count ≤ mostListed) (g : i < w .count) where
+module _ (w : Listed) (i symbol stamp : ℕ) (f : Six w) (h : w .count ≤ mostListedEvents) (g : i < w .count) where
   placed-symbols : six-of (λ j. symbolAt j i (getD (w .symbols) j 0) symbol) ≡ placed w i symbol stamp .symbols
   placed-symbols =
       six-are (λ j. symbolAt j i (getD (w .symbols) j 0) symbol)
-      (take i (w .symbols) ++ (symbol ∷ zeros (mostListed - suc i)))
-      (length-append (take i (w .symbols)) (symbol ∷ zeros (mostListed - suc i))
+      (take i (w .symbols) ++ (symbol ∷ zeros (mostListedEvents - suc i)))
+      (length-append (take i (w .symbols)) (symbol ∷ zeros (mostListedEvents - suc i))
       ∙ omega (
         arith,
         length-take-le i (w .symbols) (omega (arith, f .symbols-six)),
-        length-replicate {A = ℕ} (mostListed - suc i) 0,
+        length-replicate {A = ℕ} (mostListedEvents - suc i) 0,
       ))
-      (λ j. symbols-at (mostListed - suc i) i j (w .symbols) symbol (omega (arith, f .symbols-six)))
+      (λ j. symbols-at (mostListedEvents - suc i) i j (w .symbols) symbol (omega (arith, f .symbols-six)))
 
   placed-stamps : six-of (λ j. stampAt j i (w .count) (getD (w .stamps) j 0) stamp) ≡ placed w i symbol stamp .stamps
   placed-stamps =
@@ -279,87 +279,89 @@ filled-up k n xs ys zs e h z l =
     ∙ ap (λ (r : List ℕ). (ys ++ zs) ++ r) (sym (zeros-are (drop n xs) z))
     ∙ append-assoc ys zs (drop n xs)
 
-module _ (s i : ℕ) (w : Listed) (f : Six w) (h : w .count ≤ mostListed) (z : restZero w ≡ true) (g : i < w .count) where
-  abbrev after : List Event
-  after = raisedAt s i (eventsIn w)
+module _
+    (s i : ℕ) (w : Listed) (f : Six w) (h : w .count ≤ mostListedEvents) (z : restZero w ≡ true) (g : i < w .count)
+  where
+    abbrev after : List Event
+    after = raisedAt s i (eventsIn w)
 
-  abbrev up : Event
-  up = raisedEvent s (eventAt (w .symbols) (w .stamps) i)
+    abbrev up : Event
+    up = raisedEvent s (eventAt (w .symbols) (w .stamps) i)
 
-  after-count : length after ≡ w .count
-  after-count = raised-length s i (eventsIn w) ∙ events-count w f h
+    after-count : length after ≡ w .count
+    after-count = raised-length s i (eventsIn w) ∙ events-count w f h
 
-  after-symbols : symbolsOf after ≡ take i (w .symbols) ++ (up .symbol ∷ zeros (w .count - suc i))
-  after-symbols =
-      raised-symbols s i (eventsIn w) (drop (i + 1) (eventsIn w)) (eventAt (w .symbols) (w .stamps) i)
-      (event-at w f h i g)
-      ∙ ap₂ (λ (a : List ℕ) (b : ℕ). take i a ++ (up .symbol ∷ zeros (b - suc i))) (symbols-are w f h)
-      (events-count w f h)
-      ∙ ap (λ (a : List ℕ). a ++ (up .symbol ∷ zeros (w .count - suc i)))
-      (take-take i (w .count) (w .symbols) (omega arith))
+    after-symbols : symbolsOf after ≡ take i (w .symbols) ++ (up .symbol ∷ zeros (w .count - suc i))
+    after-symbols =
+        raised-symbols s i (eventsIn w) (drop (i + 1) (eventsIn w)) (eventAt (w .symbols) (w .stamps) i)
+        (event-at w f h i g)
+        ∙ ap₂ (λ (a : List ℕ) (b : ℕ). take i a ++ (up .symbol ∷ zeros (b - suc i))) (symbols-are w f h)
+        (events-count w f h)
+        ∙ ap (λ (a : List ℕ). a ++ (up .symbol ∷ zeros (w .count - suc i)))
+        (take-take i (w .count) (w .symbols) (omega arith))
 
-  after-stamps : stampsOf after ≡ take i (w .stamps) ++ replicate (w .count - i) (up .stamp)
-  after-stamps =
-      raised-stamps s i (eventsIn w) (drop (i + 1) (eventsIn w)) (eventAt (w .symbols) (w .stamps) i)
-      (event-at w f h i g)
-      ∙ ap₂ (λ (a : List ℕ) (b : ℕ). take i a ++ replicate (b - i) (up .stamp)) (stamps-are w f h) (events-count w f h)
-      ∙ ap (λ (a : List ℕ). a ++ replicate (w .count - i) (up .stamp))
-      (take-take i (w .count) (w .stamps) (omega arith))
+    after-stamps : stampsOf after ≡ take i (w .stamps) ++ replicate (w .count - i) (up .stamp)
+    after-stamps =
+        raised-stamps s i (eventsIn w) (drop (i + 1) (eventsIn w)) (eventAt (w .symbols) (w .stamps) i)
+        (event-at w f h i g)
+        ∙ ap₂ (λ (a : List ℕ) (b : ℕ). take i a ++ replicate (b - i) (up .stamp)) (stamps-are w f h) (events-count w f h)
+        ∙ ap (λ (a : List ℕ). a ++ replicate (w .count - i) (up .stamp))
+        (take-take i (w .count) (w .stamps) (omega arith))
 
-  filled-symbols :
-      filled mostListed (symbolsOf after)
-      ≡ take i (w .symbols) ++ (up .symbol ∷ zeros (mostListed - suc i))
-  filled-symbols =
-      let left : mostListed - length (symbolsOf after) ≡ mostListed - w .count =
-      omega (arith, symbols-length after, after-count) in
-      let all : w .count - suc i + (mostListed - w .count) ≡ mostListed - suc i = omega arith in
-      ap₂ (λ (a : List ℕ) (b : ℕ). a ++ zeros b) after-symbols left
-      ∙ append-assoc (take i (w .symbols)) (up .symbol ∷ zeros (w .count - suc i)) (zeros (mostListed - w .count))
-      ∙ ap (λ (a : List ℕ). take i (w .symbols) ++ (up .symbol ∷ a))
-      (zeros-both (w .count - suc i) (mostListed - w .count) ∙ ap zeros all)
+    filled-symbols :
+        filled mostListedEvents (symbolsOf after)
+        ≡ take i (w .symbols) ++ (up .symbol ∷ zeros (mostListedEvents - suc i))
+    filled-symbols =
+        let left : mostListedEvents - length (symbolsOf after) ≡ mostListedEvents - w .count =
+        omega (arith, symbols-length after, after-count) in
+        let all : w .count - suc i + (mostListedEvents - w .count) ≡ mostListedEvents - suc i = omega arith in
+        ap₂ (λ (a : List ℕ) (b : ℕ). a ++ zeros b) after-symbols left
+        ∙ append-assoc (take i (w .symbols)) (up .symbol ∷ zeros (w .count - suc i)) (zeros (mostListedEvents - w .count))
+        ∙ ap (λ (a : List ℕ). take i (w .symbols) ++ (up .symbol ∷ a))
+        (zeros-both (w .count - suc i) (mostListedEvents - w .count) ∙ ap zeros all)
 
-  filled-stamps :
-      filled mostListed (stampsOf after)
-      ≡ take i (w .stamps) ++ (replicate (w .count - i) (up .stamp) ++ drop (w .count) (w .stamps))
-  filled-stamps =
-      ap (filled mostListed) after-stamps
-      ∙ filled-up mostListed (w .count) (w .stamps) (take i (w .stamps)) (replicate (w .count - i) (up .stamp))
-      (f .stamps-six) h
-      (and-right (allZero (drop (w .count) (w .symbols))) (allZero (drop (w .count) (w .stamps))) z)
-      (sym (ap length after-stamps) ∙ stamps-length after ∙ after-count)
+    filled-stamps :
+        filled mostListedEvents (stampsOf after)
+        ≡ take i (w .stamps) ++ (replicate (w .count - i) (up .stamp) ++ drop (w .count) (w .stamps))
+    filled-stamps =
+        ap (filled mostListedEvents) after-stamps
+        ∙ filled-up mostListedEvents (w .count) (w .stamps) (take i (w .stamps)) (replicate (w .count - i) (up .stamp))
+        (f .stamps-six) h
+        (and-right (allZero (drop (w .count) (w .symbols))) (allZero (drop (w .count) (w .stamps))) z)
+        (sym (ap length after-stamps) ∙ stamps-length after ∙ after-count)
 
-  pub raised-is : listedOf after ≡ placed w i (up .symbol) (up .stamp)
-  raised-is =
-      ap (λ (n : ℕ). record { count = n; symbols = listedOf after .symbols; stamps = listedOf after .stamps })
-      after-count
-      ∙ ap₂ (λ (a b : List ℕ). record { count = w .count; symbols = a; stamps = b }) filled-symbols filled-stamps
+    raised-is : listedOf after ≡ placed w i (up .symbol) (up .stamp)
+    raised-is =
+        ap (λ (n : ℕ). record { count = n; symbols = listedOf after .symbols; stamps = listedOf after .stamps })
+        after-count
+        ∙ ap₂ (λ (a b : List ℕ). record { count = w .count; symbols = a; stamps = b }) filled-symbols filled-stamps
 
-  abbrev symbol : ℕ
-  symbol = getD (w .symbols) i 0
+    abbrev symbol : ℕ
+    symbol = getD (w .symbols) i 0
 
-  abbrev stamp : ℕ
-  stamp = getD (w .stamps) i 0
+    abbrev stamp : ℕ
+    stamp = getD (w .stamps) i 0
 
-  abbrev either : Bool → Event
-  either b = pick b (eventOf (suc symbol) stamp) (eventOf 0 (suc stamp))
+    abbrev either : Bool → Event
+    either b = pick b (eventOf (suc symbol) stamp) (eventOf 0 (suc stamp))
 
-  -- its symbol is raised
-  pub symbol-raised : symbol + 1 < s → placed w i (symbol + 1) stamp ≡ listedOf after
-  symbol-raised p =
-      let one : symbol + 1 ≡ suc symbol = omega arith in
-      sym
-      (raised-is
-      ∙ ap (λ (v : Event). placed w i (v .symbol) (v .stamp)) (ap either (lt-ltb (suc symbol) s (omega arith)))
-      ∙ ap (λ (x : ℕ). placed w i x stamp) (sym one))
+    -- its symbol is raised
+    pub symbol-raised : symbol + 1 < s → placed w i (symbol + 1) stamp ≡ listedOf after
+    symbol-raised p =
+        let one : symbol + 1 ≡ suc symbol = omega arith in
+        sym
+        (raised-is
+        ∙ ap (λ (v : Event). placed w i (v .symbol) (v .stamp)) (ap either (lt-ltb (suc symbol) s (omega arith)))
+        ∙ ap (λ (x : ℕ). placed w i x stamp) (sym one))
 
-  -- its stamp is
-  pub stamp-raised : s ≤ symbol + 1 → placed w i 0 (stamp + 1) ≡ listedOf after
-  stamp-raised p =
-      let one : stamp + 1 ≡ suc stamp = omega arith in
-      sym
-      (raised-is
-      ∙ ap (λ (v : Event). placed w i (v .symbol) (v .stamp)) (ap either (le-ltb (suc symbol) s (omega arith)))
-      ∙ ap (λ (x : ℕ). placed w i 0 x) (sym one))
+    -- its stamp is
+    pub stamp-raised : s ≤ symbol + 1 → placed w i 0 (stamp + 1) ≡ listedOf after
+    stamp-raised p =
+        let one : stamp + 1 ≡ suc stamp = omega arith in
+        sym
+        (raised-is
+        ∙ ap (λ (v : Event). placed w i (v .symbol) (v .stamp)) (ap either (le-ltb (suc symbol) s (omega arith)))
+        ∙ ap (λ (x : ℕ). placed w i 0 x) (sym one))
 
 -- a stamp of a word that fits ends in time
 stamp-most :
@@ -374,19 +376,19 @@ stamp-most s top last (suc i) (u ∷ vs) rest v h e =
     stamp-most s top (u .stamp) i vs rest v (fits-of s top last u vs h .rest) e
 
 -- what raise may count on
-pub record Raisable (z : Size) (w : Listed) (i : ℕ) : Type 0 where
+pub record RaiseFacts (z : Size) (w : Listed) (i : ℕ) : Type 0 where
   pub place-of : i < w .count
-  pub most-count : w .count ≤ mostListed
+  pub most-count : w .count ≤ mostListedEvents
   pub most-symbols : z .symbols ≤ mostSymbols
-  pub most-stamp : getD (w .stamps) i 0 ≤ lastStamp mostSeconds
+  pub most-stamp : getD (w .stamps) i 0 ≤ topStamp mostSeconds
   pub rest-zero : restZero w ≡ true
 
-pub raisable-at : {z : Size} {w : Listed} {i : ℕ} → Six w → Raising z w i → Raisable z w i
+pub raisable-at : {z : Size} {w : Listed} {i : ℕ} → Six w → Raising z w i → RaiseFacts z w i
 raisable-at {z} {w} {i} f r =
     let k = in-range z (r .size-ok) in
     let m = member z w f (r .in-list) in
     let fit =
-    and-right (leb (length (eventsIn w)) (z .events)) (fitsFrom (z .symbols) (lastStamp (z .seconds)) 0 (eventsIn w))
+    and-right (leb (length (eventsIn w)) (z .events)) (fitsFrom (z .symbols) (topStamp (z .seconds)) 0 (eventsIn w))
     (m .all-fit) in
     record {
       place-of = r .below;
@@ -396,7 +398,7 @@ raisable-at {z} {w} {i} f r =
           omega (
             arith,
             k .most-seconds,
-            stamp-most (z .symbols) (lastStamp (z .seconds)) 0 i (eventsIn w) (drop (i + 1) (eventsIn w))
+            stamp-most (z .symbols) (topStamp (z .seconds)) 0 i (eventsIn w) (drop (i + 1) (eventsIn w))
                 (eventAt (w .symbols) (w .stamps) i)
                 fit
                 (event-at w f (m .most-count) i (r .below)),
@@ -410,13 +412,7 @@ floor-is zero t = refl
 floor-is (suc n) t = ap (λ (vs : List Event). eventOf 0 t ∷ vs) (floor-is n t)
 
 module _ (s top : ℕ) where
-  abbrev none : Following
-  none = record { some = false; word = [] }
-
-  abbrev found : List Event → Following
-  found vs = record { some = true; word = vs }
-
-  not-raised : (v : Event) (n : ℕ) → canRaise s top v ≡ false → raised s top v n ≡ none
+  not-raised : (v : Event) (n : ℕ) → canRaise s top v ≡ false → raised s top v n ≡ nothing
   not-raised v n h =
       rw (
         neither-left (ltb (suc (v .symbol)) s) (ltb (v .stamp) top) h,
@@ -439,14 +435,14 @@ module _ (s top : ℕ) where
   more : (k : ℕ) → eqb (suc k) 0 ≡ false
   more k = ne-eqb (suc k) 0 (λ (e : suc k ≡ 0). omega (arith, e))
 
-  pub bump-none : (vs : List Event) → upToRaised s top vs ≡ 0 → bump s top vs ≡ none
+  pub bump-none : (vs : List Event) → upToRaised s top vs ≡ 0 → bump s top vs ≡ nothing
   bump-none [] h = refl
   bump-none (v ∷ vs) h = go (upToRaised s top vs) (canRaise s top v) refl refl (bump-none vs)
     where
       go :
           (k : ℕ) (b : Bool) → upToRaised s top vs ≡ k → canRaise s top v ≡ b
-          → (upToRaised s top vs ≡ 0 → bump s top vs ≡ none)
-          → bump s top (v ∷ vs) ≡ none
+          → (upToRaised s top vs ≡ 0 → bump s top vs ≡ nothing)
+          → bump s top (v ∷ vs) ≡ nothing
       go zero false e g later = rw (later e) (not-raised v (length vs) g)
       go zero true e g later = let n : _≡_ {A = ℕ} 1 0 = rw (e, g) at h in absurd (omega arith)
       go (suc k) b e g later = let n : suc (suc k) ≡ 0 = rw (e, more k) at h in absurd (omega arith)

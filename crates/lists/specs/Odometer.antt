@@ -11,7 +11,7 @@ use Rattle.model.specs.declared.Next.{Next}
 use Rattle.model.specs.Basics.{pick, oneIf, zeros}
 use Rattle.model.specs.Words.{Event}
 use Rattle.numbers.specs.Lent.{allZero}
-use Rattle.model.specs.Lists.{mostListed, eventOf, sizeOk, inList}
+use Rattle.model.specs.Lists.{mostListedEvents, eventOf, sizeOk, inList}
 
 -- a word from its count and its places
 abbrev pub wordOf : ℕ → List ℕ → List ℕ → Listed
@@ -19,8 +19,8 @@ wordOf n xs ts = record { count = n; symbols = xs; stamps = ts }
 
 -- six places of each kind: what a word by value has, for the functions that borrow its places
 pub record Six (w : Listed) : Type 0 where
-  pub symbols-six : length (w .symbols) ≡ mostListed
-  pub stamps-six : length (w .stamps) ≡ mostListed
+  pub symbols-six : length (w .symbols) ≡ mostListedEvents
+  pub stamps-six : length (w .stamps) ≡ mostListedEvents
 
 -- unused places are zero
 abbrev pub restZero : Listed → Bool
@@ -62,7 +62,7 @@ stampAt j i n was stamp = pick (ltb j i) was (pick (ltb j n) stamp was)
 abbrev pub placed : Listed → ℕ → ℕ → ℕ → Listed
 placed w i symbol stamp = record {
   count = w .count;
-  symbols = take i (w .symbols) ++ (symbol ∷ zeros (mostListed - suc i));
+  symbols = take i (w .symbols) ++ (symbol ∷ zeros (mostListedEvents - suc i));
   stamps = take i (w .stamps) ++ (replicate (w .count - i) stamp ++ drop (w .count) (w .stamps));
 }
 

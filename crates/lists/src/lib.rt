@@ -2,13 +2,13 @@
 // after it fall to their least; where none can be raised the first word of the next length comes.
 ghost use mathlib.Core.Path.{_≡_};
 ghost use Prim.Native.Nat.{_≤_, _<_};
-ghost use Rattle.model.specs.Lists.{mostListed, sizeOk, fitsFrom, eventsIn, listedOf, inList};
+ghost use Rattle.model.specs.Lists.{mostListedEvents, sizeOk, fitsFrom, eventsIn, listedOf, inList};
 ghost use Rattle.model.specs.Promises.{GivesNext};
 ghost use Rattle.lists.specs.Odometer.{wordOf, Six, restZero, upToRaised, raisedAt, symbolAt, stampAt, placed};
 ghost use Rattle.lists.specs.Odometer.{Raising, answerOf};
 use model::LIST_GRAIN;
 use model::Listed;
-use model::MOST_LISTED;
+use model::MOST_LISTED_EVENTS;
 use model::MOST_SECONDS;
 use model::MOST_SYMBOLS;
 use model::Next;
@@ -26,7 +26,7 @@ pub(crate) fn size_ok(size: Size) -> bool
     if MOST_SYMBOLS < wide32(size.symbols) {
         return false;
     }
-    if MOST_LISTED < wide32(size.events) {
+    if MOST_LISTED_EVENTS < wide32(size.events) {
         return false;
     }
     wide32(size.seconds) <= MOST_SECONDS
@@ -37,10 +37,10 @@ pub(crate) fn events_fit(
     known: usize,
     top: usize,
     count: usize,
-    symbols: &[u16; MOST_LISTED],
-    stamps: &[u32; MOST_LISTED],
+    symbols: &[u16; MOST_LISTED_EVENTS],
+    stamps: &[u32; MOST_LISTED_EVENTS],
 ) -> bool
-    requires { ⌜ (count ≤ mostListed) × Six (wordOf count (now symbols) (now stamps)) ⌝ }
+    requires { ⌜ (count ≤ mostListedEvents) × Six (wordOf count (now symbols) (now stamps)) ⌝ }
     ensures { λ r. ⌜ r ≡ fitsFrom known top 0 (eventsIn (wordOf count (now (symbols .entry)) (now (stamps .entry)))) ⌝ }
 {
     let mut last: u32 = 0;
@@ -65,14 +65,14 @@ pub(crate) fn events_fit(
 // Are the unused places zero?
 pub(crate) fn rest_zero(
     count: usize,
-    symbols: &[u16; MOST_LISTED],
-    stamps: &[u32; MOST_LISTED],
+    symbols: &[u16; MOST_LISTED_EVENTS],
+    stamps: &[u32; MOST_LISTED_EVENTS],
 ) -> bool
     requires { ⌜ Six (wordOf count (now symbols) (now stamps)) ⌝ }
     ensures { λ r. ⌜ r ≡ restZero (wordOf count (now (symbols .entry)) (now (stamps .entry))) ⌝ }
 {
     let mut i = count;
-    while i < MOST_LISTED {
+    while i < MOST_LISTED_EVENTS {
         if symbols[i] != 0 {
             return false;
         }
@@ -88,13 +88,13 @@ pub(crate) fn rest_zero(
 pub(crate) fn in_list(
     size: Size,
     count: usize,
-    symbols: &[u16; MOST_LISTED],
-    stamps: &[u32; MOST_LISTED],
+    symbols: &[u16; MOST_LISTED_EVENTS],
+    stamps: &[u32; MOST_LISTED_EVENTS],
 ) -> bool
     requires { ⌜ Six (wordOf count (now symbols) (now stamps)) ⌝ }
     ensures { λ r. ⌜ r ≡ inList size (wordOf count (now (symbols .entry)) (now (stamps .entry))) ⌝ }
 {
-    if MOST_LISTED < count {
+    if MOST_LISTED_EVENTS < count {
         return false;
     }
     if wide32(size.events) < count {
@@ -117,10 +117,10 @@ pub(crate) fn raisable(
     known: usize,
     top: usize,
     count: usize,
-    symbols: &[u16; MOST_LISTED],
-    stamps: &[u32; MOST_LISTED],
+    symbols: &[u16; MOST_LISTED_EVENTS],
+    stamps: &[u32; MOST_LISTED_EVENTS],
 ) -> usize
-    requires { ⌜ (count ≤ mostListed) × Six (wordOf count (now symbols) (now stamps)) ⌝ }
+    requires { ⌜ (count ≤ mostListedEvents) × Six (wordOf count (now symbols) (now stamps)) ⌝ }
     ensures { λ r. ⌜ r ≡ upToRaised known top (eventsIn (wordOf count (now (symbols .entry)) (now (stamps .entry)))) ⌝ }
 {
     let mut i = count;
@@ -166,7 +166,7 @@ pub(crate) fn stamp_at(j: usize, i: usize, count: usize, was: u32, stamp: u32) -
 // The word with a symbol and a stamp put at event i, those after it at symbol 0 and that stamp. Place by place: a loop
 // over the two arrays is slower.
 pub(crate) fn place(word: Listed, i: usize, symbol: u16, stamp: u32) -> Listed
-    requires { ⌜ (word .count ≤ mostListed) × (i < word .count) ⌝ }
+    requires { ⌜ (word .count ≤ mostListedEvents) × (i < word .count) ⌝ }
     ensures { λ r. ⌜ r ≡ placed word i symbol stamp ⌝ }
 {
     let count = wide32(word.count);
@@ -240,8 +240,8 @@ pub fn next_word(size: Size, word: Listed) -> Next
     }
     let longer = Listed {
         count: word.count + 1,
-        symbols: [0; MOST_LISTED],
-        stamps: [0; MOST_LISTED],
+        symbols: [0; MOST_LISTED_EVENTS],
+        stamps: [0; MOST_LISTED_EVENTS],
     };
     answer(0, false, longer)
 }

@@ -9,8 +9,8 @@ use lib.ListN.{length}
 use borrow.Author.Tests.{leb-true, leb-false, eqb-true, lt-ltb, le-leb, eq-eqb}
 use Rattle.model.specs.Basics.{oneIf, fine}
 use Rattle.model.specs.Words.{Event, eventsOf, wordRefusal}
-use Rattle.model.specs.Alike.{seconds, fraction, alikeStamps, alike, halfSeconds, inHalves}
-use Rattle.model.specs.Lists.{listGrain, lastStamp, eventOf, listed, sameWord, fitsFrom, fits}
+use Rattle.model.specs.Alike.{wholeSeconds, fraction, alikeStamps, alike, halfSeconds, inHalves}
+use Rattle.model.specs.Lists.{listGrain, topStamp, eventOf, wordsUpTo, sameWord, fitsFrom, fits}
 use Rattle.model.specs.Claims.{Alike-is, countIf, upTo}
 use Rattle.model.proofs.Logic.{by-test, same-truth, and-left, and-right, and-both}
 use Rattle.model.proofs.Words.{Ordered, Below, Keeps, fine-keeps, events-length}
@@ -25,17 +25,17 @@ same-halves d t e u =
     eq-eqb (halfSeconds d t) (halfSeconds e u)
     (omega (
       arith,
-      eqb-true (seconds d t) (seconds e u) (and-left same-seconds same-fractions h),
+      eqb-true (wholeSeconds d t) (wholeSeconds e u) (and-left same-seconds same-fractions h),
       eqb-true (fraction d t) (fraction e u) (and-right same-seconds same-fractions h),
     )))
     (λ h.
     let k : halfSeconds d t ≡ halfSeconds e u = eqb-true (halfSeconds d t) (halfSeconds e u) h in
     and-both same-seconds same-fractions
-    (eq-eqb (seconds d t) (seconds e u) (omega (arith, k, fraction-small d t, fraction-small e u)))
+    (eq-eqb (wholeSeconds d t) (wholeSeconds e u) (omega (arith, k, fraction-small d t, fraction-small e u)))
     (eq-eqb (fraction d t) (fraction e u) (omega (arith, k, fraction-small d t, fraction-small e u))))
   where
     same-seconds : Bool
-    same-seconds = eqb (seconds d t) (seconds e u)
+    same-seconds = eqb (wholeSeconds d t) (wholeSeconds e u)
 
     same-fractions : Bool
     same-fractions = eqb (fraction d t) (fraction e u)
@@ -74,23 +74,23 @@ pub alike-is : Alike-is
 alike-is = record { same-halves = same-halves; same-words = same-words; already-halves = already-halves }
 
 -- so a listed word is alike exactly if it is the word in half seconds
-pub alike-same : (d : ℕ) (vs ws : List Event) → alike d vs listGrain ws ≡ sameWord (inHalves d vs) ws
+alike-same : (d : ℕ) (vs ws : List Event) → alike d vs listGrain ws ≡ sameWord (inHalves d vs) ws
 alike-same d vs ws = same-words d listGrain vs ws ∙ ap (sameWord (inHalves d vs)) (already-halves ws)
 
-pub length-halves : (d : ℕ) (vs : List Event) → length (inHalves d vs) ≡ length vs
+length-halves : (d : ℕ) (vs : List Event) → length (inHalves d vs) ≡ length vs
 length-halves d [] = refl
 length-halves d (v ∷ vs) = ap suc (length-halves d vs)
 
 halves-fit :
     (s h d last : ℕ) (vs : List Event) → 1 ≤ d → Below s vs → Ordered last vs → upTo (h * d) vs ≡ true
-    → fitsFrom s (lastStamp h) (halfSeconds d last) (inHalves d vs) ≡ true
+    → fitsFrom s (topStamp h) (halfSeconds d last) (inHalves d vs) ≡ true
 halves-fit s h d last [] hd b o u = refl
 halves-fit s h d last (v ∷ vs) hd b o u =
     let top : v .stamp ≤ h * d = leb-true (v .stamp) (h * d) (and-left (leb (v .stamp) (h * d)) (upTo (h * d) vs) u) in
     rw (
       lt-ltb (v .symbol) s (b .0),
       le-leb (halfSeconds d last) (halfSeconds d (v .stamp)) (half-rises d last (v .stamp) hd (o .0)),
-      le-leb (halfSeconds d (v .stamp)) (lastStamp h)
+      le-leb (halfSeconds d (v .stamp)) (topStamp h)
           (omega (arith, half-rises d (v .stamp) (h * d) hd top, half-whole d h hd)),
     )
     (halves-fit s h d (v .stamp) vs hd (b .1) (o .1) (and-right (leb (v .stamp) (h * d)) (upTo (h * d) vs) u))
@@ -105,7 +105,7 @@ halves-listed s h m d symbols stamps f u =
     let k : Keeps s d m symbols stamps = fine-keeps s d m symbols stamps f in
     let n : length (inHalves d vs) ≤ m =
     omega (arith, length-halves d vs, events-length symbols stamps (k .lengths-equal), k .events-most) in
-    and-both (leb (length (inHalves d vs)) m) (fitsFrom s (lastStamp h) 0 (inHalves d vs))
+    and-both (leb (length (inHalves d vs)) m) (fitsFrom s (topStamp h) 0 (inHalves d vs))
     (le-leb (length (inHalves d vs)) m n)
     (rw (half-zero d (k .grain-least)) at
     (halves-fit s h d 0 vs (k .grain-least) (k .symbols-below) (k .stamps-ordered) u))
@@ -119,9 +119,9 @@ count-same p q (w ∷ ws) h = ap₂ (λ (b : Bool) (k : ℕ). oneIf b + k) (h w)
 pub each-once :
     (s h m d : ℕ) (symbols stamps : List ℕ) → wordRefusal s d m symbols stamps ≡ fine
     → upTo (h * d) (eventsOf symbols stamps) ≡ true
-    → countIf (λ w. alike d (eventsOf symbols stamps) listGrain w) (listed s h m) ≡ 1
+    → countIf (λ w. alike d (eventsOf symbols stamps) listGrain w) (wordsUpTo s h m) ≡ 1
 each-once s h m d symbols stamps f u =
     let vs : List Event = eventsOf symbols stamps in
-    count-same (λ w. alike d vs listGrain w) (sameWord (inHalves d vs)) (listed s h m) (λ w. alike-same d vs w)
+    count-same (λ w. alike d vs listGrain w) (sameWord (inHalves d vs)) (wordsUpTo s h m) (λ w. alike-same d vs w)
     ∙ list-once s h m (inHalves d vs)
     ∙ ap oneIf (halves-listed s h m d symbols stamps f u)

@@ -7,7 +7,7 @@ use Prim.Native.Nat.{ℕ, zero, suc, _-_, _≤_, _<_}
 use native.Mathlib.Omega.{arith}
 use lib.Dec.{eqb, ltb}
 use lib.ListN.{length, getD}
-use borrow.Author.Tests.{ltb-true, ltb-false, lt-ltb, le-ltb, eq-eqb}
+use borrow.Author.Tests.{ltb-true, lt-ltb, eq-eqb}
 use Rattle.model.specs.declared.Head.{Head}
 use Rattle.model.specs.declared.Branch.{Branch}
 use Rattle.model.specs.declared.Guard.{Guard}
@@ -20,7 +20,7 @@ use Rattle.model.specs.Runs.{noEdge, accepts, lowestLeaving, heldBack}
 use Rattle.model.specs.Layout.{ruleIn}
 use Rattle.model.specs.Promises.{inputRefusal, RunsBranches}
 use Rattle.model.specs.Claims.{noAtom, Guard-names, Held, Held-are}
-use Rattle.model.proofs.Logic.{no-way, by-test, and-left, and-right}
+use Rattle.model.proofs.Logic.{no-way, by-test, ltb-suc, and-left, and-right}
 use Rattle.model.proofs.Guards.{met-all}
 
 -- the position that an answer names, counted from n
@@ -80,16 +80,11 @@ module _ (initial : List ℕ) (s d : ℕ) (ages : List ℕ) where
   leaves-at es e =
       ltb e (length es) && isIn (getD es e noEdge .source) initial && eqb (getD es e noEdge .symbol) s
 
-  below-suc : (a b : ℕ) → ltb (suc a) (suc b) ≡ ltb a b
-  below-suc a b =
-      by-test (ltb a b) (λ e. rw e (lt-ltb (suc a) (suc b) (omega (arith, ltb-true a b e))))
-      (λ e. rw e (le-ltb (suc a) (suc b) (omega (arith, ltb-false a b e))))
-
   leaves-later : (e : Edge) (es : List Edge) (k : ℕ) → leaves-at (e ∷ es) (suc k) ≡ leaves-at es k
   leaves-later e es k =
       ap
       (λ (b : Bool). b && isIn (getD es k noEdge .source) initial && eqb (getD es k noEdge .symbol) s)
-      (below-suc k (length es))
+      (ltb-suc k (length es))
 
   leaves-first : (e : Edge) (es : List Edge) → leaves-at (e ∷ es) 0 ≡ (isIn (e .source) initial && eqb (e .symbol) s)
   leaves-first e es = rw (lt-ltb 0 (suc (length es)) (omega arith))
@@ -117,7 +112,7 @@ module _ (initial : List ℕ) (s d : ℕ) (ages : List ℕ) where
           → ltb m (suc (p .edge)) ≡ true
           → leaves-at (e ∷ es) m ≡ false
       lower t p zero l = leaves-first e es ∙ t
-      lower t p (suc m) l = leaves-later e es m ∙ p .none-lower m (sym (below-suc m (p .edge)) ∙ l)
+      lower t p (suc m) l = leaves-later e es m ∙ p .none-lower m (sym (ltb-suc m (p .edge)) ∙ l)
 
       later : (isIn (e .source) initial && eqb (e .symbol) s) ≡ false → First es n → First (e ∷ es) n
       later t p = record {
@@ -141,7 +136,7 @@ module _ (initial : List ℕ) (s d : ℕ) (ages : List ℕ) where
       sym (leaves-first e es) ∙ u 0 (lt-ltb 0 (suc k) (omega arith)) in
       rw other
       (first-named es k n (sym (leaves-later e es k) ∙ l)
-      (λ m h. sym (leaves-later e es m) ∙ u (suc m) (below-suc m k ∙ h)) g)
+      (λ m h. sym (leaves-later e es m) ∙ u (suc m) (ltb-suc m k ∙ h)) g)
 
 -- what held a rule back, both ways
 held-of : (r : Rule) (d : ℕ) (vs : List Event) (n : ℕ) → heldBack r d vs ≡ Fails n → Held r d vs n

@@ -94,12 +94,13 @@ pub mod ThreeCalls
 pub mod Decision
 -- The runners agree
 pub mod Runners
--- The list of words: half seconds; each word once, how many; words alike; the word after another; in order; what is taken
--- and refused; short lists and whole answers by computation
+-- The list of words: half seconds; each word once, how many; words alike; the word after another; in order, and no
+-- other list; what is taken and refused; short lists and whole answers by computation
 pub mod Seconds
 pub mod Lists
 pub mod Alike
 pub mod NextWord
 pub mod ListOrder
+pub mod ListOnly
 pub mod ListTaken
 pub mod ListExamples

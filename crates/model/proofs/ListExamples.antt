@@ -3,7 +3,7 @@
 use mathlib.Core.Path.{_≡_, refl}
 use mathlib.Core.Bool.{true, false}
 use mathlib.Core.List.{List, [], _∷_}
-use Prim.Native.Nat.{ℕ, _+_, _*_, _^_}
+use Prim.Native.Nat.{ℕ, _*_, _^_}
 use lib.Dec.{leb}
 use lib.ListN.{length}
 use Rattle.model.specs.declared.Size.{Size}
@@ -12,10 +12,10 @@ use Rattle.model.specs.declared.Next.{Next}
 use Rattle.model.specs.Basics.{zeros, fine}
 use Rattle.model.specs.Words.{Event}
 use Rattle.model.specs.Alike.{alike, halfSeconds, inHalves}
-use Rattle.model.specs.Lists.{eventOf, wordsFrom, wordsOf, listed, listOf, following, inList, eventsIn}
+use Rattle.model.specs.Lists.{eventOf, wordsFrom, wordsOf, wordsUpTo, inList}
 use Rattle.model.specs.Lists.{listRefusal}
-use Rattle.model.specs.Promises.{nextOf}
-use Rattle.model.specs.Claims.{countIf, times, before, upTo, choose}
+use Rattle.model.specs.Promises.{nextGiven}
+use Rattle.model.specs.Claims.{countIf, times, before, upTo, binomial}
 
 -- one symbol, stamps 0 to 2 half seconds, at most 2 events: 1 + 3 + 6 words
 ten : List (List Event)
@@ -28,8 +28,8 @@ ten =
     ∷ (eventOf 0 2 ∷ eventOf 0 2 ∷ [])
     ∷ []
 
-ten-are : listed 1 1 2 ≡ ten
-unfolding listed wordsFrom ten
+ten-are : wordsUpTo 1 1 2 ≡ ten
+unfolding wordsUpTo wordsFrom ten
 ten-are = refl
 
 -- two symbols: stamp before symbol
@@ -39,16 +39,16 @@ seven =
     ∷ (eventOf 1 2 ∷ [])
     ∷ []
 
-seven-are : listed 2 1 1 ≡ seven
-unfolding listed wordsFrom seven
+seven-are : wordsUpTo 2 1 1 ≡ seven
+unfolding wordsUpTo wordsFrom seven
 seven-are = refl
 
 -- binomials at their ends and inside, and the count of three events over two symbols up to one second: 2^3 times 10
 binomials :
-    (choose 10 4 ≡ 210) × (choose 10 10 ≡ 1) × (choose 10 11 ≡ 0) × (choose 0 0 ≡ 1) × (choose 62 2 ≡ 1891)
+    (binomial 10 4 ≡ 210) × (binomial 10 10 ≡ 1) × (binomial 10 11 ≡ 0) × (binomial 0 0 ≡ 1) × (binomial 62 2 ≡ 1891)
     × (length (wordsOf 2 1 3) ≡ 80)
-    × (2 ^ 3 * choose 5 3 ≡ 80)
-unfolding choose wordsFrom
+    × (2 ^ 3 * binomial 5 3 ≡ 80)
+unfolding binomial wordsFrom
 binomials = (refl, refl, refl, refl, refl, refl, refl)
 
 -- half seconds: even on a whole second, odd between two, whatever D is
@@ -101,9 +101,6 @@ before-are = (refl, refl, refl, refl, refl, refl, refl, refl, refl)
 abbrev sized : ℕ → ℕ → ℕ → Size
 sized s m h = record { symbols = s; events = m; seconds = h }
 
-abbrev said : Size → Listed → Next
-said z w = nextOf (listRefusal z w) (following (eventsIn w) (listOf z)) w
-
 abbrev next : Listed → Next
 next w = record { number = 0; place = 0; last = false; word = w }
 
@@ -129,34 +126,34 @@ counting n = record { count = n; symbols = zeros 6; stamps = zeros 6 }
 -- S = 2, m = 2, H = 1: from the empty word; a symbol, then a stamp is raised; (0,0)(1,2); an event raised by its stamp,
 -- the next one from there on; the last word of a length; the last. With m = 0 the empty word is the last.
 next-are :
-    (said (sized 2 2 1) none ≡ next (single 0 0))
-    × (said (sized 2 2 1) (single 0 1) ≡ next (single 1 1))
-    × (said (sized 2 2 1) (single 1 1) ≡ next (single 0 2))
-    × (said (sized 2 2 1) (pair 1 0 1 0) ≡ next (pair 1 0 0 1))
-    × (said (sized 2 2 1) (pair 0 0 1 2) ≡ next (pair 1 0 0 0))
-    × (said (sized 2 2 1) (pair 1 0 1 2) ≡ next (pair 0 1 0 1))
-    × (said (sized 2 2 1) (single 1 2) ≡ next (pair 0 0 0 0))
-    × (said (sized 2 2 1) (pair 0 2 1 2) ≡ next (pair 1 2 0 2))
-    × (said (sized 2 2 1) (pair 1 2 1 2) ≡ last (pair 1 2 1 2))
-    × (said (sized 2 1 1) (single 1 2) ≡ last (single 1 2))
-    × (said (sized 1 0 30) none ≡ last none)
-unfolding listRefusal inList listed wordsFrom
+    (nextGiven (sized 2 2 1) none ≡ next (single 0 0))
+    × (nextGiven (sized 2 2 1) (single 0 1) ≡ next (single 1 1))
+    × (nextGiven (sized 2 2 1) (single 1 1) ≡ next (single 0 2))
+    × (nextGiven (sized 2 2 1) (pair 1 0 1 0) ≡ next (pair 1 0 0 1))
+    × (nextGiven (sized 2 2 1) (pair 0 0 1 2) ≡ next (pair 1 0 0 0))
+    × (nextGiven (sized 2 2 1) (pair 1 0 1 2) ≡ next (pair 0 1 0 1))
+    × (nextGiven (sized 2 2 1) (single 1 2) ≡ next (pair 0 0 0 0))
+    × (nextGiven (sized 2 2 1) (pair 0 2 1 2) ≡ next (pair 1 2 0 2))
+    × (nextGiven (sized 2 2 1) (pair 1 2 1 2) ≡ last (pair 1 2 1 2))
+    × (nextGiven (sized 2 1 1) (single 1 2) ≡ last (single 1 2))
+    × (nextGiven (sized 1 0 30) none ≡ last none)
+unfolding listRefusal inList wordsUpTo wordsFrom
 next-are = (refl, refl, refl, refl, refl, refl, refl, refl, refl, refl, refl)
 
 -- 38 at its edges, and before 39; the largest S and H are taken, and m = 6 with six events
 sizes-are :
-    (said (sized 0 2 1) none ≡ refused 38 none)
-    × (said (sized 17 2 1) none ≡ refused 38 none)
-    × (said (sized 2 7 1) none ≡ refused 38 none)
-    × (said (sized 2 2 31) none ≡ refused 38 none)
-    × (said (sized 17 7 31) (single 1 1) ≡ refused 38 (single 1 1))
-    × (said (sized 2 2 31) (single 2 0) ≡ refused 38 (single 2 0))
-    × (said (sized 16 1 0) (single 14 0) ≡ next (single 15 0))
-    × (said (sized 1 1 30) (single 0 59) ≡ next (single 0 60))
-    × (said (sized 1 6 0) (counting 5) ≡ next (counting 6))
-    × (said (sized 1 6 0) (counting 6) ≡ last (counting 6))
+    (nextGiven (sized 0 2 1) none ≡ refused 38 none)
+    × (nextGiven (sized 17 2 1) none ≡ refused 38 none)
+    × (nextGiven (sized 2 7 1) none ≡ refused 38 none)
+    × (nextGiven (sized 2 2 31) none ≡ refused 38 none)
+    × (nextGiven (sized 17 7 31) (single 1 1) ≡ refused 38 (single 1 1))
+    × (nextGiven (sized 2 2 31) (single 2 0) ≡ refused 38 (single 2 0))
+    × (nextGiven (sized 16 1 0) (single 14 0) ≡ next (single 15 0))
+    × (nextGiven (sized 1 1 30) (single 0 59) ≡ next (single 0 60))
+    × (nextGiven (sized 1 6 0) (counting 5) ≡ next (counting 6))
+    × (nextGiven (sized 1 6 0) (counting 6) ≡ last (counting 6))
     × (listRefusal (sized 16 6 30) none ≡ fine)
-unfolding listRefusal inList listed wordsFrom
+unfolding listRefusal inList wordsUpTo wordsFrom
 sizes-are = (refl, refl, refl, refl, refl, refl, refl, refl, refl, refl, refl)
 
 -- 39 at its edges: a symbol of S, a stamp past 2H, a falling stamp, more than m events, more than six, an unused symbol
@@ -165,14 +162,14 @@ abbrev unused : ℕ → ℕ → Listed
 unused s t = record { count = 1; symbols = 0 ∷ 0 ∷ 0 ∷ 0 ∷ 0 ∷ s ∷ []; stamps = 0 ∷ t ∷ zeros 4 }
 
 words-are :
-    (said (sized 2 2 1) (single 2 0) ≡ refused 39 (single 2 0))
-    × (said (sized 2 2 1) (single 0 3) ≡ refused 39 (single 0 3))
-    × (said (sized 2 2 1) (pair 0 2 0 1) ≡ refused 39 (pair 0 2 0 1))
-    × (said (sized 2 2 1) (pair 0 1 0 1) ≡ next (pair 0 1 1 1))
-    × (said (sized 2 1 1) (pair 0 0 0 0) ≡ refused 39 (pair 0 0 0 0))
-    × (said (sized 2 0 1) (single 0 0) ≡ refused 39 (single 0 0))
-    × (said (sized 2 6 1) (counting 7) ≡ refused 39 (counting 7))
-    × (said (sized 2 2 1) (unused 1 0) ≡ refused 39 (unused 1 0))
-    × (said (sized 2 2 1) (unused 0 1) ≡ refused 39 (unused 0 1))
-unfolding listRefusal inList listed wordsFrom
+    (nextGiven (sized 2 2 1) (single 2 0) ≡ refused 39 (single 2 0))
+    × (nextGiven (sized 2 2 1) (single 0 3) ≡ refused 39 (single 0 3))
+    × (nextGiven (sized 2 2 1) (pair 0 2 0 1) ≡ refused 39 (pair 0 2 0 1))
+    × (nextGiven (sized 2 2 1) (pair 0 1 0 1) ≡ next (pair 0 1 1 1))
+    × (nextGiven (sized 2 1 1) (pair 0 0 0 0) ≡ refused 39 (pair 0 0 0 0))
+    × (nextGiven (sized 2 0 1) (single 0 0) ≡ refused 39 (single 0 0))
+    × (nextGiven (sized 2 6 1) (counting 7) ≡ refused 39 (counting 7))
+    × (nextGiven (sized 2 2 1) (unused 1 0) ≡ refused 39 (unused 1 0))
+    × (nextGiven (sized 2 2 1) (unused 0 1) ≡ refused 39 (unused 0 1))
+unfolding listRefusal inList wordsUpTo wordsFrom
 words-are = (refl, refl, refl, refl, refl, refl, refl, refl, refl)

@@ -1,4 +1,4 @@
--- The list is in order: what stands behind a word comes after it; and the word after another is the one next to it.
+-- The list is in order: what stands later comes after; and the word after another is the one next to it.
 use mathlib.Core.Path.{_≡_, refl, sym, _∙_, ap}
 use mathlib.Core.Bool.{Bool, true, false, _&&_}
 use mathlib.Core.List.{List, [], _∷_, _++_}
@@ -7,33 +7,24 @@ use native.Mathlib.Omega.{arith}
 use lib.Dec.{eqb, ltb, leb}
 use lib.ListN.{length}
 use borrow.Author.Tests.{leb-true, eqb-true, lt-ltb, eq-eqb}
-use Rattle.model.specs.Basics.{pick, oneIf}
+use Rattle.model.specs.Basics.{pick}
 use Rattle.model.specs.Words.{Event}
-use Rattle.model.specs.Lists.{behind, bySymbols, wordsFrom, wordsOf, listed, sameEvent, sameWord, fitsFrom, fits}
-use Rattle.model.specs.Lists.{eventOf, lastStamp, stampCount, following}
+use Rattle.model.specs.Lists.{behind, bySymbols, wordsFrom, wordsOf, wordsUpTo, sameEvent, sameWord, fitsFrom}
+use Rattle.model.specs.Lists.{fits}
+use Rattle.model.specs.Lists.{eventOf, topStamp, stampCount, wordAfter}
 use Rattle.model.specs.Claims.{countIf, times, eventBefore, byEvent, before}
-use Rattle.model.proofs.Logic.{and-left, and-right, and-both, or-left, or-right, Two, two, less, least}
+use Rattle.model.proofs.Logic.{is-one, most-one, and-left, and-right, and-both, or-left, or-right, Two, two}
+use Rattle.model.proofs.Logic.{less, least}
 use Rattle.model.proofs.Lists.{count-both, none-empty, none-symbols, times-behind, times-symbols, amongSymbols}
 use Rattle.model.proofs.Lists.{words-once, list-once, fits-of}
-use Rattle.model.proofs.NextWord.{nothing, firstOr, followingOr, following-is, not-first}
+use Rattle.model.proofs.NextWord.{same-event, nothing, firstOr, wordAfterOr, after-is, not-first}
 
 -- what a count of at least one tells
-pub is-one : (b : Bool) → 1 ≤ oneIf b → b ≡ true
-is-one true h = refl
-is-one false h = absurd (omega arith)
-
-pub most-one : (b : Bool) → oneIf b ≤ 1
-most-one true = omega arith
-most-one false = omega arith
-
 is-picked : (b : Bool) (k : ℕ) → 1 ≤ pick b k 0 → (b ≡ true) × (1 ≤ k)
 is-picked true k h = (refl, h)
 is-picked false k h = absurd (omega arith)
 
-same-event : (v : Event) → sameEvent v v ≡ true
-same-event v = rw (eq-eqb (v .stamp) (v .stamp) refl, eq-eqb (v .symbol) (v .symbol) refl)
-
-same-word : (w : List Event) → sameWord w w ≡ true
+pub same-word : (w : List Event) → sameWord w w ≡ true
 same-word [] = refl
 same-word (v ∷ vs) = and-both (sameEvent v v) (sameWord vs vs) (same-event v) (same-word vs)
 
@@ -50,7 +41,7 @@ unfolding countIf
 none-there w h = omega arith
 
 -- a list in which all that stands behind a word comes after it, by an order p
-abbrev Rising : (List Event → List Event → Bool) → List (List Event) → Type 0
+abbrev pub Rising : (List Event → List Event → Bool) → List (List Event) → Type 0
 Rising p [] = Unit {0}
 Rising p (w ∷ ws) = ((v : List Event) → 1 ≤ times v ws → p w v ≡ true) × Rising p ws
 
@@ -197,31 +188,31 @@ of-length n (w ∷ ws) h a = (now, of-length n ws (λ v m. h v (stands-later v w
 words-rise : (s h n : ℕ) → Rising before (wordsOf s h n)
 words-rise s h n =
     of-length n (wordsOf s h n)
-    (λ w m. in-words s (lastStamp h) n (stampCount h) 0 w (omega arith) m .0)
-    (rising-words s (lastStamp h) n (stampCount h) 0 (omega arith))
+    (λ w m. in-words s (topStamp h) n (stampCount h) 0 w (omega arith) m .0)
+    (rising-words s (topStamp h) n (stampCount h) 0 (omega arith))
 
-list-rises : (s h m : ℕ) → Rising before (listed s h m)
-unfolding listed
+pub list-rises : (s h m : ℕ) → Rising before (wordsUpTo s h m)
+unfolding wordsUpTo
 list-rises s h zero = words-rise s h 0
 list-rises s h (suc m) =
-    rising-both before (listed s h m) (wordsOf s h (suc m)) (list-rises s h m) (words-rise s h (suc m)) across
+    rising-both before (wordsUpTo s h m) (wordsOf s h (suc m)) (list-rises s h m) (words-rise s h (suc m)) across
   where
-    across : (x y : List Event) → 1 ≤ times x (listed s h m) → 1 ≤ times y (wordsOf s h (suc m)) → before x y ≡ true
+    across : (x y : List Event) → 1 ≤ times x (wordsUpTo s h m) → 1 ≤ times y (wordsOf s h (suc m)) → before x y ≡ true
     across x y a b =
         let short-is = is-one (fits s h m x) (rw (list-once s h m x) at a) in
-        let short = leb-true (length x) m (and-left (leb (length x) m) (fitsFrom s (lastStamp h) 0 x) short-is) in
-        let long = in-words s (lastStamp h) (suc m) (stampCount h) 0 y (omega arith) b .0 in
+        let short = leb-true (length x) m (and-left (leb (length x) m) (fitsFrom s (topStamp h) 0 x) short-is) in
+        let long = in-words s (topStamp h) (suc m) (stampCount h) 0 y (omega arith) b .0 in
         or-left (ltb (length x) (length y)) (eqb (length x) (length y) && byEvent x y)
         (lt-ltb (length x) (length y) (omega (arith, short, long)))
 
 pub in-order :
-    (s h m : ℕ) (xs ys : List (List Event)) (v w : List Event) → listed s h m ≡ xs ++ (v ∷ ys) → 1 ≤ times w ys
+    (s h m : ℕ) (xs ys : List (List Event)) (v w : List Event) → wordsUpTo s h m ≡ xs ++ (v ∷ ys) → 1 ≤ times w ys
     → before v w ≡ true
 in-order s h m xs ys v w e n = rising-rest before xs (v ∷ ys) (rw e at (list-rises s h m)) .0 w n
 
 -- the word after another: a listed word stands nowhere before its place
 none-before :
-    (s h m : ℕ) (xs ys : List (List Event)) (v : List Event) → listed s h m ≡ xs ++ (v ∷ ys) → times v xs ≡ 0
+    (s h m : ℕ) (xs ys : List (List Event)) (v : List Event) → wordsUpTo s h m ≡ xs ++ (v ∷ ys) → times v xs ≡ 0
 none-before s h m xs ys v e =
     omega (
       arith,
@@ -231,10 +222,10 @@ none-before s h m xs ys v e =
     )
 
 pub stands :
-    (s h m : ℕ) (xs ys : List (List Event)) (v : List Event) → listed s h m ≡ xs ++ (v ∷ ys)
-    → following v (listed s h m) ≡ firstOr ys nothing
+    (s h m : ℕ) (xs ys : List (List Event)) (v : List Event) → wordsUpTo s h m ≡ xs ++ (v ∷ ys)
+    → wordAfter v (wordsUpTo s h m) ≡ firstOr ys nothing
 stands s h m xs ys v e =
-    following-is v (listed s h m)
-    ∙ ap (λ (ws : List (List Event)). followingOr v ws nothing) e
+    after-is v (wordsUpTo s h m)
+    ∙ ap (λ (ws : List (List Event)). wordAfterOr v ws nothing) e
     ∙ not-first v xs (v ∷ ys) nothing (none-before s h m xs ys v e)
-    ∙ rw (same-word v, followingOr)
+    ∙ rw (same-word v, wordAfterOr)

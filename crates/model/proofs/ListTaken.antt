@@ -3,7 +3,7 @@
 use mathlib.Core.Path.{_≡_, refl, sym, _∙_, ap, ap₂}
 use mathlib.Core.Bool.{Bool, true, false, _&&_}
 use mathlib.Core.List.{List, [], _∷_, _++_}
-use Prim.Native.Nat.{ℕ, _+_, _-_, _≤_}
+use Prim.Native.Nat.{ℕ, zero, suc, _+_, _-_, _≤_}
 use native.Mathlib.Omega.{arith}
 use lib.Dec.{eqb}
 use lib.ListN.{length, take}
@@ -13,15 +13,17 @@ use Rattle.model.specs.declared.Listed.{Listed}
 use Rattle.model.specs.declared.Next.{Next}
 use Rattle.model.specs.Basics.{pick, oneIf, same, zeros, filled, fine}
 use Rattle.model.specs.Words.{Event, eventsOf}
-use Rattle.model.specs.Lists.{mostListed, sizeOk, listOf, sameWord, Following, following, lastStamp, stampCount}
+use Rattle.model.specs.Lists.{mostListedEvents, sizeOk, topStamp, stampCount, wordsFrom, wordsOf, wordsUpTo}
+use Rattle.model.specs.Lists.{listOf, sameWord, After, firstOf, wordAfter}
 use Rattle.model.specs.Lists.{fits, symbolsOf, stampsOf, listedOf, eventsIn, sameListed, inList, listRefusal}
 use Rattle.model.specs.Promises.{GivesNext}
 use Rattle.model.specs.Claims.{times, Lists-are}
-use Rattle.model.proofs.Logic.{no-way, and-left, and-right, and-both, same-equal, same-self}
+use Rattle.model.proofs.Logic.{no-way, is-one, most-one, and-left, and-right, and-both, same-equal, same-self}
 use Rattle.model.proofs.Lists.{words-once, words-counted, list-once, listed-legal, events-back, symbols-length}
 use Rattle.model.proofs.Lists.{stamps-length}
 use Rattle.model.proofs.Alike.{halves-listed, each-once}
-use Rattle.model.proofs.ListOrder.{is-one, most-one, stands-first, stands-later, in-order, stands}
+use Rattle.model.proofs.ListOnly.{only-one}
+use Rattle.model.proofs.ListOrder.{stands-first, stands-later, in-order, stands}
 
 -- a word by value, and back
 take-front : (xs ys : List ℕ) → take (length xs) (xs ++ ys) ≡ xs
@@ -31,10 +33,10 @@ take-front (x ∷ xs) ys = ap (λ (zs : List ℕ). x ∷ zs) (take-front xs ys)
 by-value : (w : List Event) → eventsIn (listedOf w) ≡ w
 by-value w =
     ap₂ eventsOf
-    (ap (λ (n : ℕ). take n (filled mostListed (symbolsOf w))) (sym (symbols-length w))
-    ∙ take-front (symbolsOf w) (zeros (mostListed - length (symbolsOf w))))
-    (ap (λ (n : ℕ). take n (filled mostListed (stampsOf w))) (sym (stamps-length w))
-    ∙ take-front (stampsOf w) (zeros (mostListed - length (stampsOf w))))
+    (ap (λ (n : ℕ). take n (filled mostListedEvents (symbolsOf w))) (sym (symbols-length w))
+    ∙ take-front (symbolsOf w) (zeros (mostListedEvents - length (symbolsOf w))))
+    (ap (λ (n : ℕ). take n (filled mostListedEvents (stampsOf w))) (sym (stamps-length w))
+    ∙ take-front (stampsOf w) (zeros (mostListedEvents - length (stampsOf w))))
     ∙ events-back w
 
 same-itself : (w : Listed) → sameListed w w ≡ true
@@ -100,29 +102,29 @@ module _ (z : Size) where
   empty-taken h = taken-fine (listedOf []) h empty-listed
 
 -- the word after another is one of the list
-following-in :
-    (v : List Event) (ws : List (List Event)) → following v ws .some ≡ true → 1 ≤ times (following v ws .word) ws
-following-in v [] h = no-way h
-following-in v (w ∷ ws) h = go (sameWord v w) refl ws (following-in v ws) h
+after-in :
+    (v : List Event) (ws : List (List Event)) → wordAfter v ws .some ≡ true → 1 ≤ times (wordAfter v ws .word) ws
+after-in v [] h = no-way h
+after-in v (w ∷ ws) h = go (sameWord v w) refl ws (after-in v ws) h
   where
     go :
         (b : Bool) → sameWord v w ≡ b → (ws : List (List Event))
-        → (following v ws .some ≡ true → 1 ≤ times (following v ws .word) ws)
-        → following v (w ∷ ws) .some ≡ true
-        → 1 ≤ times (following v (w ∷ ws) .word) (w ∷ ws)
-    go true e [] later k = no-way (rw (e, following) at k)
+        → (wordAfter v ws .some ≡ true → 1 ≤ times (wordAfter v ws .word) ws)
+        → wordAfter v (w ∷ ws) .some ≡ true
+        → 1 ≤ times (wordAfter v (w ∷ ws) .word) (w ∷ ws)
+    go true e [] later k = no-way (rw (e, wordAfter) at k)
     go true e (x ∷ xs) later k =
-        rw (e, following) (stands-later x w (x ∷ xs) (omega (arith, stands-first x xs)))
+        rw (e, wordAfter) (stands-later x w (x ∷ xs) (omega (arith, stands-first x xs)))
     go false e xs later k =
-        rw (e, following) (stands-later (following v xs .word) w xs (later (rw (e, following) at k)))
+        rw (e, wordAfter) (stands-later (wordAfter v xs .word) w xs (later (rw (e, wordAfter) at k)))
 
 next-taken :
     (z : Size) (w : Listed) (answer : Next) → GivesNext z w answer → answer .number ≡ 0
     → listRefusal z (answer .word) ≡ fine
 next-taken z w answer p n = go (after .some) refl
   where
-    after : Following
-    after = following (eventsIn w) (listOf z)
+    after : After
+    after = wordAfter (eventsIn w) (listOf z)
 
     passed : listRefusal z w .number ≡ 0
     passed = sym (ap (λ (a : Next). a .number) (p .answer-is)) ∙ n
@@ -135,7 +137,7 @@ next-taken z w answer p n = go (after .some) refl
 
     one-of : after .some ≡ true → times (after .word) (listOf z) ≡ 1
     one-of e =
-        let there-is : 1 ≤ times (after .word) (listOf z) = following-in (eventsIn w) (listOf z) e in
+        let there-is : 1 ≤ times (after .word) (listOf z) = after-in (eventsIn w) (listOf z) e in
         omega (arith, there-is, once-z z (after .word), most-one (fits-z z (after .word)))
 
     go : (b : Bool) → after .some ≡ b → listRefusal z (answer .word) ≡ fine
@@ -146,19 +148,34 @@ next-taken z w answer p n = go (after .some) refl
         ap (listRefusal z) (word-is ∙ ap (λ (b : Bool). pick b (listedOf (after .word)) w) e)
         ∙ taken-fine z w (fine-taken z w passed .0) (fine-taken z w passed .1)
 
+-- the empty word is the first
+begins : (s h m : ℕ) → firstOf (wordsUpTo s h m) ≡ record { some = true; word = [] }
+unfolding wordsUpTo wordsFrom
+begins s h zero = refl
+begins s h (suc m) = front (wordsUpTo s h m) (begins s h m)
+  where
+    front :
+        (xs : List (List Event)) → firstOf xs ≡ record { some = true; word = [] }
+        → firstOf (xs ++ wordsOf s h (suc m)) ≡ record { some = true; word = [] }
+    front [] e = no-way (ap (λ (x : After). x .some) e)
+    front (x ∷ xs) e = e
+
 pub lists-are : Lists-are
 lists-are = record {
   once = list-once;
   in-order = in-order;
+  only-one = only-one;
+  begins = begins;
   stands-next = λ s h m xs ys v w e. stands s h m xs (w ∷ ys) v e;
   stands-last = λ s h m xs v e. stands s h m xs [] v e;
+  read-back = by-value;
   listed-taken = listed-taken;
   taken-listed = taken-listed;
   empty-taken = empty-taken;
   next-taken = next-taken;
-  each = each-once;
+  alike-to-one = each-once;
   halves-listed = halves-listed;
   legal = listed-legal;
-  counted = λ s h n. words-counted s n (lastStamp h) 0;
-  of-length = λ s h n w. words-once s (lastStamp h) n (stampCount h) 0 w (omega arith);
+  counted = λ s h n. words-counted s n (topStamp h) 0;
+  of-length = λ s h n w. words-once s (topStamp h) n (stampCount h) 0 w (omega arith);
 }

@@ -10,9 +10,10 @@ use lib.ListN.{length, length-append}
 use borrow.Author.Tests.{ltb-true, leb-true, lt-ltb, le-ltb, le-leb, lt-leb, eq-eqb, ne-eqb}
 use Rattle.model.specs.Basics.{pick, oneIf, fine}
 use Rattle.model.specs.Words.{Event, eventsOf, wordRefusal}
-use Rattle.model.specs.Lists.{behind, bySymbols, wordsFrom, wordsOf, listed, sameEvent, sameWord, fitsFrom, fits}
-use Rattle.model.specs.Lists.{eventOf, lastStamp, stampCount, listGrain, symbolsOf, stampsOf}
-use Rattle.model.specs.Claims.{countIf, times, choose}
+use Rattle.model.specs.Lists.{behind, bySymbols, wordsFrom, wordsOf, wordsUpTo, sameEvent, sameWord, fitsFrom}
+use Rattle.model.specs.Lists.{fits}
+use Rattle.model.specs.Lists.{eventOf, topStamp, stampCount, listGrain, symbolsOf, stampsOf}
+use Rattle.model.specs.Claims.{countIf, times, binomial}
 use Rattle.model.proofs.Logic.{by-test, and-left, and-right, eqb-suc, Cmp, cmp, is-lt, is-eq, is-gt}
 use Rattle.model.proofs.Words.{Ordered, Below, keeps-fine}
 
@@ -28,18 +29,18 @@ length-symbols (suc n) i t ws =
     ∙ ap₂ _+_ (length-behind (eventOf i t) ws) (length-symbols n (suc i) t ws)
     ∙ omega arith
 
-choose-none : (n : ℕ) (k : ℕ) → n < k → choose n k ≡ 0
-unfolding choose
-choose-none n zero h = absurd (omega arith)
-choose-none zero (suc k) h = refl
-choose-none (suc n) (suc k) h = ap₂ _+_ (choose-none n k (omega arith)) (choose-none n (suc k) (omega arith))
+binomial-none : (n : ℕ) (k : ℕ) → n < k → binomial n k ≡ 0
+unfolding binomial
+binomial-none n zero h = absurd (omega arith)
+binomial-none zero (suc k) h = refl
+binomial-none (suc n) (suc k) h = ap₂ _+_ (binomial-none n k (omega arith)) (binomial-none n (suc k) (omega arith))
 
-choose-zero : (n : ℕ) → choose n 0 ≡ 1
-unfolding choose
-choose-zero n = refl
+binomial-zero : (n : ℕ) → binomial n 0 ≡ 1
+unfolding binomial
+binomial-zero n = refl
 
-pascal : (n k : ℕ) → choose (suc n) (suc k) ≡ choose n k + choose n (suc k)
-unfolding choose
+pascal : (n k : ℕ) → binomial (suc n) (suc k) ≡ binomial n k + binomial n (suc k)
+unfolding binomial
 pascal n k = refl
 
 regroup : (s p a b : ℕ) → s * (p * a) + s * p * b ≡ s * p * (a + b)
@@ -62,30 +63,30 @@ unfolding wordsFrom
 words-empty s k t = refl
 
 -- one more stamp and one more event: Pascal's rule with a factor S for the event
-pub words-counted : (s n k t : ℕ) → length (wordsFrom s n (suc k) t) ≡ s ^ n * choose (k + n) n
-words-counted s zero k t = words-empty s (suc k) t ∙ rw (choose-zero, pow-zero) (omega arith)
+pub words-counted : (s n k t : ℕ) → length (wordsFrom s n (suc k) t) ≡ s ^ n * binomial (k + n) n
+words-counted s zero k t = words-empty s (suc k) t ∙ rw (binomial-zero, pow-zero) (omega arith)
 words-counted s (suc n) zero t =
     let e : 0 + suc n ≡ suc (0 + n) = omega arith in
-    grown s n zero t (s ^ n * choose (0 + n) n) (words-counted s n zero t)
+    grown s n zero t (s ^ n * binomial (0 + n) n) (words-counted s n zero t)
     ∙ rw (
       words-none s n (suc t),
       e,
       pascal (0 + n) n,
       pow-succ' s n,
-      choose-none (0 + n) (suc n) (omega arith),
-      ← regroup s (s ^ n) (choose (0 + n) n) 0,
+      binomial-none (0 + n) (suc n) (omega arith),
+      ← regroup s (s ^ n) (binomial (0 + n) n) 0,
     ) (omega arith)
 words-counted s (suc n) (suc k) t =
     let e : suc k + suc n ≡ suc (suc k + n) = omega arith in
     let f : k + suc n ≡ suc k + n = omega arith in
-    grown s n (suc k) t (s ^ n * choose (suc k + n) n) (words-counted s n (suc k) t)
-    ∙ ap (λ (x : ℕ). s * (s ^ n * choose (suc k + n) n) + x) (words-counted s (suc n) k (suc t))
+    grown s n (suc k) t (s ^ n * binomial (suc k + n) n) (words-counted s n (suc k) t)
+    ∙ ap (λ (x : ℕ). s * (s ^ n * binomial (suc k + n) n) + x) (words-counted s (suc n) k (suc t))
     ∙ rw (
       e,
       pascal (suc k + n) n,
       pow-succ' s n,
       f,
-      regroup s (s ^ n) (choose (suc k + n) n) (choose (suc k + n) (suc n)),
+      regroup s (s ^ n) (binomial (suc k + n) n) (binomial (suc k + n) (suc n)),
     )
 
 -- How often a word stands in a list: one law for each way to put words together.
@@ -202,13 +203,6 @@ empty-grown s n k t =
 abbrev asks : Bool → Bool → Bool → Bool → Bool → ℕ
 asks len sym-in least most rest = oneIf (len && (sym-in && (least && (most && rest))))
 
-asks-no-length : (b c d e : Bool) → asks false b c d e ≡ 0
-asks-no-length b c d e = refl
-
-asks-no-symbol : (a c d e : Bool) → asks a false c d e ≡ 0
-asks-no-symbol true c d e = refl
-asks-no-symbol false c d e = refl
-
 asks-not-least : (a b d e : Bool) → asks a b false d e ≡ 0
 asks-not-least true true d e = refl
 asks-not-least true false d e = refl
@@ -321,15 +315,15 @@ leb-none : (a : ℕ) → leb a 0 ≡ eqb a 0
 leb-none zero = refl
 leb-none (suc a) = rw (lt-leb (suc a) 0 (omega arith), ne-eqb (suc a) 0 (omega arith))
 
-pub list-once : (s h m : ℕ) (w : List Event) → times w (listed s h m) ≡ oneIf (fits s h m w)
-unfolding listed
+pub list-once : (s h m : ℕ) (w : List Event) → times w (wordsUpTo s h m) ≡ oneIf (fits s h m w)
+unfolding wordsUpTo
 list-once s h zero w =
-    words-once s (lastStamp h) 0 (stampCount h) 0 w (omega arith)
-    ∙ ap (λ (b : Bool). oneIf (b && fitsFrom s (lastStamp h) 0 w)) (sym (leb-none (length w)))
+    words-once s (topStamp h) 0 (stampCount h) 0 w (omega arith)
+    ∙ ap (λ (b : Bool). oneIf (b && fitsFrom s (topStamp h) 0 w)) (sym (leb-none (length w)))
 list-once s h (suc m) w =
-    count-both (sameWord w) (listed s h m) (wordsOf s h (suc m))
-    ∙ ap₂ _+_ (list-once s h m w) (words-once s (lastStamp h) (suc m) (stampCount h) 0 w (omega arith))
-    ∙ leb-more (length w) m (fitsFrom s (lastStamp h) 0 w)
+    count-both (sameWord w) (wordsUpTo s h m) (wordsOf s h (suc m))
+    ∙ ap₂ _+_ (list-once s h m w) (words-once s (topStamp h) (suc m) (stampCount h) 0 w (omega arith))
+    ∙ leb-more (length w) m (fitsFrom s (topStamp h) 0 w)
 
 -- A listed word keeps the word rules.
 -- what it keeps, event by event
@@ -354,13 +348,13 @@ fits-of s top last v vs h =
       rest = and-right (leb (v .stamp) top) rest-is b;
     }
 
-pub fits-below : (s top last : ℕ) (vs : List Event) → fitsFrom s top last vs ≡ true → Below s vs
+fits-below : (s top last : ℕ) (vs : List Event) → fitsFrom s top last vs ≡ true → Below s vs
 fits-below s top last [] h = tt
 fits-below s top last (v ∷ vs) h =
     let f : Fits s top last v vs = fits-of s top last v vs h in
     (f .symbol-below, fits-below s top (v .stamp) vs (f .rest))
 
-pub fits-ordered : (s top last : ℕ) (vs : List Event) → fitsFrom s top last vs ≡ true → Ordered last vs
+fits-ordered : (s top last : ℕ) (vs : List Event) → fitsFrom s top last vs ≡ true → Ordered last vs
 fits-ordered s top last [] h = tt
 fits-ordered s top last (v ∷ vs) h =
     let f : Fits s top last v vs = fits-of s top last v vs h in
@@ -381,14 +375,14 @@ stamps-length (v ∷ vs) = ap suc (stamps-length vs)
 pub listed-legal :
     (s h m : ℕ) (w : List Event) → fits s h m w ≡ true → wordRefusal s listGrain m (symbolsOf w) (stampsOf w) ≡ fine
 listed-legal s h m w f =
-    let n : length w ≤ m = leb-true (length w) m (and-left (leb (length w) m) (fitsFrom s (lastStamp h) 0 w) f) in
-    let g : fitsFrom s (lastStamp h) 0 w ≡ true = and-right (leb (length w) m) (fitsFrom s (lastStamp h) 0 w) f in
+    let n : length w ≤ m = leb-true (length w) m (and-left (leb (length w) m) (fitsFrom s (topStamp h) 0 w) f) in
+    let g : fitsFrom s (topStamp h) 0 w ≡ true = and-right (leb (length w) m) (fitsFrom s (topStamp h) 0 w) f in
     keeps-fine s listGrain m (symbolsOf w) (stampsOf w)
     (record {
       grain-least = omega arith;
       grain-most = omega arith;
       lengths-equal = symbols-length w ∙ sym (stamps-length w);
       events-most = omega (arith, symbols-length w);
-      symbols-below = rw (events-back w) (fits-below s (lastStamp h) 0 w g);
-      stamps-ordered = rw (events-back w) (fits-ordered s (lastStamp h) 0 w g);
+      symbols-below = rw (events-back w) (fits-below s (topStamp h) 0 w g);
+      stamps-ordered = rw (events-back w) (fits-ordered s (topStamp h) 0 w g);
     })

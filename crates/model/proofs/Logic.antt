@@ -8,7 +8,7 @@ use native.Mathlib.Omega.{arith}
 use lib.Dec.{eqb, ltb, leb}
 use lib.ListN.{length, getD}
 use borrow.Author.Tests.{ltb-true, ltb-false, leb-true, leb-false, eqb-true, lt-ltb, le-leb, eq-eqb}
-use Rattle.model.specs.Basics.{larger, lesser, within, quotient, remainder, isIn, same, zeros}
+use Rattle.model.specs.Basics.{oneIf, larger, lesser, within, quotient, remainder, isIn, same, zeros}
 
 -- false is not true
 pub no-way : {A : Type 0} → false ≡ true → A
@@ -42,6 +42,15 @@ pub zeros-at : (n i : ℕ) → getD (zeros n) i 0 ≡ 0
 zeros-at zero i = refl
 zeros-at (suc n) zero = refl
 zeros-at (suc n) (suc i) = zeros-at n i
+
+-- what a count by a test tells
+pub most-one : (b : Bool) → oneIf b ≤ 1
+most-one true = omega arith
+most-one false = omega arith
+
+pub is-one : (b : Bool) → 1 ≤ oneIf b → b ≡ true
+is-one true h = refl
+is-one false h = absurd (omega arith)
 
 pub and-left : (a b : Bool) → (a && b) ≡ true → a ≡ true
 and-left true b h = refl

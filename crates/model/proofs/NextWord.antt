@@ -10,20 +10,21 @@ use lib.ListN.{length}
 use borrow.Author.Tests.{leb-true, lt-ltb, le-ltb, le-leb, lt-leb, eq-eqb, ne-eqb}
 use Rattle.model.specs.Basics.{pick, oneIf}
 use Rattle.model.specs.Words.{Event}
-use Rattle.model.specs.Lists.{behind, bySymbols, wordsFrom, wordsOf, listed, sameEvent, sameWord, fitsFrom, fits}
-use Rattle.model.specs.Lists.{eventOf, lastStamp, stampCount, Following, firstOf, following}
+use Rattle.model.specs.Lists.{behind, bySymbols, wordsFrom, wordsOf, wordsUpTo, sameEvent, sameWord, fitsFrom}
+use Rattle.model.specs.Lists.{fits}
+use Rattle.model.specs.Lists.{eventOf, topStamp, stampCount, After, firstOf, wordAfter}
 use Rattle.model.specs.Claims.{countIf, times}
 use Rattle.model.proofs.Logic.{by-test, no-way, and-left, and-right, and-both, Cmp, cmp, is-lt, is-eq, is-gt}
 use Rattle.model.proofs.Logic.{Two, two, less, least}
 use Rattle.model.proofs.Lists.{words-once, list-once, times-behind, times-symbols, Fits, fits-of}
 
-abbrev pub nothing : Following
+abbrev pub nothing : After
 nothing = record { some = false; word = [] }
 
-abbrev pub found : List Event → Following
+abbrev pub found : List Event → After
 found w = record { some = true; word = w }
 
-abbrev orElse : Following → Following → Following
+abbrev orElse : After → After → After
 orElse x y = pick (x .some) x y
 
 -- the least n events from stamp t on
@@ -32,105 +33,105 @@ floor zero t = []
 floor (suc n) t = eventOf 0 t ∷ floor n t
 
 -- one event raised, n events after it
-abbrev pub raised : ℕ → ℕ → Event → ℕ → Following
+abbrev pub raised : ℕ → ℕ → Event → ℕ → After
 raised s top v n =
     pick (ltb (suc (v .symbol)) s) (found (eventOf (suc (v .symbol)) (v .stamp) ∷ floor n (v .stamp)))
     (pick (ltb (v .stamp) top) (found (eventOf 0 (suc (v .stamp)) ∷ floor n (suc (v .stamp)))) nothing)
 
-abbrev onto : Event → Following → Following → Following
+abbrev onto : Event → After → After → After
 onto v x y = pick (x .some) (found (v ∷ x .word)) y
 
-abbrev pub bump : ℕ → ℕ → List Event → Following
+abbrev pub bump : ℕ → ℕ → List Event → After
 bump s top [] = nothing
 bump s top (v ∷ vs) = onto v (bump s top vs) (raised s top v (length vs))
 
 -- what follows a word in a list that goes on with r
-abbrev pub firstOr : List (List Event) → Following → Following
+abbrev pub firstOr : List (List Event) → After → After
 firstOr [] r = r
 firstOr (w ∷ ws) r = found w
 
-abbrev pub followingOr : List Event → List (List Event) → Following → Following
-followingOr w [] r = nothing
-followingOr w (v ∷ ws) r = elim (sameWord w v) [ true ↦ firstOr ws r | false ↦ followingOr w ws r ]
+abbrev pub wordAfterOr : List Event → List (List Event) → After → After
+wordAfterOr w [] r = nothing
+wordAfterOr w (v ∷ ws) r = elim (sameWord w v) [ true ↦ firstOr ws r | false ↦ wordAfterOr w ws r ]
 
-pub following-is : (w : List Event) (ws : List (List Event)) → following w ws ≡ followingOr w ws nothing
-following-is w [] = refl
-following-is w (v ∷ ws) = go (sameWord w v) refl (following-is w ws)
+pub after-is : (w : List Event) (ws : List (List Event)) → wordAfter w ws ≡ wordAfterOr w ws nothing
+after-is w [] = refl
+after-is w (v ∷ ws) = go (sameWord w v) refl (after-is w ws)
   where
     first : (xs : List (List Event)) → firstOf xs ≡ firstOr xs nothing
     first [] = refl
     first (x ∷ xs) = refl
 
     go :
-        (b : Bool) → sameWord w v ≡ b → following w ws ≡ followingOr w ws nothing
-        → following w (v ∷ ws) ≡ followingOr w (v ∷ ws) nothing
-    go true e h = rw (e, following, followingOr) (first ws)
-    go false e h = rw (e, following, followingOr) h
+        (b : Bool) → sameWord w v ≡ b → wordAfter w ws ≡ wordAfterOr w ws nothing
+        → wordAfter w (v ∷ ws) ≡ wordAfterOr w (v ∷ ws) nothing
+    go true e h = rw (e, wordAfter, wordAfterOr) (first ws)
+    go false e h = rw (e, wordAfter, wordAfterOr) h
 
-first-both : (xs ys : List (List Event)) (r : Following) → firstOr (xs ++ ys) r ≡ firstOr xs (firstOr ys r)
+first-both : (xs ys : List (List Event)) (r : After) → firstOr (xs ++ ys) r ≡ firstOr xs (firstOr ys r)
 first-both [] ys r = refl
 first-both (x ∷ xs) ys r = refl
 
 in-first :
-    (w : List Event) (xs ys : List (List Event)) (r : Following) → 1 ≤ times w xs
-    → followingOr w (xs ++ ys) r ≡ followingOr w xs (firstOr ys r)
+    (w : List Event) (xs ys : List (List Event)) (r : After) → 1 ≤ times w xs
+    → wordAfterOr w (xs ++ ys) r ≡ wordAfterOr w xs (firstOr ys r)
 unfolding countIf
 in-first w [] ys r h = absurd (omega arith)
 in-first w (x ∷ xs) ys r h = go (sameWord w x) refl (in-first w xs ys r)
   where
     go :
-        (b : Bool) → sameWord w x ≡ b → (1 ≤ times w xs → followingOr w (xs ++ ys) r ≡ followingOr w xs (firstOr ys r))
-        → followingOr w (x ∷ xs ++ ys) r ≡ followingOr w (x ∷ xs) (firstOr ys r)
-    go true e k = rw (e, followingOr) (first-both xs ys r)
+        (b : Bool) → sameWord w x ≡ b → (1 ≤ times w xs → wordAfterOr w (xs ++ ys) r ≡ wordAfterOr w xs (firstOr ys r))
+        → wordAfterOr w (x ∷ xs ++ ys) r ≡ wordAfterOr w (x ∷ xs) (firstOr ys r)
+    go true e k = rw (e, wordAfterOr) (first-both xs ys r)
     go false e k =
         let n : 1 ≤ 0 + times w xs = rw e at h in
-        rw (e, followingOr) (k (omega arith))
+        rw (e, wordAfterOr) (k (omega arith))
 
 pub not-first :
-    (w : List Event) (xs ys : List (List Event)) (r : Following) → times w xs ≡ 0
-    → followingOr w (xs ++ ys) r ≡ followingOr w ys r
+    (w : List Event) (xs ys : List (List Event)) (r : After) → times w xs ≡ 0
+    → wordAfterOr w (xs ++ ys) r ≡ wordAfterOr w ys r
 unfolding countIf
 not-first w [] ys r h = refl
 not-first w (x ∷ xs) ys r h = go (sameWord w x) refl (not-first w xs ys r)
   where
     go :
-        (b : Bool) → sameWord w x ≡ b → (times w xs ≡ 0 → followingOr w (xs ++ ys) r ≡ followingOr w ys r)
-        → followingOr w (x ∷ xs ++ ys) r ≡ followingOr w ys r
+        (b : Bool) → sameWord w x ≡ b → (times w xs ≡ 0 → wordAfterOr w (xs ++ ys) r ≡ wordAfterOr w ys r)
+        → wordAfterOr w (x ∷ xs ++ ys) r ≡ wordAfterOr w ys r
     go true e k = let n : 1 + times w xs ≡ 0 = rw e at h in absurd (omega arith)
     go false e k =
         let n : 0 + times w xs ≡ 0 = rw e at h in
-        rw (e, followingOr) (k (omega arith))
+        rw (e, wordAfterOr) (k (omega arith))
 
 -- behind one event
+pub same-event : (v : Event) → sameEvent v v ≡ true
+same-event v = rw (eq-eqb (v .stamp) (v .stamp) refl, eq-eqb (v .symbol) (v .symbol) refl)
+
 first-behind :
-    (v : Event) (ws : List (List Event)) (r : Following) → firstOr (behind v ws) r ≡ onto v (firstOr ws nothing) r
+    (v : Event) (ws : List (List Event)) (r : After) → firstOr (behind v ws) r ≡ onto v (firstOr ws nothing) r
 first-behind v [] r = refl
 first-behind v (w ∷ ws) r = refl
 
 next-behind :
-    (v : Event) (w : List Event) (ws : List (List Event)) (r : Following) → 1 ≤ times w ws
-    → followingOr (v ∷ w) (behind v ws) r ≡ onto v (followingOr w ws nothing) r
+    (v : Event) (w : List Event) (ws : List (List Event)) (r : After) → 1 ≤ times w ws
+    → wordAfterOr (v ∷ w) (behind v ws) r ≡ onto v (wordAfterOr w ws nothing) r
 unfolding countIf
 next-behind v w [] r h = absurd (omega arith)
 next-behind v w (x ∷ xs) r h = go (sameWord w x) refl (next-behind v w xs r)
   where
-    itself : sameEvent v v ≡ true
-    itself = rw (eq-eqb (v .stamp) (v .stamp) refl, eq-eqb (v .symbol) (v .symbol) refl)
-
     go :
         (b : Bool) → sameWord w x ≡ b
-        → (1 ≤ times w xs → followingOr (v ∷ w) (behind v xs) r ≡ onto v (followingOr w xs nothing) r)
-        → followingOr (v ∷ w) ((v ∷ x) ∷ behind v xs) r ≡ onto v (followingOr w (x ∷ xs) nothing) r
+        → (1 ≤ times w xs → wordAfterOr (v ∷ w) (behind v xs) r ≡ onto v (wordAfterOr w xs nothing) r)
+        → wordAfterOr (v ∷ w) ((v ∷ x) ∷ behind v xs) r ≡ onto v (wordAfterOr w (x ∷ xs) nothing) r
     go true e k =
-        let both : (sameEvent v v && sameWord w x) ≡ true = and-both (sameEvent v v) (sameWord w x) itself e in
-        rw (both, e, followingOr) (first-behind v xs r)
+        let both : (sameEvent v v && sameWord w x) ≡ true = and-both (sameEvent v v) (sameWord w x) (same-event v) e in
+        rw (both, e, wordAfterOr) (first-behind v xs r)
     go false e k =
         let n : 1 ≤ 0 + times w xs = rw e at h in
-        let both : (sameEvent v v && sameWord w x) ≡ false = rw (itself, e) in
-        rw (both, e, followingOr) (k (omega arith))
+        let both : (sameEvent v v && sameWord w x) ≡ false = rw (same-event v, e) in
+        rw (both, e, wordAfterOr) (k (omega arith))
 
 -- the first word of one length
-first-words : (s n k t : ℕ) (r : Following) → 1 ≤ s → firstOr (wordsFrom s n (suc k) t) r ≡ found (floor n t)
+first-words : (s n k t : ℕ) (r : After) → 1 ≤ s → firstOr (wordsFrom s n (suc k) t) r ≡ found (floor n t)
 unfolding wordsFrom
 first-words s zero k t r h = refl
 first-words zero (suc n) k t r h = absurd (omega arith)
@@ -139,7 +140,7 @@ first-words (suc s) (suc n) k t r h =
     ∙ first-both (behind (eventOf 0 t) ws) (bySymbols s 1 t ws) (firstOr (wordsFrom (suc s) (suc n) k (suc t)) r)
     ∙ first-behind (eventOf 0 t) ws (firstOr (bySymbols s 1 t ws) (firstOr (wordsFrom (suc s) (suc n) k (suc t)) r))
     ∙ ap
-    (λ (x : Following).
+    (λ (x : After).
     onto (eventOf 0 t) x (firstOr (bySymbols s 1 t ws) (firstOr (wordsFrom (suc s) (suc n) k (suc t)) r)))
     (first-words (suc s) n k t nothing h)
   where
@@ -148,7 +149,7 @@ first-words (suc s) (suc n) k t r h =
 
 -- among the symbols at one stamp
 first-symbols :
-    (m i t : ℕ) (ws : List (List Event)) (f : List Event) (r : Following) → firstOr ws nothing ≡ found f
+    (m i t : ℕ) (ws : List (List Event)) (f : List Event) (r : After) → firstOr ws nothing ≡ found f
     → firstOr (bySymbols m i t ws) r ≡ pick (ltb 0 m) (found (eventOf i t ∷ f)) r
 first-symbols zero i t ws f r h = refl
 first-symbols (suc m) i t ws f r h =
@@ -157,13 +158,13 @@ first-symbols (suc m) i t ws f r h =
     ∙ rw (h, lt-ltb 0 (suc m) (omega arith))
 
 next-symbols :
-    (m i t : ℕ) (u : Event) (w f : List Event) (ws : List (List Event)) (r : Following) → u .stamp ≡ t
+    (m i t : ℕ) (u : Event) (w f : List Event) (ws : List (List Event)) (r : After) → u .stamp ≡ t
     → i ≤ u .symbol
     → u .symbol < i + m
     → 1 ≤ times w ws
     → firstOr ws nothing ≡ found f
-    → followingOr (u ∷ w) (bySymbols m i t ws) r
-    ≡ onto u (followingOr w ws nothing)
+    → wordAfterOr (u ∷ w) (bySymbols m i t ws) r
+    ≡ onto u (wordAfterOr w ws nothing)
     (pick (ltb (suc (u .symbol)) (i + m)) (found (eventOf (suc (u .symbol)) t ∷ f)) r)
 next-symbols zero i t u w f ws r e a b h g = absurd (omega arith)
 next-symbols (suc m) i t u w f ws r e a b h g = go (two i (u .symbol)) (next-symbols m (suc i) t u w f ws r e)
@@ -173,15 +174,15 @@ next-symbols (suc m) i t u w f ws r e a b h g = go (two i (u .symbol)) (next-sym
 
     goal : Type 0
     goal =
-        followingOr (u ∷ w) (behind (eventOf i t) ws ++ bySymbols m (suc i) t ws) r
-        ≡ onto u (followingOr w ws nothing)
+        wordAfterOr (u ∷ w) (behind (eventOf i t) ws ++ bySymbols m (suc i) t ws) r
+        ≡ onto u (wordAfterOr w ws nothing)
         (pick (ltb (suc (u .symbol)) (i + suc m)) (found (eventOf (suc (u .symbol)) t ∷ f)) r)
 
     go :
         Two i (u .symbol)
         → (suc i ≤ u .symbol → u .symbol < suc i + m → 1 ≤ times w ws → firstOr ws nothing ≡ found f
-        → followingOr (u ∷ w) (bySymbols m (suc i) t ws) r
-        ≡ onto u (followingOr w ws nothing)
+        → wordAfterOr (u ∷ w) (bySymbols m (suc i) t ws) r
+        ≡ onto u (wordAfterOr w ws nothing)
         (pick (ltb (suc (u .symbol)) (suc i + m)) (found (eventOf (suc (u .symbol)) t ∷ f)) r))
         → goal
     go (less l) k =
@@ -196,10 +197,10 @@ next-symbols (suc m) i t u w f ws r e a b h g = go (two i (u .symbol)) (next-sym
         let there-is : 1 ≤ times (u ∷ w) (behind (eventOf i t) ws) =
         rw (times-behind u (eventOf i t) w ws, e, same-symbol, eq-eqb t t refl, eq-eqb i i refl) h in
         in-first (u ∷ w) (behind (eventOf i t) ws) (bySymbols m (suc i) t ws) r there-is
-        ∙ ap (λ (v : Event). followingOr (v ∷ w) (behind (eventOf i t) ws)
+        ∙ ap (λ (v : Event). wordAfterOr (v ∷ w) (behind (eventOf i t) ws)
         (firstOr (bySymbols m (suc i) t ws) r)) event-is
         ∙ next-behind (eventOf i t) w ws (firstOr (bySymbols m (suc i) t ws) r) h
-        ∙ ap (λ (x : Following). onto (eventOf i t) (followingOr w ws nothing) x)
+        ∙ ap (λ (x : After). onto (eventOf i t) (wordAfterOr w ws nothing) x)
         (first-symbols m (suc i) t ws f r g
         ∙ ap (λ (b : Bool). pick b (found (eventOf (suc i) t ∷ f)) r) (more-symbols m))
         ∙ rw (event-is)
@@ -220,7 +221,7 @@ unfolding wordsFrom
 no-words s n t = refl
 
 raise-last :
-    (s top k n t i : ℕ) (r : Following) → 1 ≤ s → t + suc k ≡ suc top
+    (s top k n t i : ℕ) (r : After) → 1 ≤ s → t + suc k ≡ suc top
     → pick (ltb (suc i) (0 + s)) (found (eventOf (suc i) t ∷ floor n t)) (firstOr (wordsFrom s (suc n) k (suc t)) r)
     ≡ orElse (raised s top (eventOf i t) n) r
 raise-last s top k n t i r hs e = go (ltb (suc i) s) refl
@@ -242,17 +243,17 @@ raise-last s top k n t i r hs e = go (ltb (suc i) s) refl
     go false f = rw (z, f) (rest k e)
 
 onto-else :
-    (v : Event) (x y r : Following) → onto v x (orElse y r) ≡ orElse (onto v x y) r
+    (v : Event) (x y r : After) → onto v x (orElse y r) ≡ orElse (onto v x y) r
 onto-else v x y r = by-test (x .some) (λ e. rw e) (λ e. rw e)
 
-or-nothing : (x : Following) → (x .some ≡ false → x ≡ nothing) → orElse x nothing ≡ x
+or-nothing : (x : After) → (x .some ≡ false → x ≡ nothing) → orElse x nothing ≡ x
 or-nothing x h = by-test (x .some) (λ e. if-true (x .some) x nothing e)
     (λ e. if-false (x .some) x nothing e ∙ sym (h e))
   where
-    if-true : (b : Bool) (x y : Following) → b ≡ true → pick b x y ≡ x
+    if-true : (b : Bool) (x y : After) → b ≡ true → pick b x y ≡ x
     if-true b x y e = rw e
 
-    if-false : (b : Bool) (x y : Following) → b ≡ false → pick b x y ≡ y
+    if-false : (b : Bool) (x y : After) → b ≡ false → pick b x y ≡ y
     if-false b x y e = rw e
 
 raised-settled : (s top n : ℕ) (v : Event) → raised s top v n .some ≡ false → raised s top v n ≡ nothing
@@ -272,10 +273,10 @@ bump-settled s top (v ∷ vs) h = go (bump s top vs .some) refl
     go true e = no-way (sym (rw e at h))
     go false e = rw e (raised-settled s top (length vs) v (rw e at h))
 
-pub next-words :
-    (s top n k t : ℕ) (w : List Event) (r : Following) → 1 ≤ s → t + k ≡ suc top → length w ≡ n
+next-words :
+    (s top n k t : ℕ) (w : List Event) (r : After) → 1 ≤ s → t + k ≡ suc top → length w ≡ n
     → fitsFrom s top t w ≡ true
-    → followingOr w (wordsFrom s n k t) r ≡ orElse (bump s top w) r
+    → wordAfterOr w (wordsFrom s n k t) r ≡ orElse (bump s top w) r
 unfolding wordsFrom
 next-words s top zero k t [] r hs e l f = refl
 next-words s top zero k t (u ∷ w) r hs e l f = absurd (omega arith)
@@ -297,9 +298,9 @@ next-words s top (suc n) (suc k) t (u ∷ w) r hs e l f =
     go :
         Two t (u .stamp)
         → (fitsFrom s top (suc t) (u ∷ w) ≡ true
-        → followingOr (u ∷ w) (wordsFrom s (suc n) k (suc t)) r ≡ orElse (bump s top (u ∷ w)) r)
-        → (fitsFrom s top t w ≡ true → followingOr w (wordsFrom s n (suc k) t) nothing ≡ orElse (bump s top w) nothing)
-        → followingOr (u ∷ w) (bySymbols s 0 t (wordsFrom s n (suc k) t) ++ wordsFrom s (suc n) k (suc t)) r
+        → wordAfterOr (u ∷ w) (wordsFrom s (suc n) k (suc t)) r ≡ orElse (bump s top (u ∷ w)) r)
+        → (fitsFrom s top t w ≡ true → wordAfterOr w (wordsFrom s n (suc k) t) nothing ≡ orElse (bump s top w) nothing)
+        → wordAfterOr (u ∷ w) (bySymbols s 0 t (wordsFrom s n (suc k) t) ++ wordsFrom s (suc n) k (suc t)) r
         ≡ orElse (bump s top (u ∷ w)) r
     go (less m) later within =
         not-first (u ∷ w) (bySymbols s 0 t (wordsFrom s n (suc k) t)) (wordsFrom s (suc n) k (suc t)) r
@@ -326,7 +327,7 @@ next-words s top (suc n) (suc k) t (u ∷ w) r hs e l f =
         (omega (arith, g .symbol-below))
         (omega (arith, once))
         (first-words s n k t nothing hs)
-        ∙ ap₂ (λ (x y : Following). onto u x y)
+        ∙ ap₂ (λ (x y : After). onto u x y)
         (within fit ∙ or-nothing (bump s top w) (bump-settled s top w))
         (raise-last s top k n t (u .symbol) r hs e
         ∙ ap (λ (x : Event). orElse (raised s top x n) r) (ap (eventOf (u .symbol)) (sym at))
@@ -334,64 +335,64 @@ next-words s top (suc n) (suc k) t (u ∷ w) r hs e l f =
         ∙ onto-else u (bump s top w) (raised s top u (length w)) r
 
 -- The whole list: the odometer, then the first word of the next length, then none.
-abbrev pub nextOrLonger : ℕ → ℕ → ℕ → List Event → Following
+abbrev pub nextOrLonger : ℕ → ℕ → ℕ → List Event → After
 nextOrLonger s h m w =
-    orElse (bump s (lastStamp h) w) (pick (ltb (length w) m) (found (floor (suc (length w)) 0)) nothing)
+    orElse (bump s (topStamp h) w) (pick (ltb (length w) m) (found (floor (suc (length w)) 0)) nothing)
 
 next-or :
-    (s h m : ℕ) (w : List Event) (r : Following) → 1 ≤ s → fits s h m w ≡ true
-    → followingOr w (listed s h m) r
-    ≡ orElse (bump s (lastStamp h) w) (pick (ltb (length w) m) (found (floor (suc (length w)) 0)) r)
-unfolding listed
+    (s h m : ℕ) (w : List Event) (r : After) → 1 ≤ s → fits s h m w ≡ true
+    → wordAfterOr w (wordsUpTo s h m) r
+    ≡ orElse (bump s (topStamp h) w) (pick (ltb (length w) m) (found (floor (suc (length w)) 0)) r)
+unfolding wordsUpTo
 next-or s h zero w r hs f =
     let n : length w ≡ 0 =
-    omega (arith, leb-true (length w) 0 (and-left (leb (length w) 0) (fitsFrom s (lastStamp h) 0 w) f)) in
-    next-words s (lastStamp h) 0 (stampCount h) 0 w r hs (omega arith) n
-    (and-right (leb (length w) 0) (fitsFrom s (lastStamp h) 0 w) f)
+    omega (arith, leb-true (length w) 0 (and-left (leb (length w) 0) (fitsFrom s (topStamp h) 0 w) f)) in
+    next-words s (topStamp h) 0 (stampCount h) 0 w r hs (omega arith) n
+    (and-right (leb (length w) 0) (fitsFrom s (topStamp h) 0 w) f)
     ∙ rw (le-ltb (length w) 0 (omega (arith, n)))
 next-or s h (suc m) w r hs f = go (two m (length w)) (next-or s h m w)
   where
-    fit : fitsFrom s (lastStamp h) 0 w ≡ true
-    fit = and-right (leb (length w) (suc m)) (fitsFrom s (lastStamp h) 0 w) f
+    fit : fitsFrom s (topStamp h) 0 w ≡ true
+    fit = and-right (leb (length w) (suc m)) (fitsFrom s (topStamp h) 0 w) f
 
     most : length w ≤ suc m
-    most = leb-true (length w) (suc m) (and-left (leb (length w) (suc m)) (fitsFrom s (lastStamp h) 0 w) f)
+    most = leb-true (length w) (suc m) (and-left (leb (length w) (suc m)) (fitsFrom s (topStamp h) 0 w) f)
 
     goal : Type 0
     goal =
-        followingOr w (listed s h m ++ wordsOf s h (suc m)) r
-        ≡ orElse (bump s (lastStamp h) w) (pick (ltb (length w) (suc m)) (found (floor (suc (length w)) 0)) r)
+        wordAfterOr w (wordsUpTo s h m ++ wordsOf s h (suc m)) r
+        ≡ orElse (bump s (topStamp h) w) (pick (ltb (length w) (suc m)) (found (floor (suc (length w)) 0)) r)
 
     go :
         Two m (length w)
-        → ((r : Following) → 1 ≤ s → fits s h m w ≡ true
-        → followingOr w (listed s h m) r
-        ≡ orElse (bump s (lastStamp h) w) (pick (ltb (length w) m) (found (floor (suc (length w)) 0)) r))
+        → ((r : After) → 1 ≤ s → fits s h m w ≡ true
+        → wordAfterOr w (wordsUpTo s h m) r
+        ≡ orElse (bump s (topStamp h) w) (pick (ltb (length w) m) (found (floor (suc (length w)) 0)) r))
         → goal
     go (less l) shorter =
         let n : length w ≡ suc m = omega (arith, most) in
-        not-first w (listed s h m) (wordsOf s h (suc m)) r
+        not-first w (wordsUpTo s h m) (wordsOf s h (suc m)) r
         (list-once s h m w ∙ rw (lt-leb (length w) m (omega arith)))
-        ∙ next-words s (lastStamp h) (suc m) (stampCount h) 0 w r hs (omega arith) n fit
+        ∙ next-words s (topStamp h) (suc m) (stampCount h) 0 w r hs (omega arith) n fit
         ∙ rw (le-ltb (length w) (suc m) (omega arith))
     go (least l) shorter =
         let in-m : fits s h m w ≡ true = rw (le-leb (length w) m l) fit in
-        in-first w (listed s h m) (wordsOf s h (suc m)) r (omega (arith, list-once s h m w ∙ ap oneIf in-m))
+        in-first w (wordsUpTo s h m) (wordsOf s h (suc m)) r (omega (arith, list-once s h m w ∙ ap oneIf in-m))
         ∙ shorter (firstOr (wordsOf s h (suc m)) r) hs in-m
-        ∙ ap (λ (x : Following). orElse (bump s (lastStamp h) w)
+        ∙ ap (λ (x : After). orElse (bump s (topStamp h) w)
         (pick (ltb (length w) m) (found (floor (suc (length w)) 0)) x))
-        (first-words s (suc m) (lastStamp h) 0 r hs)
+        (first-words s (suc m) (topStamp h) 0 r hs)
         ∙ rw (lt-ltb (length w) (suc m) (omega arith)) (last-length (cmp (length w) m))
       where
         last-length :
             Cmp (length w) m
-            → orElse (bump s (lastStamp h) w)
+            → orElse (bump s (topStamp h) w)
             (pick (ltb (length w) m) (found (floor (suc (length w)) 0)) (found (floor (suc m) 0)))
-            ≡ orElse (bump s (lastStamp h) w) (found (floor (suc (length w)) 0))
+            ≡ orElse (bump s (topStamp h) w) (found (floor (suc (length w)) 0))
         last-length (is-lt k) = rw (lt-ltb (length w) m k)
         last-length (is-eq k) = rw (k, le-ltb m m (omega arith))
         last-length (is-gt k) = absurd (omega arith)
 
 pub next-is :
-    (s h m : ℕ) (w : List Event) → 1 ≤ s → fits s h m w ≡ true → following w (listed s h m) ≡ nextOrLonger s h m w
-next-is s h m w hs f = following-is w (listed s h m) ∙ next-or s h m w nothing hs f
+    (s h m : ℕ) (w : List Event) → 1 ≤ s → fits s h m w ≡ true → wordAfter w (wordsUpTo s h m) ≡ nextOrLonger s h m w
+next-is s h m w hs f = after-is w (wordsUpTo s h m) ∙ next-or s h m w nothing hs f

@@ -10,7 +10,7 @@ use Rattle.model.specs.Basics.{allBelow, zeros, Refusal, refusal, fine}
 use Rattle.model.specs.Tables.{Tables, tables, rowWidth}
 use Rattle.model.specs.Walks.{builtPairs, builtSizesOk, longEnough, rowsChain, cellsOk, verdictsOk, inShape}
 use Rattle.model.specs.Walks.{shapeRefusal}
-use Rattle.model.proofs.Logic.{and-both}
+use Rattle.model.proofs.Logic.{zeros-at, and-both}
 use Rattle.model.proofs.Examples.{worked-tables}
 use Rattle.model.proofs.Cases.{Case, case, allMet}
 
@@ -160,11 +160,6 @@ no-verdicts zero i b rows pool h = refl
 no-verdicts (suc n) i b rows pool h =
     rw (h (rowWidth * i + 2), h (rowWidth * i + 1)) (no-verdicts n (suc i) b rows pool h)
 
-zero-at : (n k : ℕ) → getD (zeros n) k 0 ≡ 0
-zero-at zero k = refl
-zero-at (suc n) zero = refl
-zero-at (suc n) (suc k) = zero-at n k
-
 many : ℕ → Built
 many rows = record { locations = 1; symbols = 1; clocks = 1; top = 0; ends = 0; rows = rows; total = 0 }
 
@@ -180,7 +175,7 @@ rows-in-shape =
     && cellsOk 0 2 4096 (take 8192 (zeros 8192)))
     (verdictsOk 4096 0 (many 4096) (zeros 12288) [])
     refl
-    (no-verdicts 4096 0 (many 4096) (zeros 12288) [] (zero-at 12288))
+    (no-verdicts 4096 0 (many 4096) (zeros 12288) [] (zeros-at 12288))
 
 rows-over : (t : Tables) → t .built ≡ many 4097 → inShape t ≡ false
 unfolding inShape many

@@ -8,14 +8,14 @@ use Rattle.model.specs.Basics.{oneIf, quotient, remainder}
 use Rattle.model.specs.Words.{Event}
 
 -- the whole seconds of a stamp or an age, and 1 where a fraction of a second is left
-abbrev pub seconds : ℕ → ℕ → ℕ
-seconds d t = quotient t d
+abbrev pub wholeSeconds : ℕ → ℕ → ℕ
+wholeSeconds d t = quotient t d
 
 abbrev pub fraction : ℕ → ℕ → ℕ
 fraction d t = oneIf (leb 1 (remainder t d))
 
 abbrev pub alikeStamps : ℕ → ℕ → ℕ → ℕ → Bool
-alikeStamps d t e u = eqb (seconds d t) (seconds e u) && eqb (fraction d t) (fraction e u)
+alikeStamps d t e u = eqb (wholeSeconds d t) (wholeSeconds e u) && eqb (fraction d t) (fraction e u)
 
 abbrev pub alike : ℕ → List Event → ℕ → List Event → Bool
 alike d [] e [] = true
@@ -26,7 +26,7 @@ alike d (v ∷ vs) e (w ∷ ws) =
 
 -- Half seconds: even on a whole second, odd for all of what lies between two.
 abbrev pub halfSeconds : ℕ → ℕ → ℕ
-halfSeconds d t = 2 * seconds d t + fraction d t
+halfSeconds d t = 2 * wholeSeconds d t + fraction d t
 
 -- a word with its stamps in half seconds: under D = 2 it is alike
 abbrev pub inHalves : ℕ → List Event → List Event

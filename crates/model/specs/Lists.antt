@@ -11,24 +11,24 @@ use Rattle.model.specs.Rules.{mostSymbols}
 use Rattle.model.specs.Words.{Event, eventsOf}
 
 -- The size: S symbols, 1 to 16; at most m events, m 0 to 6; stamps up to H whole seconds, H 0 to 30.
-abbrev pub mostListed : ℕ
-mostListed = 6
+abbrev pub mostListedEvents : ℕ
+mostListedEvents = 6
 
 abbrev pub mostSeconds : ℕ
 mostSeconds = 30
 
 abbrev pub sizeOk : Size → Bool
-sizeOk z = within 1 mostSymbols (z .symbols) && leb (z .events) mostListed && leb (z .seconds) mostSeconds
+sizeOk z = within 1 mostSymbols (z .symbols) && leb (z .events) mostListedEvents && leb (z .seconds) mostSeconds
 
 abbrev pub listGrain : ℕ
 listGrain = 2
 
 -- The last stamp, H whole seconds itself, and how many stamps there are from 0 on.
-abbrev pub lastStamp : ℕ → ℕ
-lastStamp h = listGrain * h
+abbrev pub topStamp : ℕ → ℕ
+topStamp h = listGrain * h
 
 abbrev pub stampCount : ℕ → ℕ
-stampCount h = suc (lastStamp h)
+stampCount h = suc (topStamp h)
 
 abbrev pub eventOf : ℕ → ℕ → Event
 eventOf s t = record { symbol = s; stamp = t }
@@ -53,12 +53,12 @@ abbrev pub wordsOf : ℕ → ℕ → ℕ → List (List Event)
 wordsOf s h n = wordsFrom s n (stampCount h) 0
 
 -- The list: shorter words first.
-unfoldable pub listed : ℕ → ℕ → ℕ → List (List Event)
-listed s h zero = wordsOf s h 0
-listed s h (suc m) = listed s h m ++ wordsOf s h (suc m)
+unfoldable pub wordsUpTo : ℕ → ℕ → ℕ → List (List Event)
+wordsUpTo s h zero = wordsOf s h 0
+wordsUpTo s h (suc m) = wordsUpTo s h m ++ wordsOf s h (suc m)
 
 abbrev pub listOf : Size → List (List Event)
-listOf z = listed (z .symbols) (z .seconds) (z .events)
+listOf z = wordsUpTo (z .symbols) (z .seconds) (z .events)
 
 abbrev pub sameEvent : Event → Event → Bool
 sameEvent v w = eqb (v .stamp) (w .stamp) && eqb (v .symbol) (w .symbol)
@@ -70,17 +70,17 @@ sameWord (v ∷ vs) [] = false
 sameWord (v ∷ vs) (w ∷ ws) = sameEvent v w && sameWord vs ws
 
 -- The word after another in a list, if there is one.
-pub record Following : Type 0 where
+pub record After : Type 0 where
   pub some : Bool
   pub word : List Event
 
-abbrev pub firstOf : List (List Event) → Following
+abbrev pub firstOf : List (List Event) → After
 firstOf [] = record { some = false; word = [] }
 firstOf (w ∷ ws) = record { some = true; word = w }
 
-abbrev pub following : List Event → List (List Event) → Following
-following w [] = firstOf []
-following w (v ∷ ws) = elim (sameWord w v) [ true ↦ firstOf ws | false ↦ following w ws ]
+abbrev pub wordAfter : List Event → List (List Event) → After
+wordAfter w [] = firstOf []
+wordAfter w (v ∷ ws) = elim (sameWord w v) [ true ↦ firstOf ws | false ↦ wordAfter w ws ]
 
 -- Which words the list has: symbols below S, stamps from `last` to `top` that never fall.
 abbrev pub fitsFrom : ℕ → ℕ → ℕ → List Event → Bool
@@ -89,7 +89,7 @@ fitsFrom s top last (v ∷ vs) =
     ltb (v .symbol) s && (leb last (v .stamp) && (leb (v .stamp) top && fitsFrom s top (v .stamp) vs))
 
 abbrev pub fits : ℕ → ℕ → ℕ → List Event → Bool
-fits s h m vs = leb (length vs) m && fitsFrom s (lastStamp h) 0 vs
+fits s h m vs = leb (length vs) m && fitsFrom s (topStamp h) 0 vs
 
 -- A word by value: its number of events and six places, unused ones zero.
 abbrev pub symbolsOf : List Event → List ℕ
@@ -103,8 +103,8 @@ stampsOf (v ∷ vs) = v .stamp ∷ stampsOf vs
 abbrev pub listedOf : List Event → Listed
 listedOf vs = record {
   count = length vs;
-  symbols = filled mostListed (symbolsOf vs);
-  stamps = filled mostListed (stampsOf vs);
+  symbols = filled mostListedEvents (symbolsOf vs);
+  stamps = filled mostListedEvents (stampsOf vs);
 }
 
 abbrev pub eventsIn : Listed → List Event

@@ -30,7 +30,7 @@ use Rattle.model.specs.Files.{readRule, ruleBytes}
 use Rattle.model.specs.Layout.{edgeNeed, headOf, noHead, edgeTable, ruleIn, ruleRefusal}
 use Rattle.model.specs.Tables.{Tables, tables, tablesOf, builtOf, noBuilt, tableRefusal}
 use Rattle.model.specs.Walks.{shapeRefusal, verdict, startAt, step, tableAccepts, followRefusal}
-use Rattle.model.specs.Lists.{Following, listOf, following, listedOf, eventsIn, listRefusal}
+use Rattle.model.specs.Lists.{After, listOf, wordAfter, listedOf, eventsIn, listRefusal}
 
 -- the refusal with its place and value 0, or the value
 abbrev pub answerOf : Refusal → ℕ → Answer
@@ -256,7 +256,7 @@ pub record Decides
       pool
 
 -- next_word (2.6): 38, 39. The next word of the list; the same word where it was the last, and on a refusal.
-abbrev pub nextOf : Refusal → Following → Listed → Next
+abbrev pub nextOf : Refusal → After → Listed → Next
 nextOf f after word = record {
   number = f .number;
   place = f .place;
@@ -264,5 +264,8 @@ nextOf f after word = record {
   word = pick (passes f && after .some) (listedOf (after .word)) word;
 }
 
+abbrev pub nextGiven : Size → Listed → Next
+nextGiven size word = nextOf (listRefusal size word) (wordAfter (eventsIn word) (listOf size)) word
+
 pub record GivesNext (size : Size) (word : Listed) (answer : Next) : Type 0 where
-  pub answer-is : answer ≡ nextOf (listRefusal size word) (following (eventsIn word) (listOf size)) word
+  pub answer-is : answer ≡ nextGiven size word

@@ -36,7 +36,7 @@ pub const MOST_BRANCH_EVENTS: usize = 12;
 pub const MOST_ROWS: usize = 4096;
 
 // The sizes of a list of words: its events and whole seconds at most, and its D.
-pub const MOST_LISTED: usize = 6;
+pub const MOST_LISTED_EVENTS: usize = 6;
 
 pub const MOST_SECONDS: usize = 30;
 
@@ -224,8 +224,8 @@ pub struct Size {
 #[repr(C)]
 pub struct Listed {
     pub count: u32,
-    pub symbols: [u16; MOST_LISTED],
-    pub stamps: [u32; MOST_LISTED],
+    pub symbols: [u16; MOST_LISTED_EVENTS],
+    pub stamps: [u32; MOST_LISTED_EVENTS],
 }
 
 // The next word of a list; `last`: there is none, and the word is the one given. It is that on a refusal too.

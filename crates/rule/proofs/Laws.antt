@@ -28,10 +28,10 @@ pub record Zeros (i seen : ℕ) (xs : List ℕ) : Type 0 where
   pub turns : i ≤ length xs
   pub rest-is : (eqb seen 0 && allZero (drop i xs)) ≡ allZero xs
 
-zeros-at :
+zeros-from :
     (i : ℕ) (xs : List ℕ) → i < length xs
     → allZero (drop i xs) ≡ (eqb (getD xs i 0) 0 && allZero (drop (i + 1) xs))
-zeros-at i xs h = rw (drop-cons xs i 0 h, add-one i)
+zeros-from i xs h = rw (drop-cons xs i 0 h, add-one i)
 
 -- bits of either are bits of both joined
 none-joined : (a b : ℕ) (t : Bool) → (eqb (bitOr a b) 0 && t) ≡ (eqb a 0 && (eqb b 0 && t))
@@ -50,7 +50,7 @@ module _ {i seen : ℕ} {xs : List ℕ} (inv : Zeros i seen xs) where
     turns = omega arith;
     rest-is =
         none-joined seen (getD xs i 0) (allZero (drop (i + 1) xs))
-        ∙ (ap (λ (z : Bool). eqb seen 0 && z) (sym (zeros-at i xs h)) ∙ inv .rest-is);
+        ∙ (ap (λ (z : Bool). eqb seen 0 && z) (sym (zeros-from i xs h)) ∙ inv .rest-is);
   }
 
   pub zeros-end : length xs ≤ i → eqb seen 0 ≡ allZero xs
