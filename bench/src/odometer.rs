@@ -12,7 +12,8 @@ const MOST_SECONDS: u32 = 30;
 /// The word after another. Not inlined, as the library is not.
 #[inline(never)]
 pub extern "C" fn next_word(size: Size, word: Listed) -> Next {
-    if !(1..=MOST_SYMBOLS).contains(&size.symbols) || size.events > MOST_EVENTS || size.seconds > MOST_SECONDS {
+    if !(1..=MOST_SYMBOLS).contains(&size.symbols) || size.events > MOST_EVENTS || size.seconds > MOST_SECONDS
+    {
         return Next { number: 38, place: 0, last: false, word };
     }
     let top = LIST_GRAIN * size.seconds;
