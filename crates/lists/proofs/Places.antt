@@ -1,5 +1,5 @@
 -- A word by value: it has six places for symbols and six for stamps, and its events stand there in order.
-use mathlib.Core.Path.{_≡_, refl, sym, _∙_, ap, ap₂}
+use mathlib.Core.Path.{_≡_, refl, sym, _∙_, ap₂}
 use mathlib.Core.List.{List, [], _∷_}
 use Prim.Native.Nat.{ℕ, zero, suc, _+_, _≤_, _<_}
 use native.Mathlib.Omega.{arith}
@@ -15,6 +15,7 @@ use Rattle.model.specs.Lists.{mostListedEvents, eventsIn, symbolsOf, stampsOf}
 use Rattle.lists.specs.Odometer.{Six}
 use Rattle.model.proofs.Words.{events-length}
 use Rattle.model.proofs.Events.{eventAt, events-rest}
+use Rattle.model.proofs.Lists.{symbols-back, stamps-back}
 
 -- what owning a word tells
 pub six : (w : Listed) (vs : List Val) → Is (row the-type) w vs → Six w
@@ -29,17 +30,6 @@ drop-events zero xs ts h = refl
 drop-events (suc i) [] ts h = refl
 drop-events (suc i) (x ∷ xs) [] h = absurd (omega arith)
 drop-events (suc i) (x ∷ xs) (t ∷ ts) h = drop-events i xs ts (omega arith)
-
-symbols-events : (xs ts : List ℕ) → length xs ≡ length ts → symbolsOf (eventsOf xs ts) ≡ xs
-symbols-events [] ts h = refl
-symbols-events (x ∷ xs) [] h = absurd (omega arith)
-symbols-events (x ∷ xs) (t ∷ ts) h = ap (λ (ys : List ℕ). x ∷ ys) (symbols-events xs ts (omega arith))
-
-stamps-events : (xs ts : List ℕ) → length xs ≡ length ts → stampsOf (eventsOf xs ts) ≡ ts
-stamps-events [] [] h = refl
-stamps-events [] (t ∷ ts) h = absurd (omega arith)
-stamps-events (x ∷ xs) [] h = absurd (omega arith)
-stamps-events (x ∷ xs) (t ∷ ts) h = ap (λ (ys : List ℕ). t ∷ ys) (stamps-events xs ts (omega arith))
 
 -- the events of a word with at most six
 module _ (w : Listed) (f : Six w) (h : w .count ≤ mostListedEvents) where
@@ -56,10 +46,10 @@ module _ (w : Listed) (f : Six w) (h : w .count ≤ mostListedEvents) where
   events-count = events-length (take (w .count) (w .symbols)) (take (w .count) (w .stamps)) taken-both ∙ symbols-taken
 
   pub symbols-are : symbolsOf (eventsIn w) ≡ take (w .count) (w .symbols)
-  symbols-are = symbols-events (take (w .count) (w .symbols)) (take (w .count) (w .stamps)) taken-both
+  symbols-are = symbols-back (take (w .count) (w .symbols)) (take (w .count) (w .stamps)) taken-both
 
   pub stamps-are : stampsOf (eventsIn w) ≡ take (w .count) (w .stamps)
-  stamps-are = stamps-events (take (w .count) (w .symbols)) (take (w .count) (w .stamps)) taken-both
+  stamps-are = stamps-back (take (w .count) (w .symbols)) (take (w .count) (w .stamps)) taken-both
 
   -- the events from place i on are event i and those from i + 1 on
   pub event-at :

@@ -62,7 +62,7 @@ bit-two u =
     by-test (leb 1 (u % 2)) (λ e. rw e (omega (arith, leb-true 1 (u % 2) e)))
     (λ e. rw e (omega (arith, leb-false 1 (u % 2) e)))
 
-half-two : (u : ℕ) → halfSeconds listGrain u ≡ u
+pub half-two : (u : ℕ) → halfSeconds listGrain u ≡ u
 half-two u = omega (arith, bit-two u)
 
 already-halves : (w : List Event) → inHalves listGrain w ≡ w
@@ -77,7 +77,7 @@ alike-is = record { same-halves = same-halves; same-words = same-words; already-
 alike-same : (d : ℕ) (vs ws : List Event) → alike d vs listGrain ws ≡ sameWord (inHalves d vs) ws
 alike-same d vs ws = same-words d listGrain vs ws ∙ ap (sameWord (inHalves d vs)) (already-halves ws)
 
-length-halves : (d : ℕ) (vs : List Event) → length (inHalves d vs) ≡ length vs
+pub length-halves : (d : ℕ) (vs : List Event) → length (inHalves d vs) ≡ length vs
 length-halves d [] = refl
 length-halves d (v ∷ vs) = ap suc (length-halves d vs)
 

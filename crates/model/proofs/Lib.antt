@@ -69,6 +69,7 @@ pub mod StartRow
 pub mod TableWalk
 pub mod Shape
 pub mod Stored
+pub mod ShapeCells
 pub mod ShapeWalk
 pub mod FollowerWalk
 -- Rule files: numbers as bytes; one record read; the writing of a valid rule is accepted and spells it; an accepted
@@ -104,3 +105,10 @@ pub mod ListOrder
 pub mod ListOnly
 pub mod ListTaken
 pub mod ListExamples
+-- Inclusion: words alike over one table; two tables walked together, and D = 2 is enough; the rules of tables as built,
+-- one call and two outcomes of it; from the bytes of two files; refusals and whole answers by computation
+pub mod AlikeTables
+pub mod JointWalk
+pub mod Inclusions
+pub mod TwoFiles
+pub mod InclusionExamples

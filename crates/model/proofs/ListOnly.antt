@@ -1,5 +1,5 @@
--- The list is the only one that has each word that fits once and in order: of two words that differ one comes before the
--- other and not the other way round, so two such lists agree word by word.
+-- The list is the only one that has each word that fits once and in order: of two words that differ one comes before
+-- the other and not the other way round, so two such lists agree word by word.
 use mathlib.Core.Path.{_≡_, refl, sym, _∙_, ap, ap₂}
 use mathlib.Core.Bool.{Bool, true, false, _&&_}
 use mathlib.Core.List.{List, [], _∷_, _++_, append-assoc}
@@ -11,12 +11,12 @@ use lib.ListN.{length}
 use borrow.Author.Tests.{ltb-true, eqb-true}
 use Rattle.model.specs.Basics.{oneIf}
 use Rattle.model.specs.Words.{Event}
-use Rattle.model.specs.Lists.{eventOf, wordsUpTo, sameEvent, sameWord, fits}
+use Rattle.model.specs.Lists.{wordsUpTo, sameEvent, sameWord, fits}
 use Rattle.model.specs.Claims.{countIf, times, eventBefore, byEvent, before}
 use Rattle.model.proofs.Logic.{no-way, and-left, and-right, or-cases}
 use Rattle.model.proofs.Lists.{list-once}
 use Rattle.model.proofs.NextWord.{same-event}
-use Rattle.model.proofs.ListOrder.{Rising, stands-first, list-rises, same-word}
+use Rattle.model.proofs.ListOrder.{Rising, event-is, stands-first, times-none, list-rises, same-word}
 
 -- how one event comes before another
 data Earlier (v w : Event) : Type 0 where
@@ -50,25 +50,11 @@ not-both-events v w (by-symbol e a) (by-symbol f b) = omega arith
 not-same : (v w : Event) → Earlier v w → sameEvent v w ≡ true → ⊥
 not-same v w x h = go x
   where
-    stamps : v .stamp ≡ w .stamp
-    stamps =
-        eqb-true (v .stamp) (w .stamp) (and-left (eqb (v .stamp) (w .stamp)) (eqb (v .symbol) (w .symbol)) h)
-
-    symbols : v .symbol ≡ w .symbol
-    symbols =
-        eqb-true (v .symbol) (w .symbol) (and-right (eqb (v .stamp) (w .stamp)) (eqb (v .symbol) (w .symbol)) h)
-
     go : Earlier v w → ⊥
-    go (by-stamp a) = omega (arith, stamps)
-    go (by-symbol e a) = omega (arith, symbols)
+    go (by-stamp a) = omega (arith, ap (λ (z : Event). z .stamp) (event-is v w h))
+    go (by-symbol e a) = omega (arith, ap (λ (z : Event). z .symbol) (event-is v w h))
 
--- the same event, either way round; the same word
-event-is : (v w : Event) → sameEvent v w ≡ true → v ≡ w
-event-is v w h =
-    ap₂ eventOf
-    (eqb-true (v .symbol) (w .symbol) (and-right (eqb (v .stamp) (w .stamp)) (eqb (v .symbol) (w .symbol)) h))
-    (eqb-true (v .stamp) (w .stamp) (and-left (eqb (v .stamp) (w .stamp)) (eqb (v .symbol) (w .symbol)) h))
-
+-- the same word
 word-is : (vs ws : List Event) → sameWord vs ws ≡ true → vs ≡ ws
 word-is [] [] h = refl
 word-is [] (w ∷ ws) h = no-way h
@@ -128,10 +114,6 @@ not-both vs ws h k =
         (and-right (eqb (length ws) (length vs)) (byEvent ws vs) b)
 
 -- two lists in order with the same words
-times-none : (w : List Event) → times w [] ≡ 0
-unfolding countIf
-times-none w = refl
-
 times-more : (w x : List Event) (xs : List (List Event)) → times w (x ∷ xs) ≡ oneIf (sameWord w x) + times w xs
 unfolding countIf
 times-more w x xs = refl

@@ -1,5 +1,5 @@
 -- The list is in order: what stands later comes after; and the word after another is the one next to it.
-use mathlib.Core.Path.{_≡_, refl, sym, _∙_, ap}
+use mathlib.Core.Path.{_≡_, refl, sym, _∙_, ap, ap₂}
 use mathlib.Core.Bool.{Bool, true, false, _&&_}
 use mathlib.Core.List.{List, [], _∷_, _++_}
 use Prim.Native.Nat.{ℕ, zero, suc, _+_, _≤_, _<_}
@@ -24,6 +24,12 @@ is-picked : (b : Bool) (k : ℕ) → 1 ≤ pick b k 0 → (b ≡ true) × (1 ≤
 is-picked true k h = (refl, h)
 is-picked false k h = absurd (omega arith)
 
+pub event-is : (v w : Event) → sameEvent v w ≡ true → v ≡ w
+event-is v w h =
+    ap₂ eventOf
+    (eqb-true (v .symbol) (w .symbol) (and-right (eqb (v .stamp) (w .stamp)) (eqb (v .symbol) (w .symbol)) h))
+    (eqb-true (v .stamp) (w .stamp) (and-left (eqb (v .stamp) (w .stamp)) (eqb (v .symbol) (w .symbol)) h))
+
 pub same-word : (w : List Event) → sameWord w w ≡ true
 same-word [] = refl
 same-word (v ∷ vs) = and-both (sameEvent v v) (sameWord vs vs) (same-event v) (same-word vs)
@@ -36,9 +42,9 @@ pub stands-later : (v w : List Event) (ws : List (List Event)) → 1 ≤ times v
 unfolding countIf
 stands-later v w ws h = omega arith
 
-none-there : (w : List Event) → 1 ≤ times w [] → ⊥
+pub times-none : (w : List Event) → times w [] ≡ 0
 unfolding countIf
-none-there w h = omega arith
+times-none w = refl
 
 -- a list in which all that stands behind a word comes after it, by an order p
 abbrev pub Rising : (List Event → List Event → Bool) → List (List Event) → Type 0
@@ -81,15 +87,8 @@ symbol-first u v a b e h =
 rest-first :
     (u v : Event) (a b : List Event) → sameEvent v u ≡ true → byEvent a b ≡ true → byEvent (u ∷ a) (v ∷ b) ≡ true
 rest-first u v a b e h =
-    let stamps : Bool = eqb (v .stamp) (u .stamp) in
-    let symbols : Bool = eqb (v .symbol) (u .symbol) in
-    let stamp-is : v .stamp ≡ u .stamp = eqb-true (v .stamp) (u .stamp) (and-left stamps symbols e) in
-    let symbol-is : v .symbol ≡ u .symbol = eqb-true (v .symbol) (u .symbol) (and-right stamps symbols e) in
     or-right (eventBefore u v) (sameEvent u v && byEvent a b)
-    (and-both (sameEvent u v) (byEvent a b)
-    (and-both (eqb (u .stamp) (v .stamp)) (eqb (u .symbol) (v .symbol)) (eq-eqb (u .stamp) (v .stamp) (sym stamp-is))
-    (eq-eqb (u .symbol) (v .symbol) (sym symbol-is)))
-    h)
+    (and-both (sameEvent u v) (byEvent a b) (ap (λ (x : Event). sameEvent u x) (event-is v u e) ∙ same-event u) h)
 
 -- behind one event
 in-behind :
@@ -134,11 +133,10 @@ rising-symbols (suc n) i t ws a =
     across [] y m l = absurd (omega (arith, m, none-empty (eventOf i t) ws))
     across (u ∷ x) [] m l = absurd (omega (arith, l, none-symbols n (suc i) t ws))
     across (u ∷ x) (v ∷ y) m l =
-        let same-is = in-behind u (eventOf i t) x ws m .0 in
-        let stamp-is = eqb-true (u .stamp) t (and-left (eqb (u .stamp) t) (eqb (u .symbol) i) same-is) in
-        let symbol-is = eqb-true (u .symbol) i (and-right (eqb (u .stamp) t) (eqb (u .symbol) i) same-is) in
+        let is : u ≡ eventOf i t = event-is u (eventOf i t) (in-behind u (eventOf i t) x ws m .0) in
         let later = in-symbols n (suc i) t v y ws l in
-        symbol-first u v x y (stamp-is ∙ sym (later .0)) (omega (arith, symbol-is, later .1))
+        symbol-first u v x y (ap (λ (z : Event). z .stamp) is ∙ sym (later .0))
+        (omega (arith, ap (λ (z : Event). z .symbol) is, later .1))
 
 -- the words of one length
 in-words :
@@ -152,7 +150,7 @@ in-words s top n k t w e h =
 
 rising-words : (s top n k t : ℕ) → t + k ≡ suc top → Rising byEvent (wordsFrom s n k t)
 unfolding wordsFrom
-rising-words s top zero k t e = ((λ v m. absurd (none-there v m)), tt)
+rising-words s top zero k t e = ((λ v m. absurd (omega (arith, m, times-none v))), tt)
 rising-words s top (suc n) zero t e = tt
 rising-words s top (suc n) (suc k) t e =
     rising-both byEvent (bySymbols s 0 t (wordsFrom s n (suc k) t)) (wordsFrom s (suc n) k (suc t))

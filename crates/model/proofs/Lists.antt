@@ -372,6 +372,18 @@ pub stamps-length : (vs : List Event) → length (stampsOf vs) ≡ length vs
 stamps-length [] = refl
 stamps-length (v ∷ vs) = ap suc (stamps-length vs)
 
+-- two lists of one length, and their events' symbols and stamps
+pub symbols-back : (xs ts : List ℕ) → length xs ≡ length ts → symbolsOf (eventsOf xs ts) ≡ xs
+symbols-back [] ts e = refl
+symbols-back (x ∷ xs) [] e = absurd (omega arith)
+symbols-back (x ∷ xs) (t ∷ ts) e = ap (λ (l : List ℕ). x ∷ l) (symbols-back xs ts (omega arith))
+
+pub stamps-back : (xs ts : List ℕ) → length xs ≡ length ts → stampsOf (eventsOf xs ts) ≡ ts
+stamps-back [] [] e = refl
+stamps-back [] (t ∷ ts) e = absurd (omega arith)
+stamps-back (x ∷ xs) [] e = absurd (omega arith)
+stamps-back (x ∷ xs) (t ∷ ts) e = ap (λ (l : List ℕ). t ∷ l) (stamps-back xs ts (omega arith))
+
 pub listed-legal :
     (s h m : ℕ) (w : List Event) → fits s h m w ≡ true → wordRefusal s listGrain m (symbolsOf w) (stampsOf w) ≡ fine
 listed-legal s h m w f =

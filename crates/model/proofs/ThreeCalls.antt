@@ -27,7 +27,7 @@ use Rattle.model.proofs.Calls.{outside, Read, read, read-short, read-nu
 use Rattle.model.proofs.Calls.{Answered, answered}
 
 -- none of 1 to 8 and 20: the first number is 0
-first-none :
+pub first-none :
     (file edges edges′ : List ℕ) (reading : Reading) → ReadsRule file edges edges′ reading
     → within 1 8 (reading .number) ≡ false
     → eqb (reading .number) 20 ≡ false
@@ -50,7 +50,7 @@ first-none file edges edges′ reading p a b = by-test (tooShort edges) short lo
         (among-none (readRule file .refused) (read-numbers file) (outside 1 8 (readRule file .refused .number) out))
 
 -- none of 22 to 24 on a rule that passes 20 and 21: the second number is 0
-second-none :
+pub second-none :
     (h : Head) (t scratch scratch′ cells cells′ rows rows′ pool pool′ : List ℕ) (building : Building) (r : Rule)
     → ruleRefusal h t ≡ fine
     → ruleIn h t ≡ r

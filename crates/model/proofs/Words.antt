@@ -71,7 +71,8 @@ events-settled s i last (v ∷ vs) =
     (then-settled (eventRefusal s i last v) (eventsRefusal s (suc i) (v .stamp) vs) (event-settled s i last v)
     (events-settled s (suc i) (v .stamp) vs))
 
-events-keep : (s i last : ℕ) (vs : List Event) → eventsRefusal s i last vs .number ≡ 0 → Below s vs × Ordered last vs
+pub events-keep :
+    (s i last : ℕ) (vs : List Event) → eventsRefusal s i last vs .number ≡ 0 → Below s vs × Ordered last vs
 events-keep s i last [] h = (tt, tt)
 events-keep s i last (v ∷ vs) h =
     let f : Refusal = eventRefusal s i last v in
@@ -81,7 +82,7 @@ events-keep s i last (v ∷ vs) h =
     let later-keep = events-keep s (suc i) (v .stamp) vs (then-passes f g both) in
     ((now-keeps .0, later-keep .0), (now-keeps .1, later-keep .1))
 
-events-fine : (s i last : ℕ) (vs : List Event) → Below s vs → Ordered last vs → eventsRefusal s i last vs ≡ fine
+pub events-fine : (s i last : ℕ) (vs : List Event) → Below s vs → Ordered last vs → eventsRefusal s i last vs ≡ fine
 events-fine s i last [] b o = refl
 events-fine s i last (v ∷ vs) b o =
     events-step s i last v vs

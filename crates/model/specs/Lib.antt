@@ -24,10 +24,14 @@ pub mod Tables
 pub mod Walks
 -- All words up to a size, in order; the word after another (2.6: 38, 39)
 pub mod Lists
+-- Does one rule allow only what another allows (2.10: 35 to 37)
+pub mod Inclusion
+-- Two tables walked together at D = 2: what the search of 2.10 goes over
+pub mod JointStates
 -- What every public entry promises: its answer and every lent buffer at exit
 pub mod Promises
 -- Demands 2 and 3 as claims about the definitions and the promises
 pub mod Demands
 -- Further claims that pin the definitions: runs, configurations, successor sets, the tables by place, the follower,
--- guards, what held a rule back, what pins a guard, the list of words
+-- guards, what held a rule back, what pins a guard, the list of words, inclusion
 pub mod Claims

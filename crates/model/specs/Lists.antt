@@ -20,6 +20,7 @@ mostSeconds = 30
 abbrev pub sizeOk : Size → Bool
 sizeOk z = within 1 mostSymbols (z .symbols) && leb (z .events) mostListedEvents && leb (z .seconds) mostSeconds
 
+-- D of a listed word, and of a word shown (2.10)
 abbrev pub listGrain : ℕ
 listGrain = 2
 

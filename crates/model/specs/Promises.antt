@@ -1,9 +1,9 @@
 -- What every public entry promises: one equation for its answer and one for each lent buffer at exit, in every case.
--- A primed name is the buffer at exit.
+-- A primed name is the buffer at exit. One part is free, and it is named: which shortest word 2.10 shows.
 use mathlib.Core.Path.{_≡_}
-use mathlib.Core.Bool.{Bool, _&&_, not}
+use mathlib.Core.Bool.{Bool, true, false, _&&_, not}
 use mathlib.Core.List.{List, []}
-use Prim.Native.Nat.{ℕ, _+_, _*_, _/_}
+use Prim.Native.Nat.{ℕ, suc, _+_, _*_, _/_, _≤_}
 use lib.Dec.{ltb, leb}
 use lib.ListN.{length}
 use Rattle.model.specs.declared.Stamp.{Stamp}
@@ -21,7 +21,8 @@ use Rattle.model.specs.declared.Moved.{Moved}
 use Rattle.model.specs.declared.Size.{Size}
 use Rattle.model.specs.declared.Listed.{Listed}
 use Rattle.model.specs.declared.Next.{Next}
-use Rattle.model.specs.Basics.{pick, oneIf, zeros, filled, written, Refusal, refuse, passes, _⨾_}
+use Rattle.model.specs.declared.Inclusion.{Inclusion}
+use Rattle.model.specs.Basics.{pick, oneIf, zeros, filled, written, Refusal, refusal, fine, refuse, passes, _⨾_}
 use Rattle.model.specs.Rules.{Rule}
 use Rattle.model.specs.Words.{Event, eventsOf, mostEvents, mostBranchEvents, grainOk, wordRefusal}
 use Rattle.model.specs.Guards.{isMet, failingPosition}
@@ -30,7 +31,10 @@ use Rattle.model.specs.Files.{readRule, ruleBytes}
 use Rattle.model.specs.Layout.{edgeNeed, headOf, noHead, edgeTable, ruleIn, ruleRefusal}
 use Rattle.model.specs.Tables.{Tables, tables, tablesOf, builtOf, noBuilt, tableRefusal}
 use Rattle.model.specs.Walks.{shapeRefusal, verdict, startAt, step, tableAccepts, followRefusal}
-use Rattle.model.specs.Lists.{After, listOf, wordAfter, listedOf, eventsIn, listRefusal}
+use Rattle.model.specs.Lists.{After, listOf, wordAfter, listedOf, eventsIn, listRefusal, listGrain, symbolsOf}
+use Rattle.model.specs.Lists.{stampsOf}
+use Rattle.model.specs.Inclusion.{stampsFit, Included, Only-first, Some-only-first, None-below}
+use Rattle.model.specs.Inclusion.{inclusionRefusal, wordRoom}
 
 -- the refusal with its place and value 0, or the value
 abbrev pub answerOf : Refusal → ℕ → Answer
@@ -269,3 +273,42 @@ nextGiven size word = nextOf (listRefusal size word) (wordAfter (eventsIn word) 
 
 pub record GivesNext (size : Size) (word : Listed) (answer : Next) : Type 0 where
   pub answer-is : answer ≡ nextGiven size word
+
+-- check_inclusion (2.10): 25, 35, 36 leave all lent memory as it was; else the scratch ends as zero, and so does the
+-- word room past the word shown, all of it on yes and after 37.
+abbrev pub inclusion : Refusal → Bool → ℕ → Inclusion
+inclusion f is-included n = record { number = f .number; place = f .place; included = is-included; events = n }
+
+-- The three ways in which a search ends: yes; a word that only the first accepts, as short as any; 37, the shortest
+-- being longer than 4,096 events or than the room. Which of several shortest words is shown is the one free part.
+pub data Searched (t u : Tables) (symbols symbols′ stamps stamps′ : List ℕ) (answer : Inclusion) : Type 0 where
+  holds :
+      answer ≡ inclusion fine true 0 → Included t u → symbols′ ≡ zeros (length symbols)
+      → stamps′ ≡ zeros (length stamps)
+      → Searched t u symbols symbols′ stamps stamps′ answer
+  shown :
+      (free : List Event) → answer ≡ inclusion fine false (length free) → length free ≤ wordRoom symbols stamps
+      → stampsFit free ≡ true
+      → Only-first t u listGrain free
+      → None-below (length free) t u
+      → symbols′ ≡ filled (length symbols) (symbolsOf free)
+      → stamps′ ≡ filled (length stamps) (stampsOf free)
+      → Searched t u symbols symbols′ stamps stamps′ answer
+  too-long :
+      answer ≡ inclusion (refusal 37 0) false 0 → Some-only-first t u
+      → None-below (suc (wordRoom symbols stamps)) t u
+      → symbols′ ≡ zeros (length symbols)
+      → stamps′ ≡ zeros (length stamps)
+      → Searched t u symbols symbols′ stamps stamps′ answer
+
+pub record ChecksInclusion
+    (t u : Tables) (scratch scratch′ symbols symbols′ stamps stamps′ : List ℕ) (answer : Inclusion)
+    : Type 0 where
+  pub refused :
+      passes (inclusionRefusal t u (length scratch)) ≡ false
+      → (answer ≡ inclusion (inclusionRefusal t u (length scratch)) false 0) × (scratch′ ≡ scratch)
+      × (symbols′ ≡ symbols)
+      × (stamps′ ≡ stamps)
+  pub searched :
+      passes (inclusionRefusal t u (length scratch)) ≡ true
+      → (scratch′ ≡ zeros (length scratch)) × Searched t u symbols symbols′ stamps stamps′ answer

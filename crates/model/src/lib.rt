@@ -42,6 +42,9 @@ pub const MOST_SECONDS: usize = 30;
 
 pub const LIST_GRAIN: usize = 2;
 
+// The joint states of two tables that may be searched.
+pub const MOST_JOINT_STATES: usize = 1000000;
+
 // Bytes of a file: of a number, of body length and kind, of the bodies of sizes, an edge's four fields, an atom and the
 // longest edge.
 pub const NUMBER_BYTES: usize = 2;
@@ -235,4 +238,13 @@ pub struct Next {
     pub place: usize,
     pub last: bool,
     pub word: Listed,
+}
+
+// Does the first table allow only what the second allows? If not, a word of so many `events` stands in the lent room.
+#[repr(C)]
+pub struct Inclusion {
+    pub number: u8,
+    pub place: usize,
+    pub included: bool,
+    pub events: usize,
 }

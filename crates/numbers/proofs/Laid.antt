@@ -61,7 +61,7 @@ laid-store was cells cells′ at n u cell v is-n h e f w =
     let g : at + length u < length was = rw (← is-n) h in
     w ∙ (rw (e, f, is-n) (laid-set was at u (omega arith) v g))
 
-drop-zeros : (m k : ℕ) → drop m (zeros k) ≡ zeros (k - m)
+pub drop-zeros : (m k : ℕ) → drop m (zeros k) ≡ zeros (k - m)
 drop-zeros zero k = let e : k - 0 ≡ k = omega arith in rw e
 drop-zeros (suc m) zero = let e : 0 - suc m ≡ 0 = omega arith in rw e
 drop-zeros (suc m) (suc k) = let e : suc k - suc m ≡ k - m = omega arith in rw e (drop-zeros m k)
