@@ -36,6 +36,11 @@
  *   26  more configurations than room after event i; place: i, 0 before the first event
  *   27  output shorter than the file to be written
  *   34  follower with row not below R, reset stamp above last stamp or no multiple of D, or count over 4,096
+ *   35  two tables with unequal S
+ *   36  more joint states, R * W of one table times R * W of the other, than 1,000,000 or than the scratch has
+ *       numbers
+ *   37  the shortest word to be shown has more than 4,096 events or than the word room, the lesser of its two
+ *       lengths
  *   38  size of a list of words with S outside 1 to 16, m over 6 or H over 30
  *   39  word that is not in the list: more than m events, a symbol not below S, a stamp above 2H or below the
  *       one before, an unused place that is not zero
@@ -69,9 +74,11 @@ extern "C" {
 /* The most events of a word, and of a word run by branch. */
 #define ALDERSKEIN_EVENTS 4096
 #define ALDERSKEIN_BRANCH_EVENTS 12
-/* The most events of a word of a list, and the D of its stamps: half seconds. */
+/* The most events of a word of a list, and the D of its stamps and of a word shown: half seconds. */
 #define ALDERSKEIN_LISTED_EVENTS 6
 #define ALDERSKEIN_LIST_GRAIN 2
+/* The most joint states of two tables that may be searched, and so the numbers of scratch that are enough. */
+#define ALDERSKEIN_JOINT_STATES 1000000
 /* The most rows of a table. */
 #define ALDERSKEIN_ROWS 4096
 /* The numbers of a row in the row table: start, length, verdict; and the row numbers of the most rows. */
@@ -183,6 +190,14 @@ typedef struct {
     bool last;              /* the word given was the last; false on a refusal */
     alderskein_listed word; /* the next word; the word given where that was the last, and on a refusal */
 } alderskein_next;
+
+/* Does the first table allow only what the second allows? */
+typedef struct {
+    uint8_t number;
+    size_t place;
+    bool included; /* yes; false on a refusal */
+    size_t events; /* of the word shown; 0 on yes and on a refusal */
+} alderskein_inclusion;
 
 /*
  * Checks that a head record and an edge table are what reading some accepted file leaves.
@@ -327,6 +342,25 @@ alderskein_answer alderskein_decide(const uint8_t *file, size_t file_length,
  * Refuses: 38, 39; then `last` is false and the word comes back as it was given.
  */
 alderskein_next alderskein_next_word(alderskein_size size, alderskein_listed word);
+
+/*
+ * Does the first table allow only what the second allows? Yes exactly if every word, of any number of events and
+ * any D, that the first accepts the second accepts. Else a word that only the first accepts stands at the front
+ * of symbols and stamps, D = 2, of the fewest events possible; which one of several is not fixed.
+ * The scratch needs R * (2 * cm + 2) of the first times R * (2 * cm + 2) of the second numbers.
+ * Refuses: 25 (first table, then second), 35, 36, then 37. At 25, 35 and 36 scratch and word room are untouched.
+ * Else the scratch ends as zero, and so does the word room past the word, all of it on yes and at 37.
+ */
+alderskein_inclusion alderskein_check_inclusion(alderskein_built first, const uint32_t *cells, size_t cells_length,
+                                                const uint32_t *rows, size_t rows_length,
+                                                const uint32_t *pool, size_t pool_length,
+                                                alderskein_built second,
+                                                const uint32_t *cells2, size_t cells2_length,
+                                                const uint32_t *rows2, size_t rows2_length,
+                                                const uint32_t *pool2, size_t pool2_length,
+                                                uint32_t *scratch, size_t scratch_length,
+                                                uint16_t *symbols, size_t symbols_length,
+                                                uint32_t *stamps, size_t stamps_length);
 
 #ifdef __cplusplus
 }

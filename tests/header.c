@@ -1,6 +1,6 @@
 /*
  * The records' sizes and places as the library has them; bindings/rust/tests/layout.rs has them too. Linked and run,
- * a few calls with records by value: says which ones fail, and then ends with 1.
+ * a few calls with records by value, and with lent tables: says which ones fail, and then ends with 1.
  */
 #include "alderskein.h"
 
@@ -24,6 +24,7 @@ SIZE(alderskein_moved, 24);
 SIZE(alderskein_size, 12);
 SIZE(alderskein_listed, 40);
 SIZE(alderskein_next, 64);
+SIZE(alderskein_inclusion, 32);
 PLACE(alderskein_head, ends, 16);
 PLACE(alderskein_head, count, 20);
 PLACE(alderskein_answer, place, 8);
@@ -50,6 +51,10 @@ PLACE(alderskein_next, number, 0);
 PLACE(alderskein_next, place, 8);
 PLACE(alderskein_next, last, 16);
 PLACE(alderskein_next, word, 20);
+PLACE(alderskein_inclusion, number, 0);
+PLACE(alderskein_inclusion, place, 8);
+PLACE(alderskein_inclusion, included, 16);
+PLACE(alderskein_inclusion, events, 24);
 _Static_assert(ALDERSKEIN_ROW_TABLE == ALDERSKEIN_ROW_NUMBERS * ALDERSKEIN_ROWS, "row table");
 _Static_assert(32 * ALDERSKEIN_BUILD_SCRATCH == 65536, "build scratch");
 
@@ -93,7 +98,8 @@ static const call calls[] = {
     {{16, 6, 30}, UNUSED_STAMP, 39, false, UNUSED_STAMP},
 };
 
-int main(void)
+/* The calls of alderskein_next_word; 1 if one fails. */
+static int next_words(void)
 {
     int status = 0;
     for (size_t i = 0; i < sizeof calls / sizeof *calls; ++i) {
@@ -106,4 +112,108 @@ int main(void)
         }
     }
     return status;
+}
+
+/* Tables of three rows and four intervals, with one row table and one pool. */
+typedef struct {
+    alderskein_built built;
+    uint32_t cells[24];
+} table;
+
+#define BACK_FROM_1 2, 2, 5, 2, 2, 2, 2, 2, 2, 2, 2, 2, 2, 2, 2, 2, 2, 2, 2, 2, 2, 2, 0, 0
+#define BACK_PAST_1 2, 2, 5, 2, 2, 2, 2, 2, 2, 2, 2, 2, 2, 2, 2, 2, 2, 2, 2, 2, 2, 2, 2, 0
+
+/* The worked case; a stricter one, not back at 1 s; one over one symbol; and one with no rows, out of shape. */
+static const table worked = {{2, 2, 1, 1, 1, 3, 2}, {BACK_FROM_1}};
+static const table stricter = {{2, 2, 1, 1, 1, 3, 2}, {BACK_PAST_1}};
+static const table one_symbol = {{2, 1, 1, 1, 1, 3, 2}, {BACK_FROM_1}};
+static const table no_rows = {{2, 2, 1, 1, 1, 0, 2}, {BACK_FROM_1}};
+static const uint32_t rows[9] = {0, 1, 1, 1, 0, 0, 1, 1, 0};
+static const uint32_t pool[2] = {0, 3};
+
+/* What the worked table accepts and the stricter one does not, in half seconds; no other word is as short. */
+static const uint16_t word_symbols[2] = {0, 1};
+static const uint32_t word_stamps[2] = {2, 4};
+
+/* The joint states of two of these tables. */
+#define JOINT (3 * 4 * 3 * 4)
+
+/* Lent rooms, each for more than a call is told of. */
+typedef struct {
+    uint32_t scratch[JOINT + 9];
+    uint32_t stamps[9];
+    uint16_t symbols[9];
+} lent;
+
+/* A call of alderskein_check_inclusion with scratch, symbols and stamps of these lengths, and its answer. */
+typedef struct {
+    const table *first, *second;
+    size_t scratch, symbols, stamps;
+    uint8_t number;
+    bool included;
+    size_t events;
+} question;
+
+static const question questions[] = {
+    {&worked, &worked, JOINT, 2, 2, 0, true, 0},
+    {&stricter, &worked, JOINT, 2, 2, 0, true, 0},
+    {&stricter, &worked, JOINT + 2, 0, 0, 0, true, 0},
+    {&worked, &stricter, JOINT, 2, 2, 0, false, 2},
+    {&worked, &stricter, JOINT + 2, 4, 3, 0, false, 2},
+    {&worked, &stricter, JOINT, 2, 9, 0, false, 2},
+    {&worked, &stricter, JOINT, 9, 2, 0, false, 2},
+    {&worked, &stricter, JOINT, 9, 1, 37, false, 0},
+    {&worked, &stricter, JOINT, 1, 9, 37, false, 0},
+    {&worked, &stricter, JOINT, 0, 0, 37, false, 0},
+    {&worked, &stricter, JOINT - 1, 0, 0, 36, false, 0},
+    {&stricter, &worked, JOINT - 1, 2, 2, 36, false, 0},
+    {&stricter, &worked, 0, 2, 2, 36, false, 0},
+    {&worked, &one_symbol, JOINT, 2, 2, 35, false, 0},
+    {&one_symbol, &worked, 0, 2, 2, 35, false, 0},
+    {&one_symbol, &one_symbol, JOINT, 2, 2, 0, true, 0},
+    {&no_rows, &worked, JOINT, 2, 2, 25, false, 0},
+    {&worked, &no_rows, JOINT, 2, 2, 25, false, 0},
+    {&one_symbol, &no_rows, 0, 0, 0, 25, false, 0},
+};
+
+/* What the rooms hold after a call: where the tables are searched, zeros and the word at the front. */
+static void leave(const question *asked, lent *rooms)
+{
+    if (asked->number != 0 && asked->number != 37)
+        return;
+    memset(rooms->scratch, 0, asked->scratch * sizeof *rooms->scratch);
+    memset(rooms->symbols, 0, asked->symbols * sizeof *rooms->symbols);
+    memset(rooms->stamps, 0, asked->stamps * sizeof *rooms->stamps);
+    memcpy(rooms->symbols, word_symbols, asked->events * sizeof *word_symbols);
+    memcpy(rooms->stamps, word_stamps, asked->events * sizeof *word_stamps);
+}
+
+/* The calls of alderskein_check_inclusion; 1 if one fails. */
+static int inclusions(void)
+{
+    int status = 0;
+    for (size_t i = 0; i < sizeof questions / sizeof *questions; ++i) {
+        const question *asked = &questions[i];
+        const table *first = asked->first, *second = asked->second;
+        lent rooms, expected;
+        memset(&rooms, 7, sizeof rooms);
+        memset(&expected, 7, sizeof expected);
+        leave(asked, &expected);
+        alderskein_inclusion inclusion = alderskein_check_inclusion(
+            first->built, first->cells, 24, rows, 9, pool, 2, second->built, second->cells, 24, rows, 9, pool, 2,
+            rooms.scratch, asked->scratch, rooms.symbols, asked->symbols, rooms.stamps, asked->stamps);
+        if (inclusion.number != asked->number || inclusion.place != 0 || inclusion.included != asked->included ||
+            inclusion.events != asked->events || memcmp(&rooms, &expected, sizeof rooms) != 0) {
+            printf("call %zu of alderskein_check_inclusion: number %u, place %zu, included %d, events %zu\n", i,
+                   inclusion.number, inclusion.place, inclusion.included, inclusion.events);
+            status = 1;
+        }
+    }
+    return status;
+}
+
+int main(void)
+{
+    int failed = next_words();
+    return inclusions() | failed;
 }

@@ -2,7 +2,8 @@
 // Records cross by value, a lent table as pointer and length, the follower kept in place as one pointer.
 ghost use Rattle.model.specs.Promises.{ChecksRule, ChecksWord, ChecksTable, ReadsRule, WritesRule, BuildsTable};
 ghost use Rattle.model.specs.Promises.{RunsExact, RunsTable, StartsFollower, FollowsEvent, FollowsInPlace, Decides};
-ghost use Rattle.model.specs.Promises.{GivesNext};
+ghost use Rattle.model.specs.Tables.{tables};
+ghost use Rattle.model.specs.Promises.{GivesNext, ChecksInclusion};
 ghost use Rattle.head_library.specs.Lent.{RunsBranchesInto};
 use model::Answer;
 use model::Building;
@@ -10,6 +11,7 @@ use model::Built;
 use model::Followed;
 use model::Follower;
 use model::Head;
+use model::Inclusion;
 use model::Listed;
 use model::MOST_BRANCH_EVENTS;
 use model::Moved;
@@ -244,4 +246,39 @@ pub extern "C" fn alderskein_next_word(size: Size, word: Listed) -> Next
     ensures { λ r. ⌜ GivesNext size word r ⌝ }
 {
     lists::next_word(size, word)
+}
+
+#[no_mangle]
+pub extern "C" fn alderskein_check_inclusion(
+    first: Built,
+    cells: &[u32],
+    rows: &[u32],
+    pool: &[u32],
+    second: Built,
+    cells2: &[u32],
+    rows2: &[u32],
+    pool2: &[u32],
+    scratch: &mut [u32],
+    symbols: &mut [u16],
+    stamps: &mut [u32],
+) -> Inclusion
+    ensures { λ r.
+        ⌜ ChecksInclusion (tables first (now (cells .entry)) (now (rows .entry)) (now (pool .entry)))
+        (tables second (now (cells2 .entry)) (now (rows2 .entry)) (now (pool2 .entry))) (now (scratch .entry))
+        (now (scratch .exit)) (now (symbols .entry)) (now (symbols .exit)) (now (stamps .entry))
+        (now (stamps .exit)) r ⌝ }
+{
+    inclusion::check_inclusion(
+        first,
+        cells,
+        rows,
+        pool,
+        second,
+        cells2,
+        rows2,
+        pool2,
+        scratch,
+        symbols,
+        stamps,
+    )
 }
