@@ -6,7 +6,7 @@
 //! and turns its answers into [`Result`]s with a [`Refusal`].
 //!
 //! ```
-//! use alderskein::{Room, Rule, Size, Stamp, Word, Words};
+//! use alderskein::{Allows, Room, Rule, Size, Stamp, Word, Words};
 //!
 //! // The worked case: 0 to 1 on symbol 0 at age 1 with reset, 1 to 0 on symbol 1 at age at least 1.
 //! let file = [
@@ -29,6 +29,13 @@
 //! let size = Size { symbols: 2, events: 2, seconds: 3 };
 //! let accepted = Words::up_to(size)?.filter(|&word| table.run(&word.into()) == Ok(true));
 //! assert_eq!(accepted.count(), 4);
+//!
+//! // A stricter rule, back at age above 1, allows only what this one allows; not the other way round.
+//! let mut stricter = file;
+//! stricter[54] = 4;
+//! let stricter = Rule::read(&stricter)?.build(Room::default())?;
+//! assert_eq!(stricter.allows_only(&table)?, Allows::Only);
+//! assert_eq!(table.allows_only(&stricter)?, Allows::More(word));
 //! # Ok::<(), alderskein::Refusal>(())
 //! ```
 //!
@@ -51,5 +58,5 @@ pub use lists::{Words, LIST_GRAIN};
 pub use raw::{Listed, Size, Stamp};
 pub use refusal::{Cause, Refusal};
 pub use rule::{LeastRun, Rule, Run, EDGE_TABLE, LONGEST_FILE};
-pub use table::{decide, Cell, Room, Table, BUILD_SCRATCH, ROW_NUMBERS, ROW_TABLE};
-pub use word::Word;
+pub use table::{decide, Allows, Cell, Room, Table, BUILD_SCRATCH, JOINT_STATES, ROW_NUMBERS, ROW_TABLE};
+pub use word::{Word, EVENTS};

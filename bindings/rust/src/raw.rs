@@ -202,6 +202,20 @@ pub struct Next {
     pub word: Listed,
 }
 
+/// Does the first table allow only what the second allows?
+#[repr(C)]
+#[derive(Clone, Copy, Debug, Default, PartialEq, Eq)]
+pub struct Inclusion {
+    /// The refusal's number, 0 for none.
+    pub number: u8,
+    /// The refusal's place.
+    pub place: usize,
+    /// Yes; false on a refusal.
+    pub included: bool,
+    /// The count of events of the word shown, 0 on yes and on a refusal.
+    pub events: usize,
+}
+
 /// The C names. A lent table is a pointer and a count.
 mod c {
     use super::*;
@@ -261,6 +275,13 @@ mod c {
             symbols: *const u16, symbols_length: usize, stamps: *const u32, stamps_length: usize,
         ) -> Answer;
         pub fn alderskein_next_word(size: Size, word: Listed) -> Next;
+        pub fn alderskein_check_inclusion(
+            first: Built, cells: *const u32, cells_length: usize, rows: *const u32, rows_length: usize,
+            pool: *const u32, pool_length: usize, second: Built, cells2: *const u32, cells2_length: usize,
+            rows2: *const u32, rows2_length: usize, pool2: *const u32, pool2_length: usize,
+            scratch: *mut u32, scratch_length: usize, symbols: *mut u16, symbols_length: usize,
+            stamps: *mut u32, stamps_length: usize,
+        ) -> Inclusion;
     }
 }
 
@@ -454,4 +475,31 @@ pub fn decide(
 #[inline]
 pub fn next_word(size: Size, word: Listed) -> Next {
     unsafe { c::alderskein_next_word(size, word) }
+}
+
+/// Does the first table allow only what the second allows? Else a shortest word that only the first accepts, D
+/// being 2, at the front of `symbols` and `stamps`: 25 (first, then second), 35, 36, 37.
+#[rustfmt::skip]
+#[inline]
+pub fn check_inclusion(
+    first: Built,
+    cells: &[u32],
+    rows: &[u32],
+    pool: &[u32],
+    second: Built,
+    cells2: &[u32],
+    rows2: &[u32],
+    pool2: &[u32],
+    scratch: &mut [u32],
+    symbols: &mut [u16],
+    stamps: &mut [u32],
+) -> Inclusion {
+    unsafe {
+        c::alderskein_check_inclusion(
+            first, cells.as_ptr(), cells.len(), rows.as_ptr(), rows.len(), pool.as_ptr(), pool.len(),
+            second, cells2.as_ptr(), cells2.len(), rows2.as_ptr(), rows2.len(), pool2.as_ptr(), pool2.len(),
+            scratch.as_mut_ptr(), scratch.len(), symbols.as_mut_ptr(), symbols.len(),
+            stamps.as_mut_ptr(), stamps.len(),
+        )
+    }
 }

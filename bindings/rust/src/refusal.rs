@@ -5,7 +5,7 @@ use std::fmt;
 /// Why a call was refused.
 #[derive(Clone, Copy, Debug, PartialEq, Eq, Hash)]
 pub struct Refusal {
-    /// 1 to 8, 20 to 27, 30 to 34, 38 or 39.
+    /// 1 to 8, 20 to 27 or 30 to 39.
     pub number: u8,
     /// A byte of the file (1 to 8), an event from 1 (26, 32, 33), or 0.
     pub place: usize,
@@ -16,7 +16,7 @@ pub struct Refusal {
 pub enum Cause {
     /// The author of the rule file: 1 to 8.
     Author,
-    /// The caller: 20 to 27, 34, 38, 39.
+    /// The caller: 20 to 27, 34 to 39.
     Caller,
     /// The sender of the word: 30 to 33.
     Sender,
@@ -64,6 +64,9 @@ impl Refusal {
             32 => "symbol outside its range",
             33 => "stamp below the one before",
             34 => "follower out of shape",
+            35 => "two tables with unequal counts of symbols",
+            36 => "more joint states of two tables than 1,000,000 or than the scratch has numbers",
+            37 => "the shortest word to be shown has more events than 4,096 or than its room",
             38 => "symbols, events or seconds of a list outside their range",
             39 => "word that is not in the list",
             _ => "unknown number",

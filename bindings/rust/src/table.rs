@@ -1,7 +1,7 @@
 //! Tables: built, checked, looked into and run.
 
 use crate::raw::{self, Built, Head};
-use crate::{Follower, Refusal, Word, EDGE_TABLE};
+use crate::{Follower, Refusal, Word, EDGE_TABLE, EVENTS};
 
 /// How many numbers a row takes in the row table: start and length in the pool, verdict.
 pub const ROW_NUMBERS: usize = 3;
@@ -9,6 +9,11 @@ pub const ROW_NUMBERS: usize = 3;
 pub const ROW_TABLE: usize = 12_288;
 /// The numbers of build scratch that are enough for every rule: one bit for each of at most 65,536 codes.
 pub const BUILD_SCRATCH: usize = 2_048;
+/// The most joint states of two tables that are searched: R · W of the one times R · W of the other.
+pub const JOINT_STATES: usize = 1_000_000;
+
+/// D of a word that is shown: its stamps are in half seconds.
+const SHOWN_GRAIN: u32 = 2;
 
 /// How many numbers a builder is lent. They are allocated as asked; without memory for them the program
 /// ends, as with every `Vec`.
@@ -52,6 +57,16 @@ pub struct Cell {
     pub next: u32,
     /// Whether the timer is reset.
     pub resets: bool,
+}
+
+/// Whether a table allows only what another one allows.
+#[derive(Clone, Debug, PartialEq, Eq)]
+pub enum Allows {
+    /// Only that: every word that the first accepts the second accepts, of any number of events and any D.
+    Only,
+    /// More: a word that the first accepts and the second does not, with D = 2 and of the fewest events
+    /// possible. Which one of several is not fixed.
+    More(Word),
 }
 
 impl Table {
@@ -145,6 +160,46 @@ impl Table {
         let (grain, symbols, stamps) = (word.grain(), word.symbols(), word.stamps());
         let answer = raw::run_table(self.built, &self.cells, &self.rows, &self.pool, grain, symbols, stamps);
         Refusal::unless_none(answer.number, answer.place, answer.value == 1)
+    }
+
+    /// Whether this table allows only what the other one allows, or a word that only this one accepts: 35,
+    /// 36, 37.
+    ///
+    /// For tables as built this holds of the rules themselves: [`Allows::Only`] says that the field never
+    /// shows 0 by this rule where it is blank by the other. 35 and 36 leave that open. 37 does not: this table
+    /// allows more, but by words of more than [`EVENTS`] events alone.
+    ///
+    /// The scratch, one number for each joint state, is allocated for the call: at most [`JOINT_STATES`]
+    /// numbers. To lend it oneself, and a shorter room for the word, there is [`raw::check_inclusion`].
+    pub fn allows_only(&self, other: &Table) -> Result<Allows, Refusal> {
+        let states = self.state_count().saturating_mul(other.state_count());
+        let mut scratch = vec![0; states.min(JOINT_STATES)];
+        let (mut symbols, mut stamps) = (vec![0; EVENTS], vec![0; EVENTS]);
+        let ([cells, rows, pool], [cells2, rows2, pool2]) = (self.parts(), other.parts());
+        let inclusion = raw::check_inclusion(
+            self.built,
+            cells,
+            rows,
+            pool,
+            other.built,
+            cells2,
+            rows2,
+            pool2,
+            &mut scratch,
+            &mut symbols,
+            &mut stamps,
+        );
+        Refusal::unless_none(inclusion.number, inclusion.place, ())?;
+        Ok(if inclusion.included {
+            Allows::Only
+        } else {
+            Allows::More(Word::at_front(SHOWN_GRAIN, inclusion.events, symbols, stamps))
+        })
+    }
+
+    /// R · W: a row and an interval of the timer.
+    fn state_count(&self) -> usize {
+        self.row_count() * self.interval_count()
     }
 
     /// A follower over this table with this D, before the first event: 30.

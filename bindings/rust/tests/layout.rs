@@ -13,6 +13,7 @@ fn sizes() {
     assert_eq!([size_of::<Reading>(), size_of::<Building>()], [40, 48]);
     assert_eq!([size_of::<Started>(), size_of::<Followed>()], [40, 40]);
     assert_eq!([size_of::<Size>(), size_of::<Listed>(), size_of::<Next>()], [12, 40, 64]);
+    assert_eq!(size_of::<Inclusion>(), 32);
 }
 
 #[test]
@@ -30,4 +31,6 @@ fn places() {
     assert_eq!(listed, [0, 4, 16]);
     assert_eq!([offset_of!(Next, number), offset_of!(Next, place)], [0, 8]);
     assert_eq!([offset_of!(Next, last), offset_of!(Next, word)], [16, 20]);
+    assert_eq!([offset_of!(Inclusion, number), offset_of!(Inclusion, place)], [0, 8]);
+    assert_eq!([offset_of!(Inclusion, included), offset_of!(Inclusion, events)], [16, 24]);
 }
