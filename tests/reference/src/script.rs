@@ -1,15 +1,18 @@
 //! The script protocol: one command per line in, one result line per command out.
 
 use crate::{
-    all_words, build_table, check_rule, check_table, check_word, count_words, decide, follow_event,
-    follow_event_in_place, list_table, next_word, read_rule, run_branches, run_exact, run_table,
-    start_follower, write_rule, Built, Follower, Head, Listed, Refusal, Size, MOST_LISTED_EVENTS,
+    all_words, build_table, check_inclusion, check_rule, check_table, check_word, count_words, decide,
+    follow_event, follow_event_in_place, list_table, next_word, read_rule, run_branches, run_exact,
+    run_table, start_follower, write_rule, Built, Follower, Head, Listed, Refusal, Size, MOST_LISTED_EVENTS,
 };
 use std::io::{self, BufRead, Write};
 use std::str::SplitAsciiWhitespace;
 
 /// The longest buffer or list a script may ask for; more is malformed.
 const MOST_NUMBERS: usize = 1 << 26;
+
+/// How many slots there are.
+const SLOTS: usize = 10;
 
 /// Runs a script: reads commands to the end and writes their result lines.
 pub fn run_script(mut input: impl BufRead, mut output: impl Write) -> io::Result<()> {
@@ -40,10 +43,20 @@ struct State {
     follower: Follower,
 }
 
+/// A built record and its tables, kept for later.
+#[derive(Clone)]
+struct Slot {
+    built: Built,
+    cells: Vec<u32>,
+    rows: Vec<u32>,
+    pool: Vec<u32>,
+}
+
 #[derive(Default)]
 struct Machine {
     state: State,
     saved: Option<State>,
+    slots: [Option<Slot>; SLOTS],
 }
 
 impl Machine {
@@ -76,6 +89,9 @@ impl Machine {
             "dump" => state.dump(fields),
             "save" => self.save(fields),
             "restore" => self.restore(fields),
+            "keep" => self.keep(fields),
+            "use" => self.use_slot(fields),
+            "include" => self.include(fields),
             _ => None,
         }?;
         Some(if rest.is_empty() { name.into() } else { format!("{name} {rest}") })
@@ -91,6 +107,64 @@ impl Machine {
         fields.end()?;
         self.state = self.saved.clone()?;
         Some(String::new())
+    }
+
+    fn keep(&mut self, mut fields: Fields) -> Option<String> {
+        let slot = self.slots.get_mut(fields.index()?)?;
+        fields.end()?;
+        let State { built, cells, rows, pool, .. } = &self.state;
+        let [cells, rows, pool] = [cells.clone(), rows.clone(), pool.clone()];
+        *slot = Some(Slot { built: *built, cells, rows, pool });
+        Some(String::new())
+    }
+
+    fn use_slot(&mut self, mut fields: Fields) -> Option<String> {
+        let Slot { built, cells, rows, pool } = self.slot(&mut fields)?.clone();
+        fields.end()?;
+        self.state = State { built, cells, rows, pool, ..std::mem::take(&mut self.state) };
+        Some(String::new())
+    }
+
+    fn include(&self, mut fields: Fields) -> Option<String> {
+        let [first, second] = [self.slot(&mut fields)?, self.slot(&mut fields)?];
+        let [scratch, symbols, stamps] = [fields.room()?, fields.room()?, fields.room()?];
+        let narrow_fill: u16 = fields.number()?;
+        fields.end()?;
+        let fill = u32::from(narrow_fill);
+        let [mut scratch, mut stamps] = [scratch.filled(fill)?, stamps.filled(fill)?];
+        let mut symbols = symbols.filled(narrow_fill)?;
+        let outcome = check_inclusion(
+            &first.built,
+            &first.cells,
+            &first.rows,
+            &first.pool,
+            &second.built,
+            &second.cells,
+            &second.rows,
+            &second.pool,
+            &mut scratch,
+            &mut symbols,
+            &mut stamps,
+        );
+        let events = outcome.map_or(0, |inclusion| inclusion.events);
+        let (shown_symbols, symbols) = symbols.split_at(events);
+        let (shown_stamps, stamps) = stamps.split_at(events);
+        let shown = outcome.map(|inclusion| {
+            let [symbols, stamps] = [numbers_text(shown_symbols), numbers_text(shown_stamps)];
+            format!("{} {events} {symbols} {stamps}", u8::from(inclusion.included))
+        });
+        Some(format!(
+            "{} scratch={} symbols={} stamps={}",
+            result_text(shown),
+            buffer_text(&scratch),
+            buffer_text(symbols),
+            buffer_text(stamps),
+        ))
+    }
+
+    /// The slot a field names, or nothing if there is none or it was never filled.
+    fn slot(&self, fields: &mut Fields) -> Option<&Slot> {
+        self.slots.get(fields.index()?)?.as_ref()
     }
 }
 
@@ -226,7 +300,7 @@ impl State {
 /// The commands over the state itself.
 impl State {
     fn poke(&mut self, mut fields: Fields) -> Option<String> {
-        let (what, index, value) = (fields.text()?, fields.number::<u32>()? as usize, fields.text()?);
+        let (what, index, value) = (fields.text()?, fields.index()?, fields.text()?);
         fields.end()?;
         let old = match what {
             "edges" => u32::from(replace(&mut self.edges, index, number(value)?)?),
@@ -374,6 +448,11 @@ impl<'a> Fields<'a> {
 
     fn number<T: TryFrom<u64>>(&mut self) -> Option<T> {
         number(self.text()?)
+    }
+
+    /// A place in a list.
+    fn index(&mut self) -> Option<usize> {
+        Some(self.number::<u32>()? as usize)
     }
 
     /// A length to be lent.

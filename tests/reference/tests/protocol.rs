@@ -193,6 +193,87 @@ fn decide_leaves_the_state() {
     assert!(answers[2].starts_with("state head=0,0,0,0,0,0 edges=0:"));
 }
 
+/// The whole case, and the same without a final location.
+#[test]
+fn the_example_of_inclusion() {
+    let script = format!(
+        "read {FILE} 7424 0\nbuild 12 24 9 2 0\nkeep 0\npoke built 4 0\npoke rows 2 0\nkeep 1\n\
+         include 0 1 144 3 3 9\ninclude 1 0 144 3 3 9"
+    );
+    let rooms = "scratch=144:36fe4d3f1c233d25 symbols=3:81d23fd7003c2305 stamps=3:81d23fd7003c2305";
+    let [empty_word, yes] = ["0 0 - -", "1 0 - -"].map(|answer| format!("include ok {answer} {rooms}"));
+    assert_eq!(answers(&script)[2..], ["keep", "poke 1", "poke 1", "keep", &empty_word, &yes]);
+}
+
+/// The words shown, the rooms past them, and every refusal of the call.
+#[test]
+fn inclusion_answers_in_its_form() {
+    let stricter = format!("{}0400{}", &FILE[..108], &FILE[112..]);
+    let script = format!(
+        "keep 0\nread {stricter} 7424 0\nbuild 12 24 9 2 0\nkeep 9\nuse 0\nresize cells 23 0\nkeep 1\n\
+         read {FILE} 7424 0\nbuild 12 24 9 2 0\nresize cells 0 0\nresize cells 4 0\nresize rows 3 0\n\
+         resize pool 1 0\npoke built 1 1\npoke built 5 1\npoke built 6 1\nkeep 2\ncheck_table\n\
+         include 0 9 144 4 3 7\ninclude 9 0 144 2 2 7\ninclude 0 9 144 1 2 7\ninclude 0 9 143 1 1 7\n\
+         include 0 2 0 1 1 7\ninclude 1 2 0 1 1 7\ninclude 2 1 0 1 1 7\nuse 9\ntable 2 0,1 2,4\nuse 0\n\
+         table 2 0,1 2,4"
+    );
+    let buffer = |name: &str, fill: u64, length: usize| {
+        let bytes = vec![fill; length].into_iter().flat_map(u64::to_le_bytes);
+        let hash = bytes.fold(0xcbf2_9ce4_8422_2325_u64, |hash, byte| {
+            (hash ^ u64::from(byte)).wrapping_mul(0x100_0000_01b3)
+        });
+        format!("{name}={length}:{hash:016x}")
+    };
+    let rooms = |fill, scratch, symbols, stamps| {
+        let [scratch, symbols] = [buffer("scratch", fill, scratch), buffer("symbols", fill, symbols)];
+        format!("{scratch} {symbols} {}", buffer("stamps", fill, stamps))
+    };
+    let expected = [
+        String::from("check_table ok"),
+        format!("include ok 0 2 0,1 2,4 {}", rooms(0, 144, 2, 1)),
+        format!("include ok 1 0 - - {}", rooms(0, 144, 2, 2)),
+        format!("include no 37 0 {}", rooms(0, 144, 1, 2)),
+        format!("include no 36 0 {}", rooms(7, 143, 1, 1)),
+        format!("include no 35 0 {}", rooms(7, 0, 1, 1)),
+        format!("include no 25 0 {}", rooms(7, 0, 1, 1)),
+        format!("include no 25 0 {}", rooms(7, 0, 1, 1)),
+        "use".into(),
+        "table ok 0".into(),
+        "use".into(),
+        "table ok 1".into(),
+    ];
+    let answers = after_build(&script);
+    assert_eq!(answers[answers.len() - expected.len()..], expected);
+}
+
+/// A slot holds a built record and its tables, and nothing else; it outlasts `restore`.
+#[test]
+fn slots_hold_what_was_kept() {
+    let script = "save\nkeep 3\npoke built 6 7\npoke cells 0 9\nresize rows 1 0\nresize pool 0 0\nstart 5\n\
+        poke head 5 1\ncheck_table\nkeep 4\nuse 3\ncheck_table\ncheck_rule\ndump follower\nrestore\n\
+        use 4\ndump built\ndump rows\ndump pool\ncheck_rule\nkeep 3\nuse 3\ncheck_table\nuse 5\nuse 3 3";
+    let expected = [
+        "check_table no 25 0",
+        "keep",
+        "use",
+        "check_table ok",
+        "check_rule no 21 0",
+        "dump 5,0,0,0,0",
+        "restore",
+        "use",
+        "dump 2,2,1,1,1,3,7",
+        "dump 0",
+        "dump -",
+        "check_rule ok",
+        "keep",
+        "use",
+        "check_table no 25 0",
+        "bad",
+        "bad",
+    ];
+    assert_eq!(after_build(script)[8..], expected);
+}
+
 #[test]
 fn malformed_commands_are_bad() {
     let lines = [
@@ -231,10 +312,24 @@ fn malformed_commands_are_bad() {
         "save 1",
         "check_rule 1",
         "decide - 1 1 1 1 1 65536 1 - -",
+        "keep",
+        "keep 10",
+        "keep -1",
+        "keep x",
+        "keep 0 0",
+        "use",
+        "use 0",
+        "use 10",
+        "include 0 0 1 1 1 1",
         "\u{0}",
     ];
     for line in lines {
         assert_eq!(answers(line), ["bad"], "{line}");
+    }
+    for fields in
+        ["0 0 1 1 1", "0 0 1 1 1 65536", "0 0 1 1 1 1 1", "0 1 1 1 1 1", "10 0 1 1 1 1", "0 0 67108865 1 1 1"]
+    {
+        assert_eq!(answers(&format!("keep 0\ninclude {fields}")), ["keep", "bad"], "{fields}");
     }
     let mut output = Vec::new();
     run_script(&b"\xff\xfe 1\n\n  \t\r\n#\xff\nstart 1\r\n"[..], &mut output).unwrap();
@@ -262,7 +357,7 @@ fn random_line(random: &mut Random, file: &[u8]) -> String {
     let small = random.below(12);
     let wild = random.pick(&[0, 1, 2, 3, 5, 40, 4096, 4097, 65_535, u32::MAX]);
     let what = random.pick(&["head", "built", "follower", "edges", "cells", "rows", "pool"]);
-    match random.below(14) {
+    match random.below(17) {
         0..4 => format!("poke {what} {small} {wild}"),
         4 => format!("resize {what} {} {wild}", random.pick(&[0, 1, 5, 7423, 7424, 7500])),
         5 => "check_rule".into(),
@@ -272,7 +367,10 @@ fn random_line(random: &mut Random, file: &[u8]) -> String {
         9 => format!("walk 0,1,1 {small},12,{wild}"),
         10 => format!("start {}", random.pick(&[1, 2, 1000])),
         11 => format!("build 900 {} 450 {} 1", small * 90, small * 20),
-        12 => {
+        12 => format!("keep {}", small % 3),
+        13 => format!("use {}", small % 3),
+        14 => format!("include {} {} 9000 {small} {small} 1", random.below(3), random.below(3)),
+        15 => {
             let mut file = file.to_vec();
             let place = random.below(file.len() as u64) as usize;
             file[place] = random.next() as u8;
