@@ -28,6 +28,17 @@ pub struct Room {
     pub pool: usize,
 }
 
+/// How many numbers an inclusion is lent.
+#[derive(Clone, Copy, Debug, PartialEq)]
+pub struct WordRoom {
+    /// For the scratch.
+    pub scratch: usize,
+    /// For the symbols of the word shown.
+    pub symbols: usize,
+    /// For its stamps.
+    pub stamps: usize,
+}
+
 /// A part of the state.
 #[derive(Clone, Copy, Debug, PartialEq)]
 pub enum What {
@@ -86,6 +97,9 @@ pub enum Call {
     Decide { file: Vec<u8>, edges: usize, room: Room, fill: u16, word: Word },
     Next { size: Size, word: Listed },
     Words { size: Size },
+    Keep { slot: usize },
+    Use { slot: usize },
+    Include { first: usize, second: usize, room: WordRoom, fill: u16 },
     Poke { what: What, index: usize, value: u32 },
     Resize { what: What, length: usize, fill: u32 },
     Save,
@@ -115,6 +129,9 @@ impl Call {
             Call::Decide { .. } => "decide",
             Call::Next { .. } => "next",
             Call::Words { .. } => "words",
+            Call::Keep { .. } => "keep",
+            Call::Use { .. } => "use",
+            Call::Include { .. } => "include",
             Call::Poke { .. } => "poke",
             Call::Resize { .. } => "resize",
             Call::Save => "save",
@@ -150,6 +167,8 @@ impl fmt::Display for Call {
             }
             Call::Next { size, word } => write!(f, " {} {}", size_text(size), listed_text(word)),
             Call::Words { size } => write!(f, " {}", size_text(size)),
+            Call::Keep { slot } | Call::Use { slot } => write!(f, " {slot}"),
+            Call::Include { first, second, room, fill } => write!(f, " {first} {second} {room} {fill}"),
             Call::Poke { what, index, value } => write!(f, " {} {index} {value}", what.name()),
             Call::Resize { what, length, fill } => write!(f, " {} {length} {fill}", what.name()),
             Call::Dump { what } => write!(f, " {}", what.name()),
@@ -167,6 +186,12 @@ impl fmt::Display for Word {
 impl fmt::Display for Room {
     fn fmt(&self, f: &mut fmt::Formatter) -> fmt::Result {
         write!(f, "{} {} {} {}", self.scratch, self.cells, self.rows, self.pool)
+    }
+}
+
+impl fmt::Display for WordRoom {
+    fn fmt(&self, f: &mut fmt::Formatter) -> fmt::Result {
+        write!(f, "{} {} {}", self.scratch, self.symbols, self.stamps)
     }
 }
 

@@ -3,8 +3,8 @@
 use crate::all_words::MOST_WORDS;
 use crate::Word;
 use alderskein::raw::{
-    Answer, BranchAnswer, Building, Built, Followed, Follower, Head, Listed, Moved, Next, Reading, Size,
-    Started,
+    Answer, BranchAnswer, Building, Built, Followed, Follower, Head, Inclusion, Listed, Moved, Next, Reading,
+    Size, Started,
 };
 
 /// A head record and an edge table.
@@ -34,6 +34,14 @@ pub struct Tables<'a> {
     pub pool: &'a mut [u32],
 }
 
+/// What an inclusion is lent: a scratch, and the room of the word that it shows.
+#[allow(missing_docs)]
+pub struct Rooms<'a> {
+    pub scratch: &'a mut [u32],
+    pub symbols: &'a mut [u16],
+    pub stamps: &'a mut [u32],
+}
+
 /// An event.
 #[allow(missing_docs)]
 #[derive(Clone, Copy)]
@@ -58,6 +66,7 @@ pub trait Engine {
     fn follow_event(follower: Follower, table: Table, event: Event) -> Followed;
     fn follow_in_place(follower: &mut Follower, table: Table, event: Event) -> Moved;
     fn decide(file: &[u8], edges: &mut [u16], lent: Tables, word: &Word) -> Answer;
+    fn check_inclusion(first: Table, second: Table, lent: Rooms) -> Inclusion;
     fn next_word(size: Size, word: Listed) -> Next;
     /// Visits a list's words by the next of each from the empty one on, and gives how many there were. A list that
     /// does not end is left.

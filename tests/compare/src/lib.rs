@@ -9,6 +9,7 @@
 mod all_words;
 mod call;
 mod engine;
+mod included;
 mod lent;
 mod library;
 mod lists;
@@ -18,12 +19,13 @@ mod reference;
 mod reply;
 
 pub use all_words::word_count;
-pub use call::{Call, Room, What, Word};
-pub use engine::{Engine, Event, Rule, Table, Tables};
+pub use call::{Call, Room, What, Word, WordRoom};
+pub use engine::{Engine, Event, Rooms, Rule, Table, Tables};
+pub use included::Included;
 pub use lent::Lent;
 pub use library::Library;
 pub use lists::Hashed;
-pub use machine::{Machine, State};
+pub use machine::{Kept, Machine, State, SLOTS};
 pub use reference::Reference;
 pub use reply::Reply;
 

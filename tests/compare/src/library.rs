@@ -1,10 +1,10 @@
 //! The verified library.
 
-use crate::engine::{Engine, Event, Rule, Table, Tables};
+use crate::engine::{Engine, Event, Rooms, Rule, Table, Tables};
 use crate::Word;
 use alderskein::raw::{
-    self, Answer, BranchAnswer, Building, Followed, Follower, Listed, Moved, Next, Reading, Size, Stamp,
-    Started,
+    self, Answer, BranchAnswer, Building, Followed, Follower, Inclusion, Listed, Moved, Next, Reading, Size,
+    Stamp, Started,
 };
 
 /// The verified library.
@@ -62,6 +62,14 @@ impl Engine for Library {
     fn decide(file: &[u8], edges: &mut [u16], lent: Tables, w: &Word) -> Answer {
         let Tables { scratch, cells, rows, pool } = lent;
         raw::decide(file, edges, scratch, cells, rows, pool, w.grain, &w.symbols, &w.stamps)
+    }
+
+    fn check_inclusion(t: Table, u: Table, lent: Rooms) -> Inclusion {
+        let Rooms { scratch, symbols, stamps } = lent;
+        let (first, second) = (t.built, u.built);
+        raw::check_inclusion(
+            first, t.cells, t.rows, t.pool, second, u.cells, u.rows, u.pool, scratch, symbols, stamps,
+        )
     }
 
     fn next_word(size: Size, word: Listed) -> Next {

@@ -3,7 +3,7 @@
 use crate::all_words::whole_list;
 use crate::engine::{Event, Rule, Table, Tables};
 use crate::lists::{buffer_text, listed_text, numbers_text};
-use crate::{Call, Engine, Lent, Reply, Room, What, Word};
+use crate::{Call, Engine, Included, Lent, Reply, Room, What, Word, WordRoom};
 use alderskein::raw::{Built, Followed, Follower, Head};
 use std::marker::PhantomData;
 
@@ -20,10 +20,24 @@ pub struct State {
     pub follower: Follower,
 }
 
-/// A state and a saved one, with the implementation that runs the commands.
+/// How many slots there are.
+pub const SLOTS: usize = 10;
+
+/// A built record and its tables, kept in a slot.
+#[allow(missing_docs)]
+#[derive(Clone, Debug, PartialEq)]
+pub struct Kept {
+    pub built: Built,
+    pub cells: Lent<u32>,
+    pub rows: Lent<u32>,
+    pub pool: Lent<u32>,
+}
+
+/// A state, a saved one and the slots, with the implementation that runs the commands.
 pub struct Machine<E> {
     state: State,
     saved: Option<State>,
+    slots: [Option<Kept>; SLOTS],
     engine: PhantomData<E>,
 }
 
@@ -39,12 +53,27 @@ impl<E: Engine> Default for Machine<E> {
 impl<E: Engine> Machine<E> {
     /// A machine with everything empty or zero.
     pub fn new() -> Self {
-        Machine { state: State::default(), saved: None, engine: PhantomData }
+        Machine { state: State::default(), saved: None, slots: [const { None }; SLOTS], engine: PhantomData }
     }
 
     /// The state.
     pub fn state(&self) -> &State {
         &self.state
+    }
+
+    /// The slots.
+    pub fn slots(&self) -> &[Option<Kept>; SLOTS] {
+        &self.slots
+    }
+
+    /// What a slot holds; nothing if there is no such slot, or nothing was kept in it.
+    pub fn kept(&self, slot: usize) -> Option<&Kept> {
+        self.slots.get(slot)?.as_ref()
+    }
+
+    /// Whether the guards of the buffers in the state and in the slots are as they were.
+    pub fn intact(&self) -> bool {
+        self.state.intact() && self.slots.iter().flatten().all(Kept::intact)
     }
 
     /// The result line of a script's line.
@@ -83,6 +112,9 @@ impl<E: Engine> Machine<E> {
             Call::Decide { file, edges, room, fill, word } => decide::<E>(file, *edges, *room, *fill, word)?,
             Call::Next { size, word } => Reply::Next(E::next_word(*size, *word)),
             Call::Words { size } => whole_list::<E>(*size)?,
+            Call::Keep { slot } => self.keep(*slot)?,
+            Call::Use { slot } => self.use_slot(*slot)?,
+            Call::Include { first, second, room, fill } => self.include(*first, *second, *room, *fill)?,
             Call::Poke { what, index, value } => Reply::Text(state.poke(*what, *index, *value)?.to_string()),
             Call::Resize { what, length, fill } => Reply::Text(state.resize(*what, *length, *fill)?),
             Call::Dump { what } => Reply::Text(state.dump(*what)),
@@ -98,6 +130,33 @@ impl<E: Engine> Machine<E> {
             self.state = self.saved.clone()?;
         }
         Some(Reply::Text(String::new()))
+    }
+
+    fn keep(&mut self, slot: usize) -> Run {
+        let State { built, cells, rows, pool, .. } = &self.state;
+        let (cells, rows, pool) = (cells.clone(), rows.clone(), pool.clone());
+        *self.slots.get_mut(slot)? = Some(Kept { built: *built, cells, rows, pool });
+        Some(Reply::Text(String::new()))
+    }
+
+    fn use_slot(&mut self, slot: usize) -> Run {
+        let Kept { built, cells, rows, pool } = self.kept(slot)?.clone();
+        self.state = State { built, cells, rows, pool, ..std::mem::take(&mut self.state) };
+        Some(Reply::Text(String::new()))
+    }
+
+    fn include(&self, first: usize, second: usize, room: WordRoom, fill: u16) -> Run {
+        let (first, second) = (self.kept(first)?.table(), self.kept(second)?.table());
+        Some(Reply::Included(Included::ask::<E>(first, second, room, fill)?))
+    }
+
+    /// Whether the word that the reply of a command shows, if it does, is one that only the first table accepts.
+    pub fn shows_rightly(&self, call: &Call, reply: &Reply) -> bool {
+        let (Call::Include { first, second, .. }, Reply::Included(included)) = (call, reply) else {
+            return true;
+        };
+        let tables = self.kept(*first).zip(self.kept(*second));
+        tables.is_some_and(|(first, second)| included.shows_rightly(first.table(), second.table()))
     }
 
     /// The result line of a command that was just run.
@@ -121,11 +180,23 @@ impl<E: Engine> Machine<E> {
             }
             Reply::Next(next) => listed_text(&next.word),
             Reply::Words(answer, hashed) if answer.number == 0 => hashed.to_string(),
+            Reply::Included(included) => included.rooms_text(),
             Reply::Text(text) => text.clone(),
             Reply::Words(..) | Reply::Checked(_) | Reply::Table(_) | Reply::Branch(..) => String::new(),
         };
         let parts = [call.name().into(), reply.front(), rest];
         parts.into_iter().filter(|part| !part.is_empty()).collect::<Vec<String>>().join(" ")
+    }
+}
+
+impl Kept {
+    /// As it is lent.
+    pub fn table(&self) -> Table<'_> {
+        Table { built: self.built, cells: &self.cells, rows: &self.rows, pool: &self.pool }
+    }
+
+    fn intact(&self) -> bool {
+        self.cells.intact() && self.rows.intact() && self.pool.intact()
     }
 }
 

@@ -1,7 +1,7 @@
 //! A script's line as a command.
 
 use crate::lists::{bytes, list, number, MOST_NUMBERS};
-use crate::{Call, Room, What, Word};
+use crate::{Call, Room, What, Word, WordRoom};
 use alderskein::raw::{Listed, Size};
 use std::str::{FromStr, SplitAsciiWhitespace};
 
@@ -42,6 +42,9 @@ impl Fields<'_> {
             "decide" => self.decide()?,
             "next" => Call::Next { size: self.size()?, word: self.listed()? },
             "words" => Call::Words { size: self.size()? },
+            "keep" => Call::Keep { slot: self.index()? },
+            "use" => Call::Use { slot: self.index()? },
+            "include" => self.include()?,
             "poke" => self.poke()?,
             "resize" => self.resize()?,
             "save" => Call::Save,
@@ -63,8 +66,15 @@ impl Fields<'_> {
         Some(Call::Decide { file, edges, room, fill: self.number()?, word: self.word()? })
     }
 
+    fn include(&mut self) -> Option<Call> {
+        let (first, second) = (self.index()?, self.index()?);
+        let (scratch, symbols, stamps) = (self.length()?, self.length()?, self.length()?);
+        let room = WordRoom { scratch, symbols, stamps };
+        Some(Call::Include { first, second, room, fill: self.number()? })
+    }
+
     fn poke(&mut self) -> Option<Call> {
-        let (what, index) = (self.what()?, self.number::<u32>()? as usize);
+        let (what, index) = (self.what()?, self.index()?);
         Some(Call::Poke { what, index, value: self.value_for(what)? })
     }
 
@@ -84,6 +94,11 @@ impl Fields<'_> {
 
     fn number<T: TryFrom<u64>>(&mut self) -> Option<T> {
         number(self.0.next()?)
+    }
+
+    /// A place, or a slot.
+    fn index(&mut self) -> Option<usize> {
+        Some(self.number::<u32>()? as usize)
     }
 
     fn length(&mut self) -> Option<usize> {

@@ -1,10 +1,10 @@
 //! The reference, its results put into the library's records.
 
-use crate::engine::{Engine, Event, Rule, Table, Tables};
+use crate::engine::{Engine, Event, Rooms, Rule, Table, Tables};
 use crate::Word;
 use alderskein::raw::{
-    Answer, BranchAnswer, Building, Built, Followed, Follower, Head, Listed, Moved, Next, Reading, Size,
-    Stamp, Started,
+    Answer, BranchAnswer, Building, Built, Followed, Follower, Head, Inclusion, Listed, Moved, Next, Reading,
+    Size, Stamp, Started,
 };
 use reference::Refusal;
 
@@ -88,6 +88,17 @@ impl Engine for Reference {
     fn decide(file: &[u8], edges: &mut [u16], lent: Tables, w: &Word) -> Answer {
         let Tables { scratch, cells, rows, pool } = lent;
         verdict(reference::decide(file, edges, scratch, cells, rows, pool, w.grain, &w.symbols, &w.stamps))
+    }
+
+    fn check_inclusion(t: Table, u: Table, lent: Rooms) -> Inclusion {
+        let Rooms { scratch, symbols, stamps } = lent;
+        let (first, second) = (&plain_built(t), &plain_built(u));
+        let outcome = reference::check_inclusion(
+            first, t.cells, t.rows, t.pool, second, u.cells, u.rows, u.pool, scratch, symbols, stamps,
+        );
+        let (number, place) = refusal(outcome);
+        let (included, events) = outcome.map_or((false, 0), |answer| (answer.included, answer.events));
+        Inclusion { number, place, included, events }
     }
 
     fn next_word(size: Size, word: Listed) -> Next {

@@ -1,7 +1,7 @@
 //! What a command answers, in full.
 
 use crate::lists::{buffer_text, numbers_text, Hashed};
-use crate::Lent;
+use crate::{Included, Lent};
 use alderskein::raw::{Answer, BranchAnswer, Building, Followed, Moved, Next, Reading, Started};
 
 /// Every part of an answer, with every buffer that was lent and is not kept in the state.
@@ -25,6 +25,7 @@ pub enum Reply {
     Next(Next),
     /// How many words there are, and all their numbers.
     Words(Answer, Hashed),
+    Included(Included),
     /// What a command over the state itself shows.
     Text(String),
     /// A malformed command.
@@ -38,6 +39,7 @@ impl Reply {
             Reply::Written(_, out) => out.intact(),
             Reply::Built(_, scratch) | Reply::Exact(_, scratch) => scratch.intact(),
             Reply::Decided(_, edges, tables) => edges.intact() && tables.iter().all(Lent::intact),
+            Reply::Included(included) => included.intact(),
             _ => true,
         }
     }
@@ -57,6 +59,7 @@ impl Reply {
             Reply::Walked(steps) => steps.last().map_or((0, 0), |last| (last.number, last.place)),
             Reply::Next(next) => (next.number, next.place),
             Reply::Words(answer, _) => (answer.number, answer.place),
+            Reply::Included(Included { answer, .. }) => (answer.number, answer.place),
             Reply::Text(_) | Reply::Bad => return None,
         })
     }
@@ -73,6 +76,7 @@ impl Reply {
             Reply::Followed(followed) => Some(followed.yes),
             Reply::Moved(moved) => Some(moved.yes),
             Reply::Walked(steps) => steps.last().map(|last| last.yes),
+            Reply::Included(included) => Some(included.answer.included),
             _ => None,
         }
     }
@@ -97,6 +101,7 @@ impl Reply {
                 format!("{found} {} {edges} {held}", branch.start)
             }
             Reply::Walked(_) => String::new(),
+            Reply::Included(included) => included.answer_text(),
             _ => self.verdict().map_or(String::new(), |yes| u8::from(yes).to_string()),
         }
     }

@@ -1,5 +1,6 @@
 //! What came up of the build scratch: its length about N / 32 numbers, and the bits that rows take in it.
 
+use crate::cover::those;
 use crate::rules::{code_count, scratch_for, top_in, NUMBER_BITS};
 use crate::size_counts::size_in;
 use alderskein::ROW_NUMBERS;
@@ -86,11 +87,6 @@ pub fn seen(call: &Call, reply: &Reply, state: &State) -> Vec<&'static str> {
 /// N of the state's rule, which is in order.
 fn codes_in(state: &State) -> usize {
     code_count(state.head.locations as u16, state.head.clocks as u16, top_in(state))
-}
-
-/// The names that came up.
-fn those<const M: usize>(names: [(&'static str, bool); M]) -> Vec<&'static str> {
-    names.into_iter().filter_map(|(name, came_up)| came_up.then_some(name)).collect()
 }
 
 /// A build with a scratch of this length, with every bit 1 or not, that ended in this number.

@@ -2,6 +2,7 @@
 
 use crate::bit_counts;
 use crate::ceiling::{ceilings, less_ceiling, CEILING_BYTES};
+use crate::inclusion_counts::{self, InclusionCounts};
 use crate::listed_counts::{self, ListedCounts};
 use crate::partners::{edge_at, lacks_partner, only_unpinned, WrongIn};
 use crate::pins::{from_both_sides, Sides};
@@ -11,12 +12,12 @@ use crate::size_counts::{SizeCounts, COUNTS};
 use crate::sizes::EVERY_SIZE;
 use alderskein::raw::{Answer, BranchAnswer, Built};
 use alderskein::ROW_NUMBERS;
-use protocol::{Call, Reply, State, What, Word};
+use protocol::{Call, Kept, Reply, State, What, Word, SLOTS};
 use std::collections::BTreeMap;
 use std::fmt;
 
 /// The refusals that each call can give.
-const REFUSALS: [(&str, &[u8]); 15] = [
+const REFUSALS: [(&str, &[u8]); 16] = [
     ("check_rule", &[20, 21]),
     ("read", &[20, 1, 2, 3, 4, 5, 6, 7, 8]),
     ("write", &[20, 21, 27]),
@@ -32,10 +33,11 @@ const REFUSALS: [(&str, &[u8]); 15] = [
     ("decide", &[20, 1, 2, 3, 4, 5, 6, 7, 8, 22, 23, 24, 30, 31, 32, 33]),
     ("next", &[38, 39]),
     ("words", &[38]),
+    ("include", &[25, 35, 36, 37]),
 ];
 
 /// The calls that answer yes or no.
-const RUNNERS: [&str; 6] = ["exact", "branch", "table", "follow", "follow_in_place", "decide"];
+const RUNNERS: [&str; 7] = ["exact", "branch", "table", "follow", "follow_in_place", "decide", "include"];
 
 /// The limits and corners that must come up.
 const LIMITS: [&str; 72] = [
@@ -133,6 +135,8 @@ pub struct Cover {
     sizes: SizeCounts,
     /// The walks from word to word.
     listed: ListedCounts,
+    /// What is kept in the slots.
+    inclusions: InclusionCounts,
 }
 
 impl Cover {
@@ -148,6 +152,7 @@ impl Cover {
                 .iter()
                 .chain(&COUNTS)
                 .chain(bit_counts::COUNTS.into_iter().chain(listed_counts::COUNTS).flatten())
+                .chain(inclusion_counts::COUNTS.into_iter().flatten())
                 .map(|&name| (name, 0))
                 .collect(),
             by_hand: false,
@@ -157,17 +162,20 @@ impl Cover {
             every_size: false,
             sizes: SizeCounts::default(),
             listed: ListedCounts::default(),
+            inclusions: InclusionCounts::default(),
         }
     }
 
     /// Begins a scene of this kind.
     pub fn begin(&mut self, kind: &str) {
         self.every_size = kind == EVERY_SIZE;
+        self.inclusions = InclusionCounts::default();
     }
 
-    /// Counts a command with its reply and the state after it.
-    pub fn count(&mut self, call: &Call, reply: &Reply, state: &State) {
+    /// Counts a command with its reply, and the state and the slots after it.
+    pub fn count(&mut self, call: &Call, reply: &Reply, state: &State, slots: &[Option<Kept>; SLOTS]) {
         self.count_sizes(call, reply, state);
+        self.count_slots(call, reply, slots);
         for name in [bit_counts::seen(call, reply, state), self.listed.seen(call, reply)].concat() {
             self.mark(name, true);
         }
@@ -202,6 +210,17 @@ impl Cover {
         let seen = if self.every_size { self.sizes.seen(call, reply, state) } else { Vec::new() };
         for (name, more) in seen {
             *self.limits.entry(name).or_default() += more;
+        }
+    }
+
+    fn count_slots(&mut self, call: &Call, reply: &Reply, slots: &[Option<Kept>; SLOTS]) {
+        match *call {
+            Call::Keep { slot } => self.inclusions.keep(slot, self.by_hand),
+            Call::Use { slot } => self.by_hand = self.inclusions.is_by_hand(slot),
+            _ => {}
+        }
+        for name in self.inclusions.seen(call, reply, slots) {
+            self.mark(name, true);
         }
     }
 
@@ -429,6 +448,11 @@ impl Cover {
         missing.extend(limits.map(|(name, _)| name.to_string()));
         missing
     }
+}
+
+/// The names that came up.
+pub fn those<const M: usize>(names: [(&'static str, bool); M]) -> Vec<&'static str> {
+    names.into_iter().filter_map(|(name, came_up)| came_up.then_some(name)).collect()
 }
 
 /// The lowest edge that leaves one of these locations on this symbol, with its number.

@@ -1,5 +1,6 @@
 //! What came up of lists of words: sizes out of range, words that are not in the list, and what follows the others.
 
+use crate::cover::those;
 use crate::listed::{last_stamp, LARGEST, LEAST, MOST_EVENTS, MOST_SECONDS, MOST_SYMBOLS};
 use alderskein::raw::{Listed, Next, Size, LISTED_EVENTS};
 use protocol::{word_count, Call, Reply};
@@ -127,11 +128,6 @@ impl ListedCounts {
             ("next: a whole list, word by word", whole && self.steps > 1),
         ])
     }
-}
-
-/// The names that came up.
-fn those<const M: usize>(names: [(&'static str, bool); M]) -> Vec<&'static str> {
-    names.into_iter().filter_map(|(name, came_up)| came_up.then_some(name)).collect()
 }
 
 fn seen_out_of_range(size: Size, word: &Listed) -> Vec<&'static str> {

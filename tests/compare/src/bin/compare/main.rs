@@ -12,6 +12,9 @@ mod climb;
 mod cover;
 mod damage;
 mod held;
+mod inclusion;
+mod inclusion_counts;
+mod inclusion_tables;
 mod limits;
 mod listed;
 mod listed_counts;
@@ -93,8 +96,8 @@ fn report(options: &Options, number: u64, kind: &str, difference: &Difference) {
         println!("{call}");
     }
     println!("state");
-    if difference.past {
-        println!("# The library wrote past the end of a lent buffer.");
+    if let Some(fault) = difference.fault {
+        println!("# {fault}");
     }
     println!("# library:   {}", difference.library);
     println!("# reference: {}", difference.reference);

@@ -27,6 +27,13 @@ impl Plain {
         self.built[1]
     }
 
+    /// As it is lent.
+    pub fn lent(&self) -> Table<'_> {
+        let [locations, symbols, clocks, top, ends, rows, total] = self.built;
+        let built = Built { locations, symbols, clocks, top, ends, rows, total };
+        Table { built, cells: &self.cells, rows: &self.rows, pool: &self.pool }
+    }
+
     /// N, or the largest number.
     pub fn code_count(&self) -> u32 {
         let codes = weight(&self.built).saturating_mul(self.built[0].into());

@@ -4,6 +4,7 @@ use crate::bits;
 use crate::ceiling;
 use crate::damage::{damaged_file, rubbish};
 use crate::held::held_back;
+use crate::inclusion;
 use crate::limits;
 use crate::listed;
 use crate::pins;
@@ -20,7 +21,7 @@ use protocol::{Call, Room, What, Word};
 type Kind = fn(&mut Scene);
 
 /// The common kinds with their weights.
-const COMMON: [(&str, usize, Kind); 16] = [
+const COMMON: [(&str, usize, Kind); 17] = [
     ("whole rules", 30, whole_rule),
     ("damaged files", 25, damaged),
     ("changed rules", 15, changed_rule),
@@ -37,15 +38,17 @@ const COMMON: [(&str, usize, Kind); 16] = [
     ("pins from both sides", 10, pins::both_sides),
     ("scratch in bits", 12, bits::near_32),
     ("lists of words", 12, listed::lists_of_words),
+    ("one in another", 24, inclusion::one_in_another),
 ];
 
 /// The costly kinds: one scene in so many, the first one early. Where two meet it is the upper one's turn, so that
 /// every size gets its own.
-const SELDOM: [(&str, u64, Kind); 5] = [
+const SELDOM: [(&str, u64, Kind); 6] = [
     (EVERY_SIZE, 29, sizes::every_size),
     ("wide rules", 23, wide_rule),
     ("long words", 151, long_words),
     ("largest rules", 67, limits::largest),
+    ("one in another, at limits", 101, inclusion::at_limits),
     ("many rows", 997, limits::many_rows),
 ];
 

@@ -10,11 +10,15 @@ pub struct Difference {
     /// What each answered.
     pub library: String,
     pub reference: String,
-    /// Whether the library wrote past a lent buffer.
-    pub past: bool,
+    /// What is wrong, if it is more than that they differ.
+    pub fault: Option<&'static str>,
 }
 
-/// Runs commands on both and compares every part of every answer and every buffer.
+const PAST: &str = "The library wrote past the end of a lent buffer.";
+const WRONG_WORD: &str = "A word shown is not one that only the first table accepts.";
+
+/// Runs commands on both and compares every part of every answer, save for words that are free, and every buffer. Words
+/// shown are run on both tables.
 pub fn run(calls: &[Call], cover: &mut Cover, trace: bool) -> Result<(), Box<Difference>> {
     let (mut library, mut reference) = (Machine::<Library>::new(), Machine::<Reference>::new());
     for (index, call) in calls.iter().enumerate() {
@@ -22,15 +26,18 @@ pub fn run(calls: &[Call], cover: &mut Cover, trace: bool) -> Result<(), Box<Dif
             println!("{call}");
         }
         let (ours, theirs) = (library.run(call), reference.run(call));
-        let same = ours == theirs && library.state() == reference.state();
-        let intact = ours.intact() && library.state().intact();
-        if !same || !intact {
+        let same =
+            ours == theirs && library.state() == reference.state() && library.slots() == reference.slots();
+        let intact = ours.intact() && library.intact();
+        let rightly = library.shows_rightly(call, &ours) && reference.shows_rightly(call, &theirs);
+        if !same || !intact || !rightly {
             let shown = [views(&library, call, &ours), views(&reference, call, &theirs)];
             let [library, reference] = first_unlike(shown);
             let script = calls[..=index].to_vec();
-            return Err(Box::new(Difference { script, library, reference, past: !intact }));
+            let fault = (!intact).then_some(PAST).or((!rightly).then_some(WRONG_WORD));
+            return Err(Box::new(Difference { script, library, reference, fault }));
         }
-        cover.count(call, &ours, library.state());
+        cover.count(call, &ours, library.state(), library.slots());
     }
     Ok(())
 }

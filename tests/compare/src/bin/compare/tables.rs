@@ -151,7 +151,7 @@ pub fn any_word(random: &mut Random, symbols: u32) -> Word {
 }
 
 /// Puts one number in, or makes one table shorter.
-fn change(scene: &mut Scene, plain: &mut Plain) {
+pub fn change(scene: &mut Scene, plain: &mut Plain) {
     let random = &mut *scene.random;
     let [.., row_count, total] = plain.built;
     let call = match random.below(10) {
