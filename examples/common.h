@@ -1,5 +1,5 @@
 /*
- * What the example programs share: the rule file read, numbers read, and what they end with.
+ * What the example programs share: the rule file read, and what they end with.
  *
  * They end with 0; with 1 where the library refuses, after a line `no NUMBER PLACE` on standard error; with 2
  * where the command line, the file or a line of the input cannot be read. PROGRAM is the program's name.
@@ -9,7 +9,6 @@
 
 #include "alderskein.h"
 
-#include <ctype.h>
 #include <errno.h>
 #include <stdio.h>
 #include <stdlib.h>
@@ -22,15 +21,32 @@ enum { REFUSED = 1, UNREADABLE = 2 };
 static uint8_t file[MOST_BYTES + 1];
 static uint16_t edges[ALDERSKEIN_EDGE_TABLE];
 
-/* Says who can mend it, and ends. */
+/* What a refusal is about: who can mend it, or what two rules are refused for. */
+static const char *cause_of(uint8_t number)
+{
+    if (number <= 8)
+        return "the rule file";
+    if (number >= 30 && number <= 33)
+        return "the events or D";
+    switch (number) {
+    case 35:
+        return "unequal counts of symbols";
+    case 36:
+        return "not answered: more than 1,000,000 joint states";
+    case 37:
+        return "the site rule allows more, by words of more than 4,096 events";
+    case 38:
+        return "M or H";
+    default:
+        return "the room of this program";
+    }
+}
+
+/* Says what it is about, and ends. */
 static void refuse(const char *name, uint8_t number, size_t place)
 {
-    const char *cause = number <= 8                    ? "the rule file"
-                        : number >= 30 && number <= 33 ? "the events or D"
-                        : number == 38                 ? "M or H"
-                                                       : "the room of this program";
     fprintf(stderr, PROGRAM ": %s: no %u %zu (%s; alderskein.h has the numbers)\n", name, number, place,
-            cause);
+            cause_of(number));
     exit(REFUSED);
 }
 
@@ -63,20 +79,6 @@ static alderskein_head read_rule(const char *name)
     if (reading.number != 0)
         refuse(name, reading.number, reading.place);
     return reading.head;
-}
-
-/* A decimal number up to `most` at the front of the text, which is moved past it. */
-static bool take_number(char **text, uint32_t most, uint32_t *number)
-{
-    uint64_t value = 0;
-    while (isblank((unsigned char)**text))
-        ++*text;
-    if (!isdigit((unsigned char)**text))
-        return false;
-    for (; isdigit((unsigned char)**text) && value <= most; ++*text)
-        value = 10 * value + (uint64_t)(**text - '0');
-    *number = (uint32_t)value;
-    return value <= most;
 }
 
 /* What the program ends with once all is read and printed. */

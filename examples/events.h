@@ -6,6 +6,7 @@
 #define EXAMPLES_EVENTS_H
 
 #include "common.h"
+#include "numbers.h"
 
 #define LINE 128
 

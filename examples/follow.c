@@ -10,13 +10,16 @@
 #include "events.h"
 #include "table.h"
 
-static void follow(alderskein_built built, alderskein_follower follower)
+static built_table table;
+
+static void follow(alderskein_follower follower)
 {
     uint16_t symbol;
     alderskein_stamp stamp;
     while (next_event(&symbol, &stamp.at)) {
         alderskein_moved moved = alderskein_follow_in_place(
-            &follower, built, cells, CELLS, rows, ALDERSKEIN_ROW_TABLE, pool, POOL, symbol, stamp);
+            &follower, table.built, table.cells, CELLS, table.rows, ALDERSKEIN_ROW_TABLE, table.pool, POOL,
+            symbol, stamp);
         if (moved.number != 0)
             refuse("event", moved.number, moved.place);
         puts(moved.yes ? "0" : "blank");
@@ -27,10 +30,10 @@ static void follow(alderskein_built built, alderskein_follower follower)
 int main(int count, char **words)
 {
     uint32_t grain = take_grain(count, words);
-    alderskein_built built = build(words[1]);
+    build(words[1], &table);
     alderskein_started started = alderskein_start_follower(grain);
     if (started.number != 0)
         refuse("D", started.number, started.place);
-    follow(built, started.follower);
+    follow(started.follower);
     return status();
 }

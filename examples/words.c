@@ -10,7 +10,10 @@
  * With S symbols the list has S^n times the binomial of 2H + n over n words of n events.
  */
 #define PROGRAM "words"
+#include "numbers.h"
 #include "table.h"
+
+static built_table table;
 
 /* A number of the command line, of decimal digits alone. */
 static bool take_plain(char *text, uint32_t *number)
@@ -19,11 +22,11 @@ static bool take_plain(char *text, uint32_t *number)
 }
 
 /* Whether the field shows 0 after the word. */
-static bool shows_0(alderskein_built built, const alderskein_listed *word)
+static bool shows_0(const alderskein_listed *word)
 {
     alderskein_answer answer = alderskein_run_table(
-        built, cells, CELLS, rows, ALDERSKEIN_ROW_TABLE, pool, POOL, ALDERSKEIN_LIST_GRAIN, word->symbols,
-        word->count, word->stamps, word->count);
+        table.built, table.cells, CELLS, table.rows, ALDERSKEIN_ROW_TABLE, table.pool, POOL,
+        ALDERSKEIN_LIST_GRAIN, word->symbols, word->count, word->stamps, word->count);
     if (answer.number != 0)
         refuse("word", answer.number, answer.place);
     return answer.value == 1;
@@ -40,7 +43,7 @@ static void print_word(bool zero, const alderskein_listed *word)
 }
 
 /* All words. The next one is asked for before a word is printed: a size that is refused prints none. */
-static void list(alderskein_built built, alderskein_size size)
+static void list(alderskein_size size)
 {
     alderskein_listed word = {0, {0}, {0}};
     unsigned long long count = 0, zeros = 0;
@@ -49,7 +52,7 @@ static void list(alderskein_built built, alderskein_size size)
         alderskein_next next = alderskein_next_word(size, word);
         if (next.number != 0)
             refuse("size", next.number, next.place);
-        bool zero = shows_0(built, &word);
+        bool zero = shows_0(&word);
         print_word(zero, &word);
         ++count;
         zeros += zero;
@@ -66,8 +69,8 @@ int main(int count, char **words)
         fprintf(stderr, "usage: " PROGRAM " RULE-FILE M H\n");
         return UNREADABLE;
     }
-    alderskein_built built = build(words[1]);
-    size.symbols = built.symbols;
-    list(built, size);
+    build(words[1], &table);
+    size.symbols = table.built.symbols;
+    list(size);
     return status();
 }
