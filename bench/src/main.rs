@@ -1,12 +1,16 @@
 //! Measures the verified library beside the reference: same machine, same run, same input, same room. Builds are also
-//! measured beside the fastest Rust, which makes the same table by hashed rows and bits in its own memory, and the next
-//! word of a list beside the same odometer in plain Rust.
+//! measured beside the fastest Rust, which makes the same table by hashed rows and bits in its own memory, the next
+//! word of a list beside the same odometer in plain Rust, and an inclusion beside the same search in plain Rust.
 //!
 //! Every line is the median of some samples with the lowest and the highest; they take turns, sample by
 //! sample. Lent tables are not cleared before a call: they hold what the call before left in them.
+//!
+//! `bench PART..` measures some parts alone.
 
 mod desk;
 mod fastest;
+mod inclusion;
+mod joint;
 mod odometer;
 mod rules;
 
@@ -22,13 +26,18 @@ const SAMPLES: usize = 11;
 /// How long a sample should take at least.
 const SAMPLE: Duration = Duration::from_millis(2);
 
+/// The parts, by name.
+const PARTS: [(&str, Part); 4] =
+    [("calls", calls), ("growth", growth), ("lists", lists), ("inclusion", inclusion::inclusions)];
+
 fn main() -> ExitCode {
-    if std::env::args_os().len() > 1 {
-        eprintln!("usage: bench");
+    let names: Vec<String> = std::env::args().skip(1).collect();
+    if names.iter().any(|name| !PARTS.iter().any(|(part, _)| part == name)) {
+        eprintln!("usage: bench [calls] [growth] [lists] [inclusion]");
         return ExitCode::from(2);
     }
-    let done = calls().and_then(|()| growth()).and_then(|()| lists());
-    match done {
+    let wanted = |part: &str| names.is_empty() || names.iter().any(|name| name == part);
+    match PARTS.iter().filter(|(part, _)| wanted(part)).try_for_each(|(_, measure)| measure()) {
         Ok(()) => ExitCode::SUCCESS,
         Err(fault) => {
             eprintln!("bench: {fault}");
@@ -39,6 +48,9 @@ fn main() -> ExitCode {
 
 /// Or why it ends early.
 type Done = Result<(), String>;
+
+/// Measures and prints its lines.
+type Part = fn() -> Done;
 
 /// Every call, on small and large rules.
 fn calls() -> Done {
@@ -196,7 +208,7 @@ fn run_fastest(desk: &mut Desk) {
 }
 
 /// How many calls make a sample long enough.
-fn rounds(desk: &mut Desk, run: impl Fn(&mut Desk) + Copy) -> u32 {
+fn rounds<T>(desk: &mut T, run: impl Fn(&mut T) + Copy) -> u32 {
     let mut rounds = 1;
     while rounds < 1 << 20 && sample(desk, run, rounds) * f64::from(rounds) < SAMPLE.as_secs_f64() {
         rounds *= 2;
@@ -205,7 +217,7 @@ fn rounds(desk: &mut Desk, run: impl Fn(&mut Desk) + Copy) -> u32 {
 }
 
 /// Seconds a call takes, over so many.
-fn sample(desk: &mut Desk, run: impl Fn(&mut Desk), rounds: u32) -> f64 {
+fn sample<T>(desk: &mut T, run: impl Fn(&mut T), rounds: u32) -> f64 {
     let begun = Instant::now();
     for _ in 0..rounds {
         run(desk);
