@@ -8,7 +8,7 @@ use Prim.Native.Nat.{ℕ, _+_, _-_, _≤_}
 use native.Mathlib.Omega.{arith}
 use lib.ListN.{length}
 use Rattle.model.specs.Basics.{pick}
-use Rattle.model.specs.Rules.{Edge, Rule, cm}
+use Rattle.model.specs.Rules.{Edge, Rule, guardOf, cm}
 use Rattle.model.specs.Words.{Event, eventsOf}
 use Rattle.model.specs.Runs.{older, zeroed, canTake, startAges, acceptsFrom, accepts}
 use Rattle.model.specs.Construction.{intervalOf, codeOf, locationOf, basesOf, startBases, startRow, allows}
@@ -17,6 +17,7 @@ use Rattle.model.specs.Demands.{Walk-agrees}
 use Rattle.model.proofs.Logic.{same-truth, In, Some}
 use Rattle.model.proofs.Valid.{Valid, valid-of, constant-below}
 use Rattle.model.proofs.Regions.{Whole, whole-at-even}
+use Rattle.model.proofs.Texts.{guard-atoms}
 use Rattle.model.proofs.Clocks.{TracksAll, tracked-guards, advance-all, zero-all, zeroed-none, older-all}
 use Rattle.model.proofs.Clocks.{zeros-track}
 use Rattle.model.proofs.Codes.{digits-length, code-bases, start-bases, location-back, bases-back}
@@ -55,9 +56,9 @@ module _ (r : Rule) (valid : Valid r) (d : ℕ) (hd : 1 ≤ d) where
       let n : length (basesOf r x) ≡ r .clocks = digits-length (code-bases r x) in
       rw (
         ← h .location-is,
-        tracked-guards (cm r) d t (basesOf r x) ages (e .atoms) hd (h .tracks)
-            (λ a i. rw n (valid .edges-in e j .atoms-in a i .clock-below))
-            (λ a i. constant-below r e a j i),
+        tracked-guards (cm r) d t (basesOf r x) ages (guardOf e) hd (h .tracks)
+            (λ a i. rw n (valid .edges-in e j .atoms-in a (guard-atoms e a i) .clock-below))
+            (λ a i. constant-below r e a j (guard-atoms e a i)),
       )
 
   -- time passes

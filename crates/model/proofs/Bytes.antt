@@ -10,8 +10,7 @@ use lib.ListN.{length, getD, drop}
 use lib.Seq.{getD-drop}
 use borrow.Author.Tests.{ltb-true, lt-ltb}
 use Rattle.model.specs.Basics.{allBelow}
-use Rattle.model.specs.Rules.{Atom}
-use Rattle.model.specs.Files.{numberAt, two, numbers, atomNumbers}
+use Rattle.model.specs.Files.{numberAt, two, numbers, numbersOf}
 use Rattle.model.proofs.Logic.{and-left, and-right, and-both}
 
 -- a number as two bytes, and back
@@ -28,11 +27,6 @@ bytes-back a b p q =
 pub numbers-length : (vs : List ℕ) → length (numbers vs) ≡ 2 * length vs
 numbers-length [] = refl
 numbers-length (v ∷ vs) = omega (arith, numbers-length vs)
-
--- an atom is three numbers
-pub atom-numbers-length : (xs : List Atom) → length (atomNumbers xs) ≡ 3 * length xs
-atom-numbers-length [] = refl
-atom-numbers-length (a ∷ xs) = omega (arith, atom-numbers-length xs)
 
 pub numbers-append : (xs ys : List ℕ) → numbers (xs ++ ys) ≡ numbers xs ++ numbers ys
 numbers-append [] ys = refl
@@ -66,10 +60,14 @@ rest-written (v ∷ vs) rest (suc k) h =
     let e : 2 * suc k ≡ suc (suc (2 * k)) = omega arith in
     rw e (rest-written vs rest k (omega arith))
 
--- the first n numbers of a list of bytes
-abbrev pub numbersOf : ℕ → List ℕ → List ℕ
-numbersOf zero s = []
-numbersOf (suc n) s = numberAt 0 s ∷ numbersOf n (drop 2 s)
+pub numbers-of-length : (n : ℕ) (s : List ℕ) → length (numbersOf n s) ≡ n
+numbers-of-length zero s = refl
+numbers-of-length (suc n) s = ap suc (numbers-of-length n (drop 2 s))
+
+-- numbers that were written are read
+pub numbers-read : (vs rest : List ℕ) → numbersOf (length vs) (numbers vs ++ rest) ≡ vs
+numbers-read [] rest = refl
+numbers-read (v ∷ vs) rest = ap₂ (λ (x : ℕ) (l : List ℕ). x ∷ l) (two-back v) (numbers-read vs rest)
 
 -- bytes that were read as n numbers are these numbers, written
 pub all-below-drop : (m n : ℕ) (s : List ℕ) → allBelow m s ≡ true → allBelow m (drop n s) ≡ true

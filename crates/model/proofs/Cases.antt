@@ -26,19 +26,20 @@ zero-head = record { locations = 0; symbols = 0; clocks = 0; starts = 0; ends = 
 abbrev pub zero-built : Built
 zero-built = record { locations = 0; symbols = 0; clocks = 0; top = 0; ends = 0; rows = 0; total = 0 }
 
--- 2 edges of 29 numbers, and as many zeros as are asked for
+-- 2 edges of 86 numbers, and as many zeros as are asked for
 abbrev pub worked-head : Head
 worked-head = record { locations = 2; symbols = 2; clocks = 1; starts = 1; ends = 1; count = 2 }
 
 abbrev pub worked-edges : ℕ → List ℕ
 worked-edges unused =
-    (0 ∷ 1 ∷ 0 ∷ 1 ∷ 1 ∷ 0 ∷ 2 ∷ 1 ∷ replicate 21 0)
-    ++ ((1 ∷ 0 ∷ 1 ∷ 0 ∷ 1 ∷ 0 ∷ 3 ∷ 1 ∷ replicate 21 0) ++ replicate unused 0)
+    (5 ∷ 0 ∷ 1 ∷ 0 ∷ 1 ∷ 1 ∷ 0 ∷ 2 ∷ 1 ∷ replicate 77 0)
+    ++ ((5 ∷ 1 ∷ 0 ∷ 1 ∷ 0 ∷ 1 ∷ 0 ∷ 3 ∷ 1 ∷ replicate 77 0) ++ replicate unused 0)
 
 -- Location 0 forks: symbol 0 has two edges back to it, symbol 1 leads to 0 and to 1, symbol 2 leads back with the clock
 -- reset, at age 1, or as it is; from 1, symbol 1 leads to 1. Location 1 is final.
 unfoldable pub free-edge : ℕ → ℕ → ℕ → Edge
-free-edge source target symbol = record { source = source; target = target; symbol = symbol; resets = 0; atoms = [] }
+free-edge source target symbol =
+    record { kind = 5; source = source; target = target; symbol = symbol; resets = 0; text = [] }
 
 unfoldable pub forks : Rule
 forks =
@@ -48,18 +49,12 @@ forks =
     ∷ free-edge 0 0 1
     ∷ free-edge 0 1 1
     ∷ free-edge 1 1 1
-    ∷ record {
-      source = 0;
-      target = 0;
-      symbol = 2;
-      resets = 1;
-      atoms = record { clock = 0; relation = 2; constant = 1 } ∷ [];
-    }
+    ∷ record { kind = 5; source = 0; target = 0; symbol = 2; resets = 1; text = 0 ∷ 2 ∷ 1 ∷ [] }
     ∷ free-edge 0 0 2
     ∷ [])
 
 -- both pass 20 and 21; without a number of the table, or without the head record, the worked case does not
-pub worked-passes : ruleRefusal worked-head (worked-edges 7366) ≡ fine
+pub worked-passes : ruleRefusal worked-head (worked-edges 21844) ≡ fine
 unfolding maskOf bitsFrom cm pairCount validRule edgesNumbers edgeTable ruleIn isReadable ruleRefusal
 worked-passes = refl
 
@@ -67,22 +62,22 @@ worked-passes = refl
 unfoldable pub wide-head : Head
 wide-head = record { locations = 17; symbols = 2; clocks = 1; starts = 1; ends = 1; count = 2 }
 
-pub wide-passes : ruleRefusal wide-head (worked-edges 7366) ≡ fine
+pub wide-passes : ruleRefusal wide-head (worked-edges 21844) ≡ fine
 unfolding maskOf bitsFrom cm pairCount validRule edgesNumbers edgeTable ruleIn isReadable ruleRefusal wide-head
 wide-passes = refl
 
-pub forks-passes : ruleRefusal (headOf forks) (edgeTable 7424 forks) ≡ fine
+pub forks-passes : ruleRefusal (headOf forks) (edgeTable 22016 forks) ≡ fine
 unfolding maskOf bitsFrom cm pairCount validRule edgesNumbers edgeTable ruleIn isReadable ruleRefusal free-edge forks
 forks-passes = refl
 
-pub short-refused : ruleRefusal worked-head (worked-edges 7365) ≡ refusal 20 0
+pub short-refused : ruleRefusal worked-head (worked-edges 21843) ≡ refusal 20 0
 unfolding ruleRefusal
 short-refused = refl
 
-pub both-refused : ruleRefusal zero-head (worked-edges 7365) ≡ refusal 20 0
+pub both-refused : ruleRefusal zero-head (worked-edges 21843) ≡ refusal 20 0
 unfolding ruleRefusal
 both-refused = refl
 
-pub head-refused : ruleRefusal zero-head (worked-edges 7366) ≡ refusal 21 0
+pub head-refused : ruleRefusal zero-head (worked-edges 21844) ≡ refusal 21 0
 unfolding maskOf bitsFrom cm pairCount validRule edgesNumbers edgeTable ruleIn isReadable ruleRefusal
 head-refused = refl

@@ -10,12 +10,14 @@ use lib.Dec.{eqb, ltb, leb}
 use lib.ListN.{length, getD}
 use borrow.Author.Tests.{eqb-true, ltb-true, leb-true}
 use Rattle.model.specs.Basics.{pick, zeros, bit}
-use Rattle.model.specs.Rules.{Atom, isPinned}
+use Rattle.model.specs.Texts.{Atom, Members, outer}
+use Rattle.model.specs.Rules.{isPinned}
 use Rattle.model.specs.Guards.{meets, guard}
 use Rattle.model.specs.Runs.{older, zeroedFrom}
 use Rattle.model.specs.Construction.{intervalOf, regionOf, regionsOf, regionsHold, advanced}
-use Rattle.model.specs.Claims.{tracks, tracksAll, atomsWithin, Guards-agree}
+use Rattle.model.specs.Claims.{tracks, tracksAll, atomsWithin, atomsUpTo, Guards-agree}
 use Rattle.model.proofs.Logic.{no-way, by-test, and-left, and-right, In, here, there}
+use Rattle.model.proofs.Texts.{Within, within-atoms, outer-within}
 use Rattle.model.proofs.Guards.{same-tests}
 use Rattle.model.proofs.Pins.{pinned-reads}
 use Rattle.model.proofs.Regions.{Tracks, near, far, side, related-agrees, even-region, Whole, advance-one}
@@ -42,14 +44,14 @@ region-at c i (b ∷ bs) (suc k) h = region-at c i bs k (omega arith)
 
 -- a guard answers over ages what it answers over regions, its clocks and constants in their ranges
 pub tracked-guards :
-    (c d t : ℕ) (bs ages : List ℕ) (xs : List Atom) → 1 ≤ d → TracksAll c d t bs ages
-    → ((a : Atom) → In a xs → a .clock < length bs)
-    → ((a : Atom) → In a xs → a .constant ≤ c)
-    → guard d ages xs ≡ guard 2 (regionsOf c (intervalOf c d t) bs) xs
-tracked-guards c d t bs ages xs hd r clock-in constant-in =
-    same-tests 0 (meets d ages) (meets 2 (regionsOf c (intervalOf c d t) bs)) xs agree
+    (c d t : ℕ) (bs ages : List ℕ) (m : Members) → 1 ≤ d → TracksAll c d t bs ages
+    → ((a : Atom) → Within a m → a .clock < length bs)
+    → ((a : Atom) → Within a m → a .constant ≤ c)
+    → guard d ages m ≡ guard 2 (regionsOf c (intervalOf c d t) bs) m
+tracked-guards c d t bs ages m hd r clock-in constant-in =
+    same-tests 0 (meets d ages) (meets 2 (regionsOf c (intervalOf c d t) bs)) m agree
   where
-    agree : (a : Atom) → In a xs → meets d ages a ≡ meets 2 (regionsOf c (intervalOf c d t) bs) a
+    agree : (a : Atom) → Within a m → meets d ages a ≡ meets 2 (regionsOf c (intervalOf c d t) bs) a
     agree a i =
         let b : ℕ = getD bs (a .clock) 0 in
         let g : ℕ = getD ages (a .clock) 0 in
@@ -76,33 +78,37 @@ tracks-each c d t (b ∷ bs) (a ∷ ages) h =
     let rest : tracksAll c d t bs ages ≡ true = and-right (tracks c d t b a) (tracksAll c d t bs ages) h in
     more {b = b} {a = a} (tracks-one c d t b a one) (tracks-each c d t bs ages rest)
 
-atom-within :
-    (k c : ℕ) (xs : List Atom) → atomsWithin k c xs ≡ true → (a : Atom) → In a xs → (a .clock < k) × (a .constant ≤ c)
-atom-within k c (x ∷ xs) h a (here e) =
+atom-up-to :
+    (k c : ℕ) (xs : List Atom) → atomsUpTo k c xs ≡ true → (a : Atom) → In a xs → (a .clock < k) × (a .constant ≤ c)
+atom-up-to k c (x ∷ xs) h a (here e) =
     let both : (ltb (x .clock) k && leb (x .constant) c) ≡ true =
-    and-left (ltb (x .clock) k && leb (x .constant) c) (atomsWithin k c xs) h in
+    and-left (ltb (x .clock) k && leb (x .constant) c) (atomsUpTo k c xs) h in
     rw e (
       ltb-true (x .clock) k (and-left (ltb (x .clock) k) (leb (x .constant) c) both),
       leb-true (x .constant) c (and-right (ltb (x .clock) k) (leb (x .constant) c) both),
     )
-atom-within k c (x ∷ xs) h a (there i) =
-    atom-within k c xs (and-right (ltb (x .clock) k && leb (x .constant) c) (atomsWithin k c xs) h) a i
+atom-up-to k c (x ∷ xs) h a (there i) =
+    atom-up-to k c xs (and-right (ltb (x .clock) k && leb (x .constant) c) (atomsUpTo k c xs) h) a i
 
 pub guards-agree : Guards-agree
-guards-agree c d t bs ages xs hd r w =
-    tracked-guards c d t bs ages xs (leb-true 1 d hd) (tracks-each c d t bs ages r)
-    (λ a i. atom-within (length bs) c xs w a i .0) (λ a i. atom-within (length bs) c xs w a i .1)
+guards-agree c d t bs ages m hd r w =
+    tracked-guards c d t bs ages m (leb-true 1 d hd) (tracks-each c d t bs ages r) (λ a i. each a i .0)
+    (λ a i. each a i .1)
+  where
+    each : (a : Atom) → Within a m → (a .clock < length bs) × (a .constant ≤ c)
+    each a i = atom-up-to (length bs) c (atomsWithin m) w a (within-atoms m a i)
 
 -- a pinned guard holds at even intervals only: some clock's region is twice a constant
 pub even-guard :
-    (c i : ℕ) (bs : List ℕ) (xs : List Atom) → ((a : Atom) → In a xs → a .clock < length bs) → isPinned xs ≡ true
-    → regionsHold c i bs xs ≡ true
+    (c i : ℕ) (bs : List ℕ) (m : Members) → ((a : Atom) → Within a m → a .clock < length bs)
+    → isPinned (outer m) ≡ true
+    → regionsHold c i bs m ≡ true
     → i % 2 ≡ 0
-even-guard c i bs xs clock-in h m =
-    let p = pinned-reads 2 (regionsOf c i bs) xs m h in
+even-guard c i bs m clock-in h met =
+    let p = pinned-reads 2 (regionsOf c i bs) m met h in
     let a : Atom = p .member in
     let region-is : regionOf c (getD bs (a .clock) 0) i ≡ a .constant * 2 =
-    rw (region-at c i bs (a .clock) (clock-in a (p .is-in))) at (p .such) in
+    rw (region-at c i bs (a .clock) (clock-in a (outer-within m a (p .is-in)))) at (p .such) in
     even-region c (getD bs (a .clock) 0) i (a .constant) (omega (arith, region-is))
 
 -- a timer reset

@@ -1,20 +1,16 @@
--- The edge table by place: the edges and atoms from any number on, as a loop over the table meets them.
+-- The edge table by place: the edges from any number on, as a loop over the table meets them.
 use mathlib.Core.Path.{_≡_, refl, _∙_, ap}
 use mathlib.Core.List.{List, _∷_}
 use Prim.Native.Nat.{ℕ, zero, suc, _+_, _-_, _*_, _<_}
 use native.Mathlib.Omega.{arith}
 use lib.ListN.{length, getD, drop}
-use lib.Seq.{getD-drop, drop-drop}
+use lib.Seq.{drop-drop}
 use Rattle.model.specs.Runs.{noEdge}
-use Rattle.model.specs.Layout.{edgeWidth, atomsIn, edgeIn, edgesIn}
+use Rattle.model.specs.Layout.{edgeWidth, edgeIn, edgesIn}
 
 pub edges-length : (n : ℕ) (t : List ℕ) → length (edgesIn n t) ≡ n
 edges-length zero t = refl
 edges-length (suc n) t = ap suc (edges-length n (drop edgeWidth t))
-
-pub atoms-length : (n : ℕ) (t : List ℕ) → length (atomsIn n t) ≡ n
-atoms-length zero t = refl
-atoms-length (suc n) t = ap suc (atoms-length n (drop 3 t))
 
 -- the edges from number e on are edge e and those from e + 1 on
 pub edges-rest :
@@ -26,18 +22,6 @@ edges-rest n e t h =
     let a : n - e ≡ suc (n - (e + 1)) = omega arith in
     let b : edgeWidth * e + edgeWidth ≡ edgeWidth * (e + 1) = omega arith in
     rw (a, drop-drop edgeWidth (edgeWidth * e) t, b)
-
-pub atoms-rest :
-    (n j : ℕ) (t : List ℕ)
-    → j < n
-    → atomsIn (n - j) (drop (3 * j) t)
-    ≡ record { clock = getD t (3 * j) 0; relation = getD t (3 * j + 1) 0; constant = getD t (3 * j + 2) 0 }
-    ∷ atomsIn (n - (j + 1)) (drop (3 * (j + 1)) t)
-atoms-rest n j t h =
-    let a : n - j ≡ suc (n - (j + 1)) = omega arith in
-    let b : 3 * j + 3 ≡ 3 * (j + 1) = omega arith in
-    let z : 3 * j + 0 ≡ 3 * j = omega arith in
-    rw (a, drop-drop 3 (3 * j) t, b, getD-drop (3 * j) t 0 0, getD-drop (3 * j) t 1 0, getD-drop (3 * j) t 2 0, z)
 
 -- edge e of the table
 pub edge-at : (n e : ℕ) (t : List ℕ) → e < n → getD (edgesIn n t) e noEdge ≡ edgeIn (drop (edgeWidth * e) t)

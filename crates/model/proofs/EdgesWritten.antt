@@ -1,37 +1,31 @@
--- The edge table of a rule, read back: 29 numbers an edge, and the edges that they spell are the rule's.
+-- The edge table of a rule, read back: 86 numbers an edge, and the edges that they spell are the rule's.
 use mathlib.Core.Path.{_≡_, refl, sym, _∙_, ap, ap₂}
 use mathlib.Core.Bool.{true}
 use mathlib.Core.List.{List, [], _∷_, _++_, append-nil, append-assoc}
 use Prim.Native.Nat.{ℕ, suc, _-_, _*_, _≤_}
 use native.Mathlib.Omega.{arith}
 use lib.ListN.{length, length-append, length-replicate}
-use lib.Seq.{drop-at}
+use lib.Seq.{take-at, drop-at}
 use Rattle.model.specs.Basics.{zeros, filled}
-use Rattle.model.specs.Rules.{Atom, Edge, Rule, mostAtoms, edgesOk}
-use Rattle.model.specs.Files.{atomNumbers}
-use Rattle.model.specs.Layout.{edgeFields, edgeWidth, edgeNumbers, edgesNumbers, atomsIn, edgeIn, edgesIn}
-use Rattle.model.proofs.ValidParts.{first-edge, other-edges}
-use Rattle.model.proofs.Bytes.{atom-numbers-length}
+use Rattle.model.specs.Rules.{Edge, Rule, sized, edgesOk}
+use Rattle.model.specs.Layout.{edgeFields, edgeWidth, edgeNumbers, edgesNumbers, edgeIn, edgesIn}
+use Rattle.model.proofs.ValidParts.{first-edge, other-edges, sized-of}
 
 -- a lent table that begins with xs has the length that was lent
 pub filled-length : (n : ℕ) (xs : List ℕ) → length xs ≤ n → length (filled n xs) ≡ n
 filled-length n xs h =
     omega (arith, length-append xs (zeros (n - length xs)), length-replicate {A = ℕ} (n - length xs) 0)
 
-pub atoms-written : (xs : List Atom) (rest : List ℕ) → atomsIn (length xs) (atomNumbers xs ++ rest) ≡ xs
-atoms-written [] rest = refl
-atoms-written (a ∷ xs) rest = ap (λ (l : List Atom). a ∷ l) (atoms-written xs rest)
-
-pub edge-numbers-length : (e : Edge) → length (e .atoms) ≤ mostAtoms → length (edgeNumbers e) ≡ edgeWidth
+pub edge-numbers-length : (e : Edge) → sized e ≡ true → length (edgeNumbers e) ≡ edgeWidth
 edge-numbers-length e h =
-    let vs : List ℕ = atomNumbers (e .atoms) in
-    let few : length vs ≤ edgeWidth - edgeFields = omega (arith, atom-numbers-length (e .atoms)) in
-    omega (arith, filled-length (edgeWidth - edgeFields) vs few)
+    let few : length (e .text) ≤ edgeWidth - edgeFields = sized-of e h .length-most in
+    omega (arith, filled-length (edgeWidth - edgeFields) (e .text) few)
 
-pub edge-written : (e : Edge) (rest : List ℕ) → edgeIn (edgeNumbers e ++ rest) ≡ e
-edge-written e rest =
-    let z : List ℕ = zeros (edgeWidth - edgeFields - length (atomNumbers (e .atoms))) in
-    rw (append-assoc (atomNumbers (e .atoms)) z rest, atoms-written (e .atoms) (z ++ rest))
+pub edge-written : (e : Edge) (rest : List ℕ) → sized e ≡ true → edgeIn (edgeNumbers e ++ rest) ≡ e
+edge-written e rest h =
+    let z : List ℕ = zeros (edgeWidth - edgeFields - length (e .text)) in
+    let n : ℕ = length (e .text) in
+    rw (append-assoc (e .text) z rest, sized-of e h .counted, take-at (e .text) (z ++ rest) n refl)
 
 -- one edge more
 pub edges-numbers-last : (es : List Edge) (e : Edge) → edgesNumbers (es ++ (e ∷ [])) ≡ edgesNumbers es ++ edgeNumbers e
@@ -41,14 +35,14 @@ edges-numbers-last (f ∷ es) e =
     ap (λ (l : List ℕ). edgeNumbers f ++ l) (edges-numbers-last es e)
     ∙ sym (append-assoc (edgeNumbers f) (edgesNumbers es) (edgeNumbers e))
 
--- edges of at most eight atoms
+-- edges of a size that their kind has
 module _ (r : Rule) where
   pub edges-numbers-length :
       (es : List Edge) → edgesOk r es ≡ true → length (edgesNumbers es) ≡ edgeWidth * length es
   unfolding edgesNumbers
   edges-numbers-length [] h = refl
   edges-numbers-length (e ∷ es) h =
-      let one = edge-numbers-length e (first-edge r e es h .atoms-most) in
+      let one = edge-numbers-length e (first-edge r e es h .is-sized) in
       let more = edges-numbers-length es (other-edges r e es h) in
       omega (arith, length-append (edgeNumbers e) (edgesNumbers es))
 
@@ -58,8 +52,8 @@ module _ (r : Rule) where
   edges-written [] rest h = refl
   edges-written (e ∷ es) rest h =
       let after : List ℕ = edgesNumbers es ++ rest in
-      let long : length (edgeNumbers e) ≡ edgeWidth = edge-numbers-length e (first-edge r e es h .atoms-most) in
+      let long : length (edgeNumbers e) ≡ edgeWidth = edge-numbers-length e (first-edge r e es h .is-sized) in
       ap (λ (t : List ℕ). edgesIn (suc (length es)) t) (append-assoc (edgeNumbers e) (edgesNumbers es) rest)
-      ∙ ap₂ (λ (f : Edge) (fs : List Edge). f ∷ fs) (edge-written e after)
+      ∙ ap₂ (λ (f : Edge) (fs : List Edge). f ∷ fs) (edge-written e after (first-edge r e es h .is-sized))
       (ap (λ (t : List ℕ). edgesIn (length es) t) (drop-at (edgeNumbers e) after edgeWidth long)
       ∙ edges-written es rest (other-edges r e es h))

@@ -5,7 +5,7 @@ use mathlib.Core.Bool.{Bool, true, false}
 use mathlib.Core.List.{List, [], _∷_, _++_}
 use Prim.Native.Nat.{ℕ}
 use Rattle.model.specs.Basics.{maskOf, fine}
-use Rattle.model.specs.Rules.{Atom, Edge, Rule, rule, cm, pairCount}
+use Rattle.model.specs.Rules.{Edge, Rule, rule, cm, pairCount}
 use Rattle.model.specs.Words.{eventsOf}
 use Rattle.model.specs.Runs.{acceptsFrom, acceptsFromSome, accepts}
 use Rattle.model.specs.Files.{recordRefusal, withRecord, atEnd, readFrom, readRule, numbers, ceilingRecord}
@@ -29,11 +29,18 @@ unfoldable pub worked : Rule
 worked = readRule worked-file .rule-is
 
 -- P9's rule: edges 0 to 0 and 0 to 1, both on symbol 0 at age 1, the second alone resetting
-pub at-age-one : List Atom
-at-age-one = record { clock = 0; relation = 2; constant = 1 } ∷ []
+pub at-age-one : List ℕ
+at-age-one = 0 ∷ 2 ∷ 1 ∷ []
 
 pub edge-to : ℕ → ℕ → Edge
-edge-to target resets = record { source = 0; target = target; symbol = 0; resets = resets; atoms = at-age-one }
+edge-to target resets = record {
+  kind = 5;
+  source = 0;
+  target = target;
+  symbol = 0;
+  resets = resets;
+  text = at-age-one;
+}
 
 pub ninth : Rule
 ninth = rule 2 2 1 (0 ∷ []) (0 ∷ []) (edge-to 0 0 ∷ edge-to 1 1 ∷ [])
@@ -162,13 +169,13 @@ unfolding maskOf cm pairCount recordRefusal withRecord atEnd readFrom readRule
 sided-table-is = refl
 
 -- cm: the largest constant in any atom of any edge; 0 where there is none, and where 0 is the largest
-abbrev pub timeless : List Atom → Edge
-timeless atoms = record { source = 0; target = 0; symbol = 0; resets = 0; atoms = atoms }
+abbrev pub timeless : List ℕ → Edge
+timeless text = record { kind = 5; source = 0; target = 0; symbol = 0; resets = 0; text = text }
 
 pub tops-are :
     (cm worked ≡ 1) × (cm second ≡ 2) × (cm ninth ≡ 1) × (cm (rule 1 1 1 [] [] []) ≡ 0)
     × (cm (rule 1 1 1 [] [] (timeless [] ∷ [])) ≡ 0)
-    × (cm (rule 1 1 1 [] [] (timeless (record { clock = 0; relation = 3; constant = 0 } ∷ []) ∷ [])) ≡ 0)
+    × (cm (rule 1 1 1 [] [] (timeless (0 ∷ 3 ∷ 0 ∷ []) ∷ [])) ≡ 0)
 unfolding cm pairCount recordRefusal withRecord atEnd readFrom readRule worked-file worked second-locations
     second-records second-file second ninth edge-to at-age-one
 tops-are = (refl, refl, refl, refl, refl, refl)

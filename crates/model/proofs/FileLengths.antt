@@ -1,4 +1,4 @@
--- The length of a rule's file, part by part, and at most 15,754 bytes for a valid rule.
+-- The length of a rule's file, part by part, and at most 44,426 bytes for a valid rule.
 use mathlib.Core.Path.{_≡_, refl}
 use mathlib.Core.Bool.{true}
 use mathlib.Core.List.{List, [], _∷_, _++_}
@@ -9,19 +9,19 @@ use Rattle.model.specs.Rules.{Edge, Rule, rising, edgesOk}
 use Rattle.model.specs.Files.{locationRecords, edgeRecord, edgeRecords, fileWith, ruleBytes}
 use Rattle.model.proofs.Rising.{rising-least, rising-below, rising-rest}
 use Rattle.model.proofs.Valid.{sizes-of, Parts}
-use Rattle.model.proofs.ValidParts.{first-edge, other-edges}
+use Rattle.model.proofs.ValidParts.{first-edge, other-edges, sized-of}
 use Rattle.model.proofs.FileRead.{edge-record-length}
 
 pub locations-length : (kind : ℕ) (xs : List ℕ) → length (locationRecords kind xs) ≡ 6 * length xs
 locations-length kind [] = refl
 locations-length kind (x ∷ xs) = omega (arith, locations-length kind xs)
 
--- an edge's record has at most 60 bytes
-pub edges-length-most : (r : Rule) (es : List Edge) → edgesOk r es ≡ true → length (edgeRecords es) ≤ 60 * length es
+-- an edge's record has at most 172 bytes
+pub edges-length-most : (r : Rule) (es : List Edge) → edgesOk r es ≡ true → length (edgeRecords es) ≤ 172 * length es
 unfolding edgeRecords
 edges-length-most r [] h = omega arith
 edges-length-most r (e ∷ es) h =
-    let few = first-edge r e es h .atoms-most in
+    let few = sized-of e (first-edge r e es h .is-sized) .length-most in
     let rest = edges-length-most r es (other-edges r e es h) in
     omega (arith, length-append (edgeRecord e) (edgeRecords es), edge-record-length e)
 
@@ -47,7 +47,7 @@ file-length r =
     let f = length-append (locationRecords 3 (r .final)) edges-are in
     omega (arith, i, f, locations-length 2 (r .initial), locations-length 3 (r .final))
 
-pub file-length-most : (r : Rule) → Parts r → length (ruleBytes r) ≤ 15754
+pub file-length-most : (r : Rule) → Parts r → length (ruleBytes r) ≤ 44426
 file-length-most r v =
     let l : r .locations ≤ 32 = sizes-of (r .locations) (r .symbols) (r .clocks) (v .sizes) .locations-most in
     let i = rising-length (r .locations) (r .initial) (v .initial-rises) in

@@ -3,16 +3,18 @@
 use mathlib.Core.Path.{_≡_, refl, _∙_, ap}
 use mathlib.Core.Bool.{Bool, true, false, not}
 use mathlib.Core.List.{List, [], _∷_, _++_}
-use Prim.Native.Nat.{ℕ, _+_, _-_, _*_, _/_, _%_}
+use Prim.Native.Nat.{ℕ, _+_, _-_, _*_, _/_, _%_, _≤_}
 use native.Mathlib.Omega.{arith}
-use lib.Dec.{eqb}
+use lib.Dec.{eqb, leb}
 use lib.ListN.{length}
+use borrow.Author.Tests.{leb-true, ne-eqb}
 use Rattle.model.specs.Basics.{pick, isIn}
-use Rattle.model.specs.Rules.{Edge, Rule}
-use Rattle.model.specs.Files.{recordHead, numbers, sizesRecord, locationRecords, ceilingRecord, atomNumbers}
+use Rattle.model.specs.Rules.{Edge, Rule, kindsRise}
+use Rattle.model.specs.Files.{recordHead, numbers, sizesRecord, locationRecords, ceilingRecord}
 use Rattle.model.specs.Files.{edgeRecord, edgeRecords, fileWith, ruleBytes, ceilingBytes, lessPast, lessCeiling}
 use Rattle.model.specs.Files.{kindsPast, hasCeiling}
-use Rattle.model.proofs.Bytes.{two-back, numbers-length, atom-numbers-length}
+use Rattle.model.proofs.Logic.{and-left, and-right}
+use Rattle.model.proofs.Bytes.{two-back, numbers-length}
 
 -- the bytes left of a record, then the records after it
 less-left :
@@ -77,24 +79,36 @@ kinds-locations kind (x ∷ xs) rest h =
     ∙ rw h (kinds-locations kind xs rest h)
 
 abbrev edgeValues : Edge → List ℕ
-edgeValues e = e .source ∷ e .target ∷ e .symbol ∷ e .resets ∷ atomNumbers (e .atoms)
+edgeValues e = e .source ∷ e .target ∷ e .symbol ∷ e .resets ∷ e .text
 
-edge-size : (e : Edge) → 8 + 6 * length (e .atoms) ≡ 2 * length (edgeValues e)
-edge-size e = omega (arith, atom-numbers-length (e .atoms))
+edge-size : (e : Edge) → 8 + 2 * length (e .text) ≡ 2 * length (edgeValues e)
+edge-size e = omega arith
 
-less-edges : (es : List Edge) → lessCeiling (edgeRecords es) ≡ edgeRecords es
+-- no edge is a ceiling
+other-kind : (least : ℕ) (e : Edge) (es : List Edge) → 5 ≤ least → kindsRise least (e ∷ es) ≡ true → 5 ≤ e .kind
+other-kind least e es h rise =
+    omega (arith, leb-true least (e .kind) (and-left (leb least (e .kind)) (kindsRise (e .kind) es) rise))
+
+less-edges :
+    (least : ℕ) (es : List Edge) → 5 ≤ least → kindsRise least es ≡ true → lessCeiling (edgeRecords es) ≡ edgeRecords es
 unfolding lessPast edgeRecords
-less-edges [] = refl
-less-edges (e ∷ es) =
-    less-record (8 + 6 * length (e .atoms)) 5 (edgeValues e) (edgeRecords es) (edge-size e)
-    ∙ ap (λ (l : List ℕ). edgeRecord e ++ l) (less-edges es)
+less-edges least [] h rise = refl
+less-edges least (e ∷ es) h rise =
+    let high : 5 ≤ e .kind = other-kind least e es h rise in
+    less-record (8 + 2 * length (e .text)) (e .kind) (edgeValues e) (edgeRecords es) (edge-size e)
+    ∙ rw (ne-eqb (e .kind) 4 (omega arith))
+    (ap (λ (l : List ℕ). edgeRecord e ++ l)
+    (less-edges (e .kind) es high (and-right (leb least (e .kind)) (kindsRise (e .kind) es) rise)))
 
-kinds-edges : (es : List Edge) → hasCeiling (edgeRecords es) ≡ false
+kinds-edges :
+    (least : ℕ) (es : List Edge) → 5 ≤ least → kindsRise least es ≡ true → hasCeiling (edgeRecords es) ≡ false
 unfolding kindsPast edgeRecords
-kinds-edges [] = refl
-kinds-edges (e ∷ es) =
-    ap (isIn 4) (kinds-record (8 + 6 * length (e .atoms)) 5 (edgeValues e) (edgeRecords es) (edge-size e))
-    ∙ kinds-edges es
+kinds-edges least [] h rise = refl
+kinds-edges least (e ∷ es) h rise =
+    let high : 5 ≤ e .kind = other-kind least e es h rise in
+    ap (isIn 4) (kinds-record (8 + 2 * length (e .text)) (e .kind) (edgeValues e) (edgeRecords es) (edge-size e))
+    ∙ rw (ne-eqb 4 (e .kind) (omega arith))
+    (kinds-edges (e .kind) es high (and-right (leb least (e .kind)) (kindsRise (e .kind) es) rise))
 
 -- the file of a rule, with what stands between locations and edges
 module _ (between : List ℕ) (r : Rule) where
@@ -116,19 +130,19 @@ module _ (between : List ℕ) (r : Rule) where
       ap (isIn 4) (kinds-record 6 1 sizes _ refl)
       ∙ (kinds-locations 2 (r .initial) _ refl ∙ kinds-locations 3 (r .final) _ refl)
 
-pub less-plain : (r : Rule) → lessCeiling (ruleBytes r) ≡ ruleBytes r
+pub less-plain : (r : Rule) → kindsRise 5 (r .edges) ≡ true → lessCeiling (ruleBytes r) ≡ ruleBytes r
 unfolding ruleBytes
-less-plain r = less-file [] r (less-edges (r .edges))
+less-plain r rise = less-file [] r (less-edges 5 (r .edges) (omega arith) rise)
 
-pub less-ceiled : (c : ℕ) (r : Rule) → lessCeiling (ceilingBytes c r) ≡ ruleBytes r
+pub less-ceiled : (c : ℕ) (r : Rule) → kindsRise 5 (r .edges) ≡ true → lessCeiling (ceilingBytes c r) ≡ ruleBytes r
 unfolding ceilingBytes
-less-ceiled c r =
+less-ceiled c r rise =
     less-file (ceilingRecord c) r
-    (less-record 2 4 (c ∷ []) (edgeRecords (r .edges)) refl ∙ less-edges (r .edges))
+    (less-record 2 4 (c ∷ []) (edgeRecords (r .edges)) refl ∙ less-edges 5 (r .edges) (omega arith) rise)
 
-pub plain-has-none : (r : Rule) → hasCeiling (ruleBytes r) ≡ false
+pub plain-has-none : (r : Rule) → kindsRise 5 (r .edges) ≡ true → hasCeiling (ruleBytes r) ≡ false
 unfolding ruleBytes
-plain-has-none r = kinds-file [] r ∙ kinds-edges (r .edges)
+plain-has-none r rise = kinds-file [] r ∙ kinds-edges 5 (r .edges) (omega arith) rise
 
 pub ceiled-has-one : (c : ℕ) (r : Rule) → hasCeiling (ceilingBytes c r) ≡ true
 unfolding ceilingBytes

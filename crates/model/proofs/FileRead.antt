@@ -1,24 +1,28 @@
 -- The file of a valid rule, with or without a ceiling, is accepted and spells that rule: its records are read one after
 -- another, each a step.
 use mathlib.Core.Path.{_≡_, refl, _∙_, ap}
-use mathlib.Core.Bool.{true}
+use mathlib.Core.Bool.{true, _&&_}
 use mathlib.Core.List.{List, [], _∷_, _++_, append-nil}
-use Prim.Native.Nat.{ℕ, _+_, _-_, _*_, _/_, _≤_, _<_}
+use Prim.Native.Nat.{ℕ, _+_, _-_, _*_, _/_, _%_, _≤_, _<_}
 use native.Mathlib.Omega.{arith}
+use lib.Dec.{eqb, leb}
 use lib.ListN.{length, length-append}
 use lib.Seq.{append-snoc, drop-at}
-use borrow.Author.Tests.{leb-true}
-use Rattle.model.specs.Rules.{Atom, Edge, Rule, rule, pairCount, mostPairs, mostEdges, mostConstant, sizesOk}
-use Rattle.model.specs.Rules.{edgeOk, integerReset, rising, edgesOk, validRule}
-use Rattle.model.specs.Files.{numberAt, recordHead, atomsFrom, edgeFrom, pastLast, noRule, withInitial}
+use borrow.Author.Tests.{eqb-true, eq-eqb, leb-true}
+use Rattle.model.specs.Basics.{within}
+use Rattle.model.specs.Rules.{Edge, Rule, rule, pairCount, mostPairs, mostEdges, mostConstant, sizesOk}
+use Rattle.model.specs.Rules.{edgeOk, integerReset, rising, sized, edgesOk, kindsRise, validRule}
+use Rattle.model.specs.Files.{numberAt, recordHead, bodyOk, edgeFrom, pastLast, noRule, withInitial}
 use Rattle.model.specs.Files.{withFinal, withEdge, withRecord, Spelt, readRule, numbers, locationRecords}
-use Rattle.model.specs.Files.{ceilingRecord, atomNumbers, edgeRecord, edgeRecords, fileWith, ruleBytes}
+use Rattle.model.specs.Files.{ceilingRecord, edgeRecord, edgeRecords, fileWith, ruleBytes}
 use Rattle.model.specs.Files.{ceilingBytes}
 use Rattle.model.specs.Demands.{Read-back, Valid-is-spelt, Ceiling-is-dropped}
+use Rattle.model.proofs.Logic.{by-test, and-left, and-right, and-both, in-within}
 use Rattle.model.proofs.Rising.{rising-least, rising-below, rising-rest}
 use Rattle.model.proofs.Valid.{sizes-of, Parts, valid-parts, valid-pairs}
-use Rattle.model.proofs.ValidParts.{Edge-ok, first-edge, other-edges, same-sizes, past-last}
-use Rattle.model.proofs.Bytes.{two-back, numbers-length, atom-numbers-length}
+use Rattle.model.proofs.ValidParts.{Edge-ok, sized-of, first-edge, other-edges, same-sizes, past-last}
+use Rattle.model.proofs.Bytes.{two-back, numbers-length, numbers-read}
+use Rattle.model.proofs.FileSoFar.{with-edge}
 use Rattle.model.proofs.FileSteps.{readOn, read-all, read-ends}
 use Rattle.model.proofs.FileOutcomes.{spelt, end-fine}
 use Rattle.model.proofs.FileRecords.{sizes, initial, final, ceiling, edge}
@@ -29,56 +33,82 @@ abbrev pub Reads : ℕ → Rule → List ℕ → Rule → Type 0
 Reads most r s whole = (p last : ℕ) → last ≤ most → readOn p last r s ≡ spelt whole
 
 -- no bytes left
-end-reads : (r : Rule) → 1 ≤ r .locations → pairCount r ≤ mostPairs → Reads 5 r [] r
-end-reads r h q p last b = read-ends p last r [] refl ∙ end-fine p r h q
+end-reads :
+    (r : Rule) → 1 ≤ r .locations → pairCount r ≤ mostPairs → (p last : ℕ) → readOn p last r [] ≡ spelt r
+end-reads r h q p last = read-ends p last r [] refl ∙ end-fine p r h q
 
 -- an edge's body, read
-atoms-read : (xs : List Atom) (rest : List ℕ) → atomsFrom (length xs) (numbers (atomNumbers xs) ++ rest) ≡ xs
-atoms-read [] rest = refl
-atoms-read (a ∷ xs) rest =
-    rw (two-back (a .clock), two-back (a .relation), two-back (a .constant), atoms-read xs rest)
-
 abbrev edgeBytes : Edge → List ℕ → List ℕ
-edgeBytes e rest =
-    numbers (e .source ∷ e .target ∷ e .symbol ∷ e .resets ∷ atomNumbers (e .atoms)) ++ rest
+edgeBytes e rest = numbers (e .source ∷ e .target ∷ e .symbol ∷ e .resets ∷ e .text) ++ rest
 
-edge-read : (e : Edge) (rest : List ℕ) → edgeFrom (8 + 6 * length (e .atoms)) (edgeBytes e rest) ≡ e
+edge-read : (e : Edge) (rest : List ℕ) → edgeFrom (e .kind) (8 + 2 * length (e .text)) (edgeBytes e rest) ≡ e
 edge-read e rest =
-    let m : (8 + 6 * length (e .atoms) - 8) / 6 ≡ length (e .atoms) = omega arith in
-    let xs = atoms-read (e .atoms) rest in
-    rw (m, two-back (e .source), two-back (e .target), two-back (e .symbol), two-back (e .resets), xs)
+    let m : (8 + 2 * length (e .text) - 8) / 2 ≡ length (e .text) = omega arith in
+    rw (
+      m,
+      two-back (e .source),
+      two-back (e .target),
+      two-back (e .symbol),
+      two-back (e .resets),
+      numbers-read
+          (e .text) rest,
+    )
 
-pub edge-record-length : (e : Edge) → length (edgeRecord e) ≡ recordHead + (8 + 6 * length (e .atoms))
+pub edge-record-length : (e : Edge) → length (edgeRecord e) ≡ recordHead + (8 + 2 * length (e .text))
 edge-record-length e =
-    let n : ℕ = 8 + 6 * length (e .atoms) in
-    let vs : List ℕ = e .source ∷ e .target ∷ e .symbol ∷ e .resets ∷ atomNumbers (e .atoms) in
-    omega (arith, numbers-length (n ∷ 5 ∷ vs), atom-numbers-length (e .atoms))
+    let n : ℕ = 8 + 2 * length (e .text) in
+    let vs : List ℕ = e .source ∷ e .target ∷ e .symbol ∷ e .resets ∷ e .text in
+    omega (arith, numbers-length (n ∷ e .kind ∷ vs))
+
+-- a text of a size that its kind has makes a body of a length that its kind has
+body-from : (e : Edge) → sized e ≡ true → bodyOk (e .kind) (8 + 2 * length (e .text)) ≡ true
+body-from e h =
+    let n : ℕ = 8 + 2 * length (e .text) in
+    by-test (eqb (e .kind) 5)
+    (λ f.
+    let g : (leb (length (e .text)) 24 && eqb (length (e .text) % 3) 0) ≡ true = rw f at h in
+    let a = leb-true (length (e .text)) 24 (and-left (leb (length (e .text)) 24) (eqb (length (e .text) % 3) 0) g) in
+    let b =
+    eqb-true (length (e .text) % 3) 0 (and-right (leb (length (e .text)) 24) (eqb (length (e .text) % 3) 0) g) in
+    rw (eqb-true (e .kind) 5 f)
+    (and-both (within 8 56 n) (eqb ((n - 8) % 6) 0) (in-within 8 56 n (omega arith) (omega arith))
+    (eq-eqb ((n - 8) % 6) 0 (omega arith))))
+    (λ f.
+    let g : (eqb (e .kind) 6 && leb (length (e .text)) 80) ≡ true = rw f at h in
+    let a = leb-true (length (e .text)) 80 (and-right (eqb (e .kind) 6) (leb (length (e .text)) 80) g) in
+    rw (eqb-true (e .kind) 6 (and-left (eqb (e .kind) 6) (leb (length (e .text)) 80) g))
+    (and-both (within 8 168 n) (eqb (n % 2) 0) (in-within 8 168 n (omega arith) (omega arith))
+    (eq-eqb (n % 2) 0 (omega arith))))
 
 -- One record read of each kind.
 pub edge-step :
-    (p last : ℕ) (r : Rule) (e : Edge) (rest : List ℕ) → 1 ≤ r .locations → last ≤ 5 → length (r .edges) < mostEdges
+    (p last : ℕ) (r : Rule) (e : Edge) (rest : List ℕ) → 1 ≤ r .locations → last ≤ e .kind
+    → length (r .edges) < mostEdges
     → Edge-ok r e
     → readOn p last r (edgeRecord e ++ rest)
-    ≡ readOn (p + (recordHead + (8 + 6 * length (e .atoms)))) 5 (withEdge r e) rest
-unfolding withRecord
+    ≡ readOn (p + (recordHead + (8 + 2 * length (e .text)))) (e .kind) (withEdge r e) rest
 edge-step p last r e rest h b room ok =
-    let n : ℕ = 8 + 6 * length (e .atoms) in
-    let back : edgeFrom n (edgeBytes e rest) ≡ e = edge-read e rest in
+    let n : ℕ = 8 + 2 * length (e .text) in
+    let k : ℕ = e .kind in
+    let back : edgeFrom k n (edgeBytes e rest) ≡ e = edge-read e rest in
+    let fits = sized-of e (ok .is-sized) in
     let long : recordHead + n ≤ length (edgeRecord e ++ rest) =
     omega (arith, length-append (edgeRecord e) rest, edge-record-length e) in
-    read-record p last r (edgeRecord e ++ rest) 5 n (edgeBytes e rest) rest refl (two-back n) refl
+    read-record p last r (edgeRecord e ++ rest) k n (edgeBytes e rest) rest (two-back k) (two-back n) refl
     (drop-at (edgeRecord e) rest (recordHead + n) (edge-record-length e)) long
-    (edge refl (record {
+    (edge (fits .kind-least) (fits .kind-most) (record {
       length-least = omega arith;
-      length-most = omega (arith, ok .atoms-most);
-      whole-atoms = omega arith;
+      length-most = omega (arith, fits .length-most);
+      length-even = omega arith;
+      length-ok = body-from e (ok .is-sized);
       sizes-seen = h;
       no-fall = b;
       room = room;
       in-range = ap (edgeOk r) back ∙ ok .in-range;
       pinned = ap integerReset back ∙ ok .pinned;
     }))
-    ∙ ap (λ (f : Edge). readOn (p + (recordHead + n)) 5 (withEdge r f) rest) back
+    ∙ (ap (λ (q : Rule). readOn (p + (recordHead + n)) k q rest) (with-edge r k n (edgeBytes e rest) (fits .kind-least))
+    ∙ ap (λ (f : Edge). readOn (p + (recordHead + n)) k (withEdge r f) rest) back)
 
 pub ceiling-step :
     (p last : ℕ) (r : Rule) (c : ℕ) (rest : List ℕ) → 1 ≤ r .locations → last ≤ 3 → c ≤ mostConstant
@@ -137,22 +167,26 @@ sizes-step p last r l s k rest none ok =
 
 -- All records of a kind.
 edges-read :
-    (l s k : ℕ) (i f : List ℕ) (done todo : List Edge) (whole : Rule) → 1 ≤ l
+    (l s k : ℕ) (i f : List ℕ) (least : ℕ) (done todo : List Edge) (whole : Rule) → 1 ≤ l
     → length done + length todo ≤ mostEdges
     → edgesOk (rule l s k i f done) todo ≡ true
-    → Reads 5 (rule l s k i f (done ++ todo)) [] whole
-    → Reads 5 (rule l s k i f done) (edgeRecords todo) whole
+    → kindsRise least todo ≡ true
+    → ((p last : ℕ) → readOn p last (rule l s k i f (done ++ todo)) [] ≡ spelt whole)
+    → Reads least (rule l s k i f done) (edgeRecords todo) whole
 unfolding edgeRecords
-edges-read l s k i f done [] whole h most ok rest p last b = rw (append-nil done) at (rest p last b)
-edges-read l s k i f done (e ∷ todo) whole h most ok rest p last b =
-    edge-step p last (rule l s k i f done) e (edgeRecords todo) h b (omega arith)
+edges-read l s k i f least done [] whole h most ok rise rest p last b = rw (append-nil done) at (rest p last)
+edges-read l s k i f least done (e ∷ todo) whole h most ok rise rest p last b =
+    edge-step p last (rule l s k i f done) e (edgeRecords todo) h
+    (omega (arith, leb-true least (e .kind) (and-left (leb least (e .kind)) (kindsRise (e .kind) todo) rise)))
+    (omega arith)
     (first-edge (rule l s k i f done) e todo ok)
-    ∙ edges-read l s k i f (done ++ (e ∷ [])) todo whole h
+    ∙ edges-read l s k i f (e .kind) (done ++ (e ∷ [])) todo whole h
     (omega (arith, length-append done (e ∷ [])))
     (same-sizes (rule l s k i f (done ++ (e ∷ []))) (rule l s k i f done) todo refl refl refl
     ∙ other-edges (rule l s k i f done) e todo ok)
+    (and-right (leb least (e .kind)) (kindsRise (e .kind) todo) rise)
     (rw append-snoc rest)
-    (p + (recordHead + (8 + 6 * length (e .atoms)))) 5 (omega arith)
+    (p + (recordHead + (8 + 2 * length (e .text)))) (e .kind) (omega arith)
 
 finals-read :
     (l s k : ℕ) (i done todo rest : List ℕ) (whole : Rule) → 1 ≤ l → rising (pastLast done) l todo ≡ true
@@ -201,8 +235,9 @@ file-reads between r passed v few =
     ∙ initials-read l s k [] (r .initial) _ r h (v .initial-rises)
     (λ p last b. finals-read l s k (r .initial) [] (r .final) _ r h (v .final-rises)
     (passed
-    (edges-read l s k (r .initial) (r .final) [] (r .edges) r h (omega (arith, v .edges-most))
+    (edges-read l s k (r .initial) (r .final) 5 [] (r .edges) r h (omega (arith, v .edges-most))
     (same-sizes (no-edges-yet r) r (r .edges) refl refl refl ∙ v .edges-ok)
+    (v .kinds-rise)
     (end-reads r h few)))
     p last (omega arith))
     10 1 (omega arith)

@@ -10,10 +10,10 @@ use borrow.Author.Tests.{ltb-false, leb-true, leb-false, eqb-true, le-ltb, le-le
 use borrow.Author.Tests.{not-false}
 use Rattle.model.specs.Basics.{within}
 use Rattle.model.specs.Rules.{Edge, Rule, mostEdges, sizesOk, edgeOk, integerReset}
-use Rattle.model.specs.Files.{numberAt, edgeBody, bodyOk, edgeFrom, pastLast, seenSizes, outOfOrder, oneTooMany}
-use Rattle.model.specs.Files.{badSizes, outOfRange, notPinned}
-use Rattle.model.proofs.Logic.{by-test, and-left, and-right, and-both, neither-left, neither-right}
-use Rattle.model.proofs.Logic.{within-least, within-most, in-within}
+use Rattle.model.specs.Files.{numberAt, bodyOk, edgeFrom, pastLast, seenSizes, outOfOrder, oneTooMany}
+use Rattle.model.specs.Files.{groupedBody, isEdge, badSizes, outOfRange, notPinned}
+use Rattle.model.proofs.Logic.{by-test, and-left, and-right, neither-left, neither-right}
+use Rattle.model.proofs.Logic.{within-least, within-most}
 
 -- kind 1: the sizes, first
 pub record Sizes-allowed (r : Rule) (n : ℕ) (body : List ℕ) : Type 0 where
@@ -37,23 +37,24 @@ pub record Ceiling-allowed (last : ℕ) (r : Rule) (n : ℕ) (body : List ℕ) :
   pub none-yet : last ≡ 4 → ⊥
   pub in-range : numberAt 0 body ≤ 30
 
--- kind 5: an edge
-pub record Edge-allowed (last : ℕ) (r : Rule) (n : ℕ) (body : List ℕ) : Type 0 where
+-- kinds 5 and 6: an edge
+pub record Edge-allowed (last kind : ℕ) (r : Rule) (n : ℕ) (body : List ℕ) : Type 0 where
   pub length-least : 8 ≤ n
-  pub length-most : n ≤ 56
-  pub whole-atoms : (n - 8) % 6 ≡ 0
+  pub length-most : n ≤ 168
+  pub length-even : n % 2 ≡ 0
+  pub length-ok : bodyOk kind n ≡ true
   pub sizes-seen : 1 ≤ r .locations
-  pub no-fall : last ≤ 5
+  pub no-fall : last ≤ kind
   pub room : length (r .edges) < mostEdges
-  pub in-range : edgeOk r (edgeFrom n body) ≡ true
-  pub pinned : integerReset (edgeFrom n body) ≡ true
+  pub in-range : edgeOk r (edgeFrom kind n body) ≡ true
+  pub pinned : integerReset (edgeFrom kind n body) ≡ true
 
 pub data Allowed (last : ℕ) (r : Rule) (kind n : ℕ) (body : List ℕ) : Type 0 where
   sizes : kind ≡ 1 → Sizes-allowed r n body → Allowed last r kind n body
   initial : kind ≡ 2 → Location-allowed last 2 r (r .initial) n body → Allowed last r kind n body
   final : kind ≡ 3 → Location-allowed last 3 r (r .final) n body → Allowed last r kind n body
   ceiling : kind ≡ 4 → Ceiling-allowed last r n body → Allowed last r kind n body
-  edge : kind ≡ 5 → Edge-allowed last r n body → Allowed last r kind n body
+  edge : 5 ≤ kind → kind ≤ 6 → Edge-allowed last kind r n body → Allowed last r kind n body
 
 -- the tests of 2 to 7, passed
 pub record Passed (last : ℕ) (r : Rule) (kind n : ℕ) (body : List ℕ) : Type 0 where
@@ -64,20 +65,22 @@ pub record Passed (last : ℕ) (r : Rule) (kind n : ℕ) (body : List ℕ) : Typ
   pub in-range : outOfRange r kind n body ≡ false
   pub pinned : notPinned kind n body ≡ false
 
--- kinds other than 1 to 5 have no body length
+-- kinds other than 1 to 6 have no body length
 pub data Kind (kind : ℕ) : Type 0 where
   first : kind ≡ 1 → Kind kind
   second : kind ≡ 2 → Kind kind
   third : kind ≡ 3 → Kind kind
   fourth : kind ≡ 4 → Kind kind
   fifth : kind ≡ 5 → Kind kind
+  sixth : kind ≡ 6 → Kind kind
 
 kind-is : (kind n : ℕ) → bodyOk kind n ≡ true → Kind kind
 kind-is kind n h =
     by-test (eqb kind 1) (λ a. first (eqb-true kind 1 a))
     (λ a. by-test (within 2 4 kind)
     (λ b. middle (within-least 2 4 kind b) (within-most 2 4 kind b))
-    (λ b. fifth (eqb-true kind 5 (and-left (eqb kind 5) (edgeBody n) (rw (a, b) at h)))))
+    (λ b. by-test (eqb kind 5) (λ c. fifth (eqb-true kind 5 c))
+    (λ c. sixth (eqb-true kind 6 (and-left (eqb kind 6) (groupedBody n) (rw (a, b, c) at h))))))
   where
     middle : 2 ≤ kind → kind ≤ 4 → Kind kind
     middle p q =
@@ -126,13 +129,13 @@ ordered last kind r body p h =
 record Ranged (kind : ℕ) (r : Rule) (n : ℕ) (body : List ℕ) : Type 0 where
   location-below : (within 2 3 kind && leb (r .locations) (numberAt 0 body)) ≡ false
   ceiling-most : (eqb kind 4 && ltb 30 (numberAt 0 body)) ≡ false
-  edge-in-range : (eqb kind 5 && not (edgeOk r (edgeFrom n body))) ≡ false
+  edge-in-range : (isEdge kind && not (edgeOk r (edgeFrom kind n body))) ≡ false
 
 ranged : (kind : ℕ) (r : Rule) (n : ℕ) (body : List ℕ) → outOfRange r kind n body ≡ false → Ranged kind r n body
 ranged kind r n body h =
     let a : Bool = within 2 3 kind && leb (r .locations) (numberAt 0 body) in
     let b : Bool = eqb kind 4 && ltb 30 (numberAt 0 body) in
-    let c : Bool = eqb kind 5 && not (edgeOk r (edgeFrom n body)) in
+    let c : Bool = isEdge kind && not (edgeOk r (edgeFrom kind n body)) in
     let both : (a || b) ≡ false = neither-left (a || b) c h in
     record {
       location-below = neither-left a b both;
@@ -179,21 +182,74 @@ ceiling-by last r n body h =
       in-range = ltb-false 30 (numberAt 0 body) (q .ceiling-most);
     }
 
-edge-by : (last : ℕ) (r : Rule) (n : ℕ) (body : List ℕ) → Passed last r 5 n body → Edge-allowed last r n body
-edge-by last r n body h =
-    let o = ordered last 5 r body (omega arith) (h .in-order) in
-    let q = ranged 5 r n body (h .in-range) in
-    let f : Edge = edgeFrom n body in
-    let long : within 8 56 n ≡ true = and-left (within 8 56 n) (eqb ((n - 8) % 6) 0) (h .of-length) in
+-- what the tests make of the two kinds of edges
+record EdgeKind (kind : ℕ) : Type 0 where
+  least : 2 ≤ kind
+  is-edge : isEdge kind ≡ true
+  not-one : eqb kind 1 ≡ false
+  not-two : eqb kind 2 ≡ false
+  not-three : eqb kind 3 ≡ false
+  not-four : eqb kind 4 ≡ false
+  no-location : within 2 3 kind ≡ false
+  lengths : (n : ℕ) → bodyOk kind n ≡ true → (8 ≤ n) × (n ≤ 168) × (n % 2 ≡ 0)
+
+edge-five : EdgeKind 5
+edge-five = record {
+  least = omega arith;
+  is-edge = refl;
+  not-one = refl;
+  not-two = refl;
+  not-three = refl;
+  not-four = refl;
+  no-location = refl;
+  lengths = λ n h.
+      let long : within 8 56 n ≡ true = and-left (within 8 56 n) (eqb ((n - 8) % 6) 0) h in
+      let low = within-least 8 56 n long in
+      let high = within-most 8 56 n long in
+      let whole = eqb-true ((n - 8) % 6) 0 (and-right (within 8 56 n) (eqb ((n - 8) % 6) 0) h) in
+      (low, omega arith, omega arith);
+}
+
+edge-six : EdgeKind 6
+edge-six = record {
+  least = omega arith;
+  is-edge = refl;
+  not-one = refl;
+  not-two = refl;
+  not-three = refl;
+  not-four = refl;
+  no-location = refl;
+  lengths = λ n h.
+      let long : within 8 168 n ≡ true = and-left (within 8 168 n) (eqb (n % 2) 0) h in (
+        within-least 8 168 n long,
+        within-most 8 168 n long,
+        eqb-true (n % 2) 0 (and-right (within 8 168 n) (eqb (n % 2) 0) h),
+      );
+}
+
+kind-of : (kind : ℕ) → 5 ≤ kind → kind ≤ 6 → EdgeKind kind
+kind-of kind a b =
+    by-test (eqb kind 5) (λ e. rw (eqb-true kind 5 e) edge-five)
+    (λ e. let six : kind ≡ 6 = omega (arith, eqb-false kind 5 e) in rw six edge-six)
+
+edge-by :
+    (last kind : ℕ) (r : Rule) (n : ℕ) (body : List ℕ) → EdgeKind kind → Passed last r kind n body
+    → Edge-allowed last kind r n body
+edge-by last kind r n body k h =
+    let o = ordered last kind r body (k .least) (h .in-order) in
+    let q = ranged kind r n body (h .in-range) in
+    let f : Edge = edgeFrom kind n body in
+    let long = k .lengths n (h .of-length) in
     record {
-      length-least = within-least 8 56 n long;
-      length-most = within-most 8 56 n long;
-      whole-atoms = eqb-true ((n - 8) % 6) 0 (and-right (within 8 56 n) (eqb ((n - 8) % 6) 0) (h .of-length));
+      length-least = long .0;
+      length-most = long .1;
+      length-even = long .2;
+      length-ok = h .of-length;
       sizes-seen = o .sizes-seen;
       no-fall = o .no-fall;
-      room = leb-false mostEdges (length (r .edges)) (h .not-too-many);
-      in-range = not-false (edgeOk r f) (q .edge-in-range);
-      pinned = not-false (integerReset f) (h .pinned);
+      room = leb-false mostEdges (length (r .edges)) (rw (k .is-edge) at (h .not-too-many));
+      in-range = not-false (edgeOk r f) (rw (k .is-edge) at (q .edge-in-range));
+      pinned = not-false (integerReset f) (rw (k .is-edge) at (h .pinned));
     }
 
 pub passed-allowed :
@@ -208,7 +264,8 @@ passed-allowed last r kind n body h = go (kind-is kind n (h .of-length))
     go (second e) = initial e (initial-by last r n body (at 2 e))
     go (third e) = final e (final-by last r n body (at 3 e))
     go (fourth e) = ceiling e (ceiling-by last r n body (at 4 e))
-    go (fifth e) = edge e (edge-by last r n body (at 5 e))
+    go (fifth e) = edge (omega arith) (omega arith) (rw e (edge-by last 5 r n body edge-five (at 5 e)))
+    go (sixth e) = edge (omega arith) (omega arith) (rw e (edge-by last 6 r n body edge-six (at 6 e)))
 
 -- The other way round.
 sizes-pass : (last : ℕ) (r : Rule) (n : ℕ) (body : List ℕ) → Sizes-allowed r n body → Passed last r 1 n body
@@ -258,16 +315,24 @@ ceiling-pass last r n body h = record {
   pinned = refl;
 }
 
-edge-pass : (last : ℕ) (r : Rule) (n : ℕ) (body : List ℕ) → Edge-allowed last r n body → Passed last r 5 n body
-edge-pass last r n body h = record {
-  of-length =
-      and-both (within 8 56 n) (eqb ((n - 8) % 6) 0) (in-within 8 56 n (h .length-least) (h .length-most))
-      (eq-eqb ((n - 8) % 6) 0 (h .whole-atoms));
-  in-order = rw (le-leb 1 (r .locations) (h .sizes-seen), le-ltb 5 last (h .no-fall));
-  not-too-many = lt-leb mostEdges (length (r .edges)) (h .room);
-  good-sizes = refl;
-  in-range = rw (h .in-range);
-  pinned = rw (h .pinned);
+edge-pass :
+    (last kind : ℕ) (r : Rule) (n : ℕ) (body : List ℕ) → EdgeKind kind → Edge-allowed last kind r n body
+    → Passed last r kind n body
+edge-pass last kind r n body k h = record {
+  of-length = h .length-ok;
+  in-order =
+      rw (
+        k .not-one,
+        le-leb 1 (r .locations) (h .sizes-seen),
+        le-ltb kind last (h .no-fall),
+        k .not-four,
+        k .not-two,
+        k .not-three,
+      );
+  not-too-many = rw (k .is-edge) (lt-leb mostEdges (length (r .edges)) (h .room));
+  good-sizes = rw (k .not-one);
+  in-range = rw (k .no-location, k .not-four, h .in-range, k .is-edge);
+  pinned = rw (k .is-edge, h .pinned);
 }
 
 pub allowed-passes :
@@ -276,4 +341,4 @@ allowed-passes last r kind n body (sizes e h) = rw e (sizes-pass last r n body h
 allowed-passes last r kind n body (initial e h) = rw e (initial-pass last r n body h)
 allowed-passes last r kind n body (final e h) = rw e (final-pass last r n body h)
 allowed-passes last r kind n body (ceiling e h) = rw e (ceiling-pass last r n body h)
-allowed-passes last r kind n body (edge e h) = rw e (edge-pass last r n body h)
+allowed-passes last r kind n body (edge a b h) = edge-pass last kind r n body (kind-of kind a b) h

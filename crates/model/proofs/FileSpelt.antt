@@ -8,23 +8,24 @@ use lib.Dec.{ltb}
 use lib.ListN.{length, drop}
 use borrow.Author.Tests.{ltb-false, leb-true, le-leb, not-false}
 use Rattle.model.specs.Basics.{allBelow, fine, refuse, Refusal}
-use Rattle.model.specs.Rules.{Edge, Rule, pairCount, mostPairs, mostConstant, validRule}
+use Rattle.model.specs.Rules.{Edge, Rule, pairCount, mostPairs, mostConstant, kindsRise, validRule}
 use Rattle.model.specs.Files.{numberAt, bodyLength, kindOf, bodyOf, edgeFrom, noRule, seenSizes, withSizes}
 use Rattle.model.specs.Files.{withInitial, withFinal, withEdge, withRecord, atEnd, readRule, numbers}
-use Rattle.model.specs.Files.{ceilingRecord, atomNumbers, edgeRecord, edgeRecords, fileWith, ruleBytes}
+use Rattle.model.specs.Files.{ceilingRecord, edgeRecord, edgeRecords, fileWith, ruleBytes}
 use Rattle.model.specs.Files.{ceilingBytes, lessCeiling, hasCeiling}
 use Rattle.model.specs.Demands.{Same-bytes, Spells-valid, Writing, plain, ceiled, Only-written}
 use Rattle.model.proofs.Logic.{no-way}
 use Rattle.model.proofs.Refusals.{refused-false, first-passes, then-passes}
+use Rattle.model.proofs.Valid.{valid-parts}
 use Rattle.model.proofs.ValidParts.{parts-valid}
-use Rattle.model.proofs.Bytes.{numbersOf, all-below-drop}
+use Rattle.model.proofs.Bytes.{numbers-of-length, all-below-drop}
 use Rattle.model.proofs.FileSteps.{recordLength, ruleAfter, bytesAfter, readOn, of-every-reading, read-all}
 use Rattle.model.proofs.FileRecords.{Sizes-allowed, Edge-allowed, Allowed, sizes, initial, final, ceiling, edge}
 use Rattle.model.proofs.FileChecks.{Record-allowed, record-allowed}
 use Rattle.model.proofs.FileWrites.{writes-initial, writes-final, writes-ceiling, writes-edge, three-numbers}
-use Rattle.model.proofs.FileWrites.{four-numbers, atoms-numbers, record-again}
+use Rattle.model.proofs.FileWrites.{four-numbers, record-again}
 use Rattle.model.proofs.FileLess.{less-plain, less-ceiled, plain-has-none, ceiled-has-one}
-use Rattle.model.proofs.FileSoFar.{So-far, sizes-so-far, atoms-from-length, sizes-once, record-so-far}
+use Rattle.model.proofs.FileSoFar.{So-far, sizes-so-far, with-edge, sizes-once, record-so-far}
 
 -- new bytes are old ones and a part, which stands before the rest
 joined :
@@ -42,21 +43,19 @@ one-number s kind b whole long k =
 
 -- a record of an edge
 edge-again :
-    (last : ℕ) (r : Rule) (s : List ℕ) → allBelow 256 s ≡ true → recordLength s ≤ length s → kindOf s ≡ 5
-    → Edge-allowed last r (bodyLength s) (bodyOf s)
-    → edgeRecord (edgeFrom (bodyLength s) (bodyOf s)) ++ bytesAfter s ≡ s
-edge-again last r s b whole k a =
+    (last kind : ℕ) (r : Rule) (s : List ℕ) → allBelow 256 s ≡ true → recordLength s ≤ length s → kindOf s ≡ kind
+    → Edge-allowed last kind r (bodyLength s) (bodyOf s)
+    → edgeRecord (edgeFrom kind (bodyLength s) (bodyOf s)) ++ bytesAfter s ≡ s
+edge-again last kind r s b whole k a =
     let n : ℕ = bodyLength s in
-    let m : ℕ = (n - 8) / 6 in
-    let e : Edge = edgeFrom n (bodyOf s) in
-    let count : length (e .atoms) ≡ m = atoms-from-length m (drop 8 (bodyOf s)) in
-    let long : n ≡ 2 * (4 + 3 * m) = omega (arith, a .length-least, a .whole-atoms) in
-    let size : 8 + 6 * length (e .atoms) ≡ n = omega (arith, a .length-least, a .whole-atoms) in
-    let vs : List ℕ = e .source ∷ e .target ∷ e .symbol ∷ e .resets ∷ atomNumbers (e .atoms) in
-    let body = four-numbers (3 * m) (bodyOf s) in
-    let with-atoms : numbersOf (4 + 3 * m) (bodyOf s) ≡ vs = body ∙ rw (atoms-numbers m (drop 8 (bodyOf s))) in
-    ap (λ (j : ℕ). numbers (j ∷ 5 ∷ vs) ++ bytesAfter s) size
-    ∙ record-again s (4 + 3 * m) 5 vs b whole long k with-atoms
+    let m : ℕ = (n - 8) / 2 in
+    let e : Edge = edgeFrom kind n (bodyOf s) in
+    let count : length (e .text) ≡ m = numbers-of-length m (drop 8 (bodyOf s)) in
+    let long : n ≡ 2 * (4 + m) = omega (arith, a .length-least, a .length-even) in
+    let size : 8 + 2 * length (e .text) ≡ n = omega (arith, a .length-least, a .length-even) in
+    let vs : List ℕ = e .source ∷ e .target ∷ e .symbol ∷ e .resets ∷ e .text in
+    ap (λ (j : ℕ). numbers (j ∷ kind ∷ vs) ++ bytesAfter s) size
+    ∙ record-again s (4 + m) kind vs b whole long k (four-numbers m (bodyOf s))
 
 -- the rule after a record, by its kind
 after-kind : (r : Rule) (s : List ℕ) (k : ℕ) → kindOf s ≡ k → ruleAfter r s ≡ withRecord r k (bodyLength s) (bodyOf s)
@@ -132,14 +131,16 @@ module _
               (rw none (writes-ceiling r c (was .no-edges (a .no-fall))))
               (one-number s 4 b whole (a .length-is) e);
         }
-    record-read-past whole (edge e a) =
-        let f : Edge = edgeFrom (bodyLength s) (bodyOf s) in
+    record-read-past whole (edge low high a) =
+        let k : ℕ = kindOf s in
+        let f : Edge = edgeFrom k (bodyLength s) (bodyOf s) in
         record {
           now-between = between;
-          may-stand = still-between last (kindOf s) between (omega (arith, e)) stands;
+          may-stand = still-between last k between (omega arith) stands;
           same =
-              adds between (withEdge r f) (edgeRecord f) (after-kind r s 5 e) (writes-edge r between f)
-              (edge-again last r s b whole e a);
+              adds between (withEdge r f) (edgeRecord f) (with-edge r k (bodyLength s) (bodyOf s) low)
+              (writes-edge r between f)
+              (edge-again last k r s b whole refl a);
         }
 
 -- the sizes
@@ -233,7 +234,7 @@ first-is-sizes last r kind n body none (sizes e a) = (e, a)
 first-is-sizes last r kind n body none (initial e a) = absurd (omega (arith, a .sizes-seen))
 first-is-sizes last r kind n body none (final e a) = absurd (omega (arith, a .sizes-seen))
 first-is-sizes last r kind n body none (ceiling e a) = absurd (omega (arith, a .sizes-seen))
-first-is-sizes last r kind n body none (edge e a) = absurd (omega (arith, a .sizes-seen))
+first-is-sizes last r kind n body none (edge low high a) = absurd (omega (arith, a .sizes-seen))
 
 first-so-far :
     (r : Rule) (kind n : ℕ) (body : List ℕ) → kind ≡ 1 → Sizes-allowed r n body → So-far kind (withRecord r kind n body)
@@ -266,30 +267,36 @@ file-accepted file h =
 pub spells-valid : Spells-valid
 spells-valid file h = valid-whole (file-accepted file h) refl
 
+kinds-spelt :
+    (file : List ℕ) → readRule file .refused ≡ fine → kindsRise 5 (readRule file .rule-is .edges) ≡ true
+kinds-spelt file h = valid-parts (readRule file .rule-is) (spells-valid file h) .kinds-rise
+
 -- what it is by its bytes, and less its ceiling
 is-writing :
-    (r : Rule) (file between : List ℕ) → Between 5 between → fileWith between r ≡ file → Writing r file
+    (r : Rule) (file between : List ℕ) → kindsRise 5 (r .edges) ≡ true → Between 5 between → fileWith between r ≡ file
+    → Writing r file
 unfolding ruleBytes ceilingBytes
-is-writing r file between (nothing e) same =
+is-writing r file between rise (nothing e) same =
     let f : file ≡ ruleBytes r = sym same ∙ rw e in
-    plain (ap hasCeiling f ∙ plain-has-none r) f
-is-writing r file between (one c seen most e) same =
+    plain (ap hasCeiling f ∙ plain-has-none r rise) f
+is-writing r file between rise (one c seen most e) same =
     let f : file ≡ ceilingBytes c r = sym same ∙ rw e in
     ceiled c (le-leb c mostConstant most) (ap hasCeiling f ∙ ceiled-has-one c r) f
 
 pub only-written : Only-written
 only-written file b h =
     let whole : File-of (readRule file .rule-is) file = bytes-whole (file-accepted file h) refl b in
-    is-writing (readRule file .rule-is) file (whole .between) (whole .stands) (whole .same)
+    is-writing (readRule file .rule-is) file (whole .between) (kinds-spelt file h) (whole .stands) (whole .same)
 
-less-writing : (r : Rule) (file : List ℕ) → Writing r file → ruleBytes r ≡ lessCeiling file
-less-writing r file (plain none f) = sym (less-plain r) ∙ ap lessCeiling (sym f)
-less-writing r file (ceiled c most has f) = sym (less-ceiled c r) ∙ ap lessCeiling (sym f)
+less-writing :
+    (r : Rule) (file : List ℕ) → kindsRise 5 (r .edges) ≡ true → Writing r file → ruleBytes r ≡ lessCeiling file
+less-writing r file rise (plain none f) = sym (less-plain r rise) ∙ ap lessCeiling (sym f)
+less-writing r file rise (ceiled c most has f) = sym (less-ceiled c r rise) ∙ ap lessCeiling (sym f)
 
 pub less-bytes :
     (file : List ℕ) → allBelow 256 file ≡ true → readRule file .refused ≡ fine
     → ruleBytes (readRule file .rule-is) ≡ lessCeiling file
-less-bytes file b h = less-writing (readRule file .rule-is) file (only-written file b h)
+less-bytes file b h = less-writing (readRule file .rule-is) file (kinds-spelt file h) (only-written file b h)
 
 same-writing : (r : Rule) (file : List ℕ) → Writing r file → hasCeiling file ≡ false → ruleBytes r ≡ file
 same-writing r file (plain none f) h = sym f

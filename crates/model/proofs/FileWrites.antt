@@ -3,16 +3,16 @@
 use mathlib.Core.Path.{_≡_, refl, sym, _∙_, ap, ap₂}
 use mathlib.Core.Bool.{true}
 use mathlib.Core.List.{List, [], _∷_, _++_, append-nil, append-assoc}
-use Prim.Native.Nat.{ℕ, zero, suc, _+_, _*_, _≤_}
+use Prim.Native.Nat.{ℕ, suc, _+_, _*_, _≤_}
 use native.Mathlib.Omega.{arith}
 use lib.ListN.{length, drop}
 use lib.Seq.{drop-drop}
 use Rattle.model.specs.Basics.{allBelow}
 use Rattle.model.specs.Rules.{Edge, Rule}
-use Rattle.model.specs.Files.{numberAt, recordHead, bodyLength, kindOf, bodyOf, atomsFrom, withInitial}
+use Rattle.model.specs.Files.{numberAt, recordHead, bodyLength, kindOf, bodyOf, numbersOf, withInitial}
 use Rattle.model.specs.Files.{withFinal, withEdge, numbers, sizesRecord, locationRecords, ceilingRecord}
-use Rattle.model.specs.Files.{atomNumbers, edgeRecord, edgeRecords, fileWith}
-use Rattle.model.proofs.Bytes.{number-later, numbersOf, numbers-back}
+use Rattle.model.specs.Files.{edgeRecord, edgeRecords, fileWith}
+use Rattle.model.proofs.Bytes.{number-later, numbers-back}
 
 -- records one after another
 pub locations-append :
@@ -82,12 +82,6 @@ pub three-numbers :
     (m : ℕ) (s : List ℕ)
     → numbersOf (suc (suc (suc m))) s ≡ numberAt 0 s ∷ numberAt 1 s ∷ numberAt 2 s ∷ numbersOf m (drop 6 s)
 three-numbers m s = head-numbers (suc m) s ∙ rw (number-later 0 2 s, drop-drop 2 4 s)
-
-pub atoms-numbers : (m : ℕ) (s : List ℕ) → numbersOf (3 * m) s ≡ atomNumbers (atomsFrom m s)
-atoms-numbers zero s = refl
-atoms-numbers (suc m) s =
-    let e : 3 * suc m ≡ suc (suc (suc (3 * m))) = omega arith in
-    rw e (three-numbers (3 * m) s ∙ rw (atoms-numbers m (drop 6 s)))
 
 pub four-numbers :
     (m : ℕ) (s : List ℕ)

@@ -1,4 +1,4 @@
--- A guard that does not hold names its first atom that does not. The branch runner names one exactly where no run
+-- A guard that does not hold names its first member that does not. The branch runner names one exactly where no run
 -- accepts, there is an event, and the guard of the lowest edge that leaves an initial location on its symbol names it.
 use mathlib.Core.Path.{_≡_, refl, sym, _∙_, ap}
 use mathlib.Core.Bool.{Bool, true, false, _&&_, not}
@@ -12,66 +12,79 @@ use Rattle.model.specs.declared.Head.{Head}
 use Rattle.model.specs.declared.Branch.{Branch}
 use Rattle.model.specs.declared.Guard.{Guard}
 use Rattle.model.specs.declared.Guard.the-variants.{Holds, Fails}
-use Rattle.model.specs.Basics.{isIn, Refusal, passes}
-use Rattle.model.specs.Rules.{Atom, Edge, Rule}
+use Rattle.model.specs.Basics.{pick, isIn, Refusal, passes}
+use Rattle.model.specs.Texts.{Atom, Members, end, atom, group}
+use Rattle.model.specs.Rules.{Edge, Rule, guardOf}
 use Rattle.model.specs.Words.{Event, eventsOf, mostBranchEvents}
 use Rattle.model.specs.Guards.{meets, firstFailing, guard, isMet, failingPosition}
 use Rattle.model.specs.Runs.{noEdge, accepts, lowestLeaving, heldBack}
 use Rattle.model.specs.Layout.{ruleIn}
 use Rattle.model.specs.Promises.{inputRefusal, RunsBranches}
-use Rattle.model.specs.Claims.{noAtom, Guard-names, Held, Held-are}
+use Rattle.model.specs.Claims.{memberCount, memberHolds, Guard-names, Held, Held-are}
 use Rattle.model.proofs.Logic.{no-way, by-test, ltb-suc, and-left, and-right}
-use Rattle.model.proofs.Guards.{met-all}
+use Rattle.model.proofs.Guards.{guard-holds}
 
 -- the position that an answer names, counted from n
-record Failing (n : ℕ) (t : Atom → Bool) (xs : List Atom) (k : ℕ) : Type 0 where
+record Failing (n : ℕ) (t : Atom → Bool) (m : Members) (k : ℕ) : Type 0 where
   past : n ≤ k
-  inside : k - n < length xs
-  fails : t (getD xs (k - n) noAtom) ≡ false
-  before-hold : (m : ℕ) → m < k - n → t (getD xs m noAtom) ≡ true
+  inside : k - n < memberCount m
+  fails : memberHolds true (k - n) t m ≡ false
+  before-hold : (j : ℕ) → j < k - n → memberHolds true j t m ≡ true
 
-failing : (n : ℕ) (t : Atom → Bool) (xs : List Atom) (k : ℕ) → firstFailing n t xs ≡ Fails k → Failing n t xs k
-failing n t [] k h = no-way (sym (ap isMet h))
-failing n t (a ∷ xs) k h = by-test (t a) (λ e. later e (failing (suc n) t xs k (rw e at h))) now
+-- one member, and those behind it
+one-member :
+    (n : ℕ) (t : Atom → Bool) (all behind : Members) (k : ℕ) → memberCount all ≡ suc (memberCount behind)
+    → ((j : ℕ) → memberHolds true (suc j) t all ≡ memberHolds true j t behind)
+    → pick (memberHolds true 0 t all) (firstFailing (suc n) t behind) (Fails n) ≡ Fails k
+    → (firstFailing (suc n) t behind ≡ Fails k → Failing (suc n) t behind k)
+    → Failing n t all k
+one-member n t all behind k count-is behind-are h rest =
+    by-test (memberHolds true 0 t all) (λ e. later e (rest (rw e at h))) now
   where
     before :
-        t a ≡ true → Failing (suc n) t xs k → (m : ℕ) → m < k - n → t (getD (a ∷ xs) m noAtom) ≡ true
+        memberHolds true 0 t all ≡ true → Failing (suc n) t behind k → (j : ℕ) → j < k - n
+        → memberHolds true j t all ≡ true
     before e p zero l = e
-    before e p (suc m) l = p .before-hold m (omega (arith, p .past))
+    before e p (suc j) l = behind-are j ∙ p .before-hold j (omega (arith, p .past))
 
-    later : t a ≡ true → Failing (suc n) t xs k → Failing n t (a ∷ xs) k
+    later : memberHolds true 0 t all ≡ true → Failing (suc n) t behind k → Failing n t all k
     later e p =
         let j : k - n ≡ suc (k - suc n) = omega (arith, p .past) in
         record {
           past = omega (arith, p .past);
-          inside = omega (arith, p .past, p .inside);
-          fails = rw j (p .fails);
+          inside = omega (arith, p .past, p .inside, count-is);
+          fails = rw (j, behind-are (k - suc n)) (p .fails);
           before-hold = before e p;
         }
 
-    now : t a ≡ false → Failing n t (a ∷ xs) k
+    now : memberHolds true 0 t all ≡ false → Failing n t all k
     now e =
         let named : Fails n ≡ Fails k = rw e at h in
         let same : n ≡ k = ap failingPosition named in
         let j : k - n ≡ 0 = omega (arith, same) in
         record {
           past = omega (arith, same);
-          inside = omega (arith, same);
+          inside = omega (arith, same, count-is);
           fails = rw j e;
           before-hold = λ m l. absurd (omega (arith, same));
         }
 
+failing : (n : ℕ) (t : Atom → Bool) (m : Members) (k : ℕ) → firstFailing n t m ≡ Fails k → Failing n t m k
+failing n t end k h = no-way (sym (ap isMet h))
+failing n t (atom a m) k h = one-member n t (atom a m) m k refl (λ j. refl) h (failing (suc n) t m k)
+failing n t (group g m) k h = one-member n t (group g m) m k refl (λ j. refl) h (failing (suc n) t m k)
+
 pub guard-names : Guard-names
 guard-names = record {
-  names = λ unit readings atoms n h.
-      let p : Failing 0 (meets unit readings) atoms n = failing 0 (meets unit readings) atoms n h in
+  names = λ unit readings m n h.
+      let p : Failing 0 (meets unit readings) m n = failing 0 (meets unit readings) m n h in
       let from-none : n - 0 ≡ n = omega arith in
       record {
-        inside = lt-ltb n (length atoms) (rw from-none at (p .inside));
+        inside = lt-ltb n (memberCount m) (rw from-none at (p .inside));
         fails = rw from-none at (p .fails);
-        before-hold = λ m l. p .before-hold m (rw from-none (ltb-true m n l));
+        before-hold = λ k l. p .before-hold k (rw from-none (ltb-true k n l));
       };
-  holds-where = λ unit readings atoms. met-all 0 unit readings atoms;
+  holds-where = λ unit readings m. guard-holds 0 (meets unit readings) m;
 }
 
 -- The lowest edge of a list that leaves an initial location on a symbol, both ways.
@@ -93,7 +106,7 @@ module _ (initial : List ℕ) (s d : ℕ) (ages : List ℕ) where
     edge : ℕ
     leaves-one : leaves-at es edge ≡ true
     none-lower : (m : ℕ) → ltb m edge ≡ true → leaves-at es m ≡ false
-    answer-is : guard d ages (getD es edge noEdge .atoms) ≡ Fails n
+    answer-is : guard d ages (guardOf (getD es edge noEdge)) ≡ Fails n
 
   named-first : (es : List Edge) (n : ℕ) → lowestLeaving initial s d ages es ≡ Fails n → First es n
   named-first [] n h = no-way (sym (ap isMet h))
@@ -124,7 +137,7 @@ module _ (initial : List ℕ) (s d : ℕ) (ages : List ℕ) where
 
   first-named :
       (es : List Edge) (k n : ℕ) → leaves-at es k ≡ true → ((m : ℕ) → ltb m k ≡ true → leaves-at es m ≡ false)
-      → guard d ages (getD es k noEdge .atoms) ≡ Fails n
+      → guard d ages (guardOf (getD es k noEdge)) ≡ Fails n
       → lowestLeaving initial s d ages es ≡ Fails n
   first-named [] k n l u g =
       let inside : ltb k 0 ≡ true =

@@ -18,6 +18,7 @@ use Rattle.model.specs.declared.Followed.{Followed}
 use Rattle.model.specs.declared.Moved.{Moved}
 use Rattle.model.specs.Basics.{Refusal, passes}
 use Rattle.model.specs.Files.{readRule}
+use Rattle.model.specs.Layout.{edgeNeed}
 use Rattle.model.specs.Tables.{tables}
 use Rattle.model.specs.Walks.{followRefusal}
 use Rattle.model.specs.Promises.{readRefusal, ReadsRule, writeRefusal, WritesRule, buildRefusal, BuildsTable}
@@ -27,19 +28,19 @@ use Rattle.model.proofs.Cases.{zero-head, zero-built}
 
 -- The reader: 20 exactly where the table is too short, and then it is untouched; any other refusal zeroes it.
 pub read-short :
-    (file t t′ : List ℕ) (a : Reading) → ReadsRule file t t′ a → length t < 7424
+    (file t t′ : List ℕ) (a : Reading) → ReadsRule file t t′ a → length t < edgeNeed
     → (a ≡ record { number = 20; place = 0; head = zero-head }) × (t′ ≡ t)
 unfolding readRefusal
 read-short file t t′ a p h =
-    let short : ltb (length t) 7424 ≡ true = lt-ltb (length t) 7424 h in
+    let short : ltb (length t) edgeNeed ≡ true = lt-ltb (length t) edgeNeed h in
     (p .answer-is ∙ rw short, p .edges-are ∙ rw short)
 
 pub read-zeroed :
-    (file t t′ : List ℕ) (a : Reading) → ReadsRule file t t′ a → 7424 ≤ length t → (a .number ≡ 0 → ⊥)
+    (file t t′ : List ℕ) (a : Reading) → ReadsRule file t t′ a → edgeNeed ≤ length t → (a .number ≡ 0 → ⊥)
     → (a .head ≡ zero-head) × (t′ ≡ replicate (length t) 0)
 unfolding readRefusal
 read-zeroed file t t′ a p h n =
-    let long : ltb (length t) 7424 ≡ false = le-ltb (length t) 7424 h in
+    let long : ltb (length t) edgeNeed ≡ false = le-ltb (length t) edgeNeed h in
     let number : a .number ≡ readRule file .refused .number =
     ap (λ (x : Reading). x .number) (p .answer-is) ∙ rw long in
     let stops : eqb (readRule file .refused .number) 0 ≡ false =

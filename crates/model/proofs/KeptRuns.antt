@@ -15,7 +15,7 @@ use Rattle.model.specs.Basics.{Refusal, fine, refuse, passes, _⨾_}
 use Rattle.model.specs.Words.{Event, eventsOf, wordRefusal}
 use Rattle.model.specs.Rules.{Rule}
 use Rattle.model.specs.Runs.{leastRun, Config, byConfigs, startConfigs, roomRefusalFrom, roomRefusal}
-use Rattle.model.specs.Layout.{ruleIn, isReadable, ruleRefusal}
+use Rattle.model.specs.Layout.{edgeNeed, ruleIn, isReadable, ruleRefusal}
 use Rattle.model.specs.Promises.{configRoom, inputRefusal, exactRefusal, RunsExact, RunsBranches}
 use Rattle.model.proofs.Logic.{by-test}
 use Rattle.model.proofs.Numbers.{Among, none, some, among-refuse, among-then, word-numbers}
@@ -51,8 +51,8 @@ unfolding inputRefusal ruleRefusal
 input-apart h t d most xs ts =
     apart-then (ruleRefusal h t) (wordRefusal (ruleIn h t .symbols) d most xs ts)
     (apart-among 20 21 (ruleRefusal h t) (λ e. inl (omega arith))
-    (among-then (refuse (ltb (length t) 7424) 20 0) _
-    (among-refuse (ltb (length t) 7424) 20 0 (omega arith) (omega arith))
+    (among-then (refuse (ltb (length t) edgeNeed) 20 0) _
+    (among-refuse (ltb (length t) edgeNeed) 20 0 (omega arith) (omega arith))
     (among-refuse (not (isReadable h t)) 21 0 (omega arith) (omega arith))))
     (apart-among 30 33 (wordRefusal (ruleIn h t .symbols) d most xs ts) (λ e. inr (omega arith))
     (word-numbers (ruleIn h t .symbols) d most xs ts))

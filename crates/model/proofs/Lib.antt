@@ -44,7 +44,12 @@ pub mod LeastRun
 pub mod Configs
 pub mod Reaching
 pub mod Counted
--- Guards, atom by atom; what held a rule back (2.1); what pins a guard (2.4)
+-- Texts of groups and their trees (2.9), computed; guards, member by member; what held a rule back (2.1); what pins a
+-- guard (2.4)
+pub mod Texts
+pub mod Spelt
+pub mod Grouped
+pub mod Levels
 pub mod Guards
 pub mod HeldBack
 pub mod Pins

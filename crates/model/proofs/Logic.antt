@@ -178,6 +178,14 @@ in-append e f [] (there h) = not-in-nil h
 in-append e f (g ∷ es) (here h) = inl (here h)
 in-append e f (g ∷ es) (there h) = elim (in-append e f es h) [ inl i ↦ inl (there i) | inr q ↦ inr q ]
 
+pub in-left : {A : Type 0} (x : A) (xs ys : List A) → In x xs → In x (xs ++ ys)
+in-left x (y ∷ xs) ys (here h) = here h
+in-left x (y ∷ xs) ys (there h) = there (in-left x xs ys h)
+
+pub in-right : {A : Type 0} (x : A) (xs ys : List A) → In x ys → In x (xs ++ ys)
+in-right x [] ys h = h
+in-right x (y ∷ xs) ys h = there (in-right x xs ys h)
+
 pub in-at : {A : Type 0} (d : A) (xs : List A) (n : ℕ) → n < length xs → In (getD xs n d) xs
 in-at d [] n h = absurd (omega arith)
 in-at d (x ∷ xs) zero h = here refl

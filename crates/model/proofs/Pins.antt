@@ -8,7 +8,8 @@ use native.Mathlib.Omega.{arith}
 use lib.Dec.{eqb, leb}
 use lib.ListN.{length, getD}
 use borrow.Author.Tests.{eqb-true, leb-true, ltb-true, eq-eqb, lt-ltb}
-use Rattle.model.specs.Rules.{Atom, atMost, equal, atLeast, hasAtom, pins, anyPins, isPinned}
+use Rattle.model.specs.Texts.{Atom, Members, outer}
+use Rattle.model.specs.Rules.{atMost, equal, atLeast, hasAtom, pins, anyPins, isPinned}
 use Rattle.model.specs.Guards.{related, meets, guard, isMet}
 use Rattle.model.specs.Claims.{noAtom, Pinned, by-equality, from-both-sides, Pins-are}
 use Rattle.model.proofs.Logic.{no-way, and-left, and-right, and-both, or-left, or-right, or-cases, In, here}
@@ -119,10 +120,13 @@ pinned-there xs (from-both-sides q) =
     (and-both (eqb (a .relation) atLeast) (hasAtom (a .clock) atMost (a .constant) xs)
     (eq-eqb (a .relation) atLeast (q .low-is)) partner))
 
--- what a guard that holds says of the clock of each atom
-module _ (unit : ℕ) (readings : List ℕ) (xs : List Atom) (m : isMet (guard unit readings xs) ≡ true) where
+-- what a guard that holds says of the clock of each atom on its outermost level
+module _ (unit : ℕ) (readings : List ℕ) (m : Members) (met : isMet (guard unit readings m) ≡ true) where
+  abbrev xs : List Atom
+  xs = outer m
+
   says : (a : Atom) → In a xs → related (a .relation) (getD readings (a .clock) 0) (a .constant * unit) ≡ true
-  says = met-each 0 (meets unit readings) xs m
+  says = met-each 0 (meets unit readings) m met
 
   -- an equality; at least and at most the same
   pin-reads : Pin xs → Some (λ a. getD readings (a .clock) 0 ≡ a .constant * unit) xs
@@ -151,8 +155,9 @@ pub pins-are : Pins-are
 pins-are = record {
   pinned = λ xs h. positioned xs (pin-of xs h);
   pins = pinned-there;
-  at-constant = λ unit readings xs h m.
-      let p = pinned-reads unit readings xs m h in
+  at-constant = λ unit readings m h met.
+      let xs : List Atom = outer m in
+      let p = pinned-reads unit readings m met h in
       let n = in-number noAtom (p .member) xs (p .is-in) in
       record {
         position = n .number;

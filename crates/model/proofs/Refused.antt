@@ -73,13 +73,7 @@ rooms-met = refl
 
 -- the scratch that a build needs, for N of 31, 32, 33, 64, 65 and 65,536
 up-to : ℕ → Edge
-up-to c = record {
-  source = 0;
-  target = 0;
-  symbol = 0;
-  resets = 0;
-  atoms = record { clock = 0; relation = 1; constant = c } ∷ [];
-}
+up-to c = record { kind = 5; source = 0; target = 0; symbol = 0; resets = 0; text = 0 ∷ 1 ∷ c ∷ [] }
 
 sized : ℕ → ℕ → ℕ → Rule
 sized l k top = rule l 1 k [] [] (up-to top ∷ [])

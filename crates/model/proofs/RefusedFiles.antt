@@ -6,6 +6,7 @@ use mathlib.Core.List.{List, [], _∷_, _++_}
 use Prim.Native.Nat.{ℕ, zero, suc}
 use lib.ListN.{replicate}
 use Rattle.model.specs.Basics.{Refusal, refusal, fine}
+use Rattle.model.specs.Texts.{levelsPast, atomsPast, groupsPast}
 use Rattle.model.specs.Rules.{cm, pairCount}
 use Rattle.model.specs.Files.{numbers, recordRefusal, withRecord, atEnd, readFrom, readRule}
 use Rattle.model.proofs.Examples.{worked-file}
@@ -44,10 +45,10 @@ cuts =
     ∷ case (reads (6 ∷ 0 ∷ 1 ∷ 0 ∷ 2 ∷ 0 ∷ 2 ∷ 0 ∷ 1 ∷ [])) (refusal 1 0)
     ∷ case (reads (0 ∷ 1 ∷ 9 ∷ 0 ∷ replicate 255 0)) (refusal 1 0)
     ∷ case (reads (0 ∷ 1 ∷ 9 ∷ 0 ∷ replicate 256 0)) (refusal 2 0)
-    ∷ case (reads (worked-file ++ location 6 0)) (refusal 2 58)
+    ∷ case (reads (worked-file ++ location 7 0)) (refusal 2 58)
     ∷ case (reads (worked-file ++ location 0 0)) (refusal 2 58)
     ∷ case (reads (sizes ++ location 258 0)) (refusal 2 10)
-    ∷ case (reads (sizes ++ numbers (8 ∷ 6 ∷ 0 ∷ 0 ∷ 0 ∷ 0 ∷ []))) (refusal 2 10)
+    ∷ case (reads (sizes ++ numbers (8 ∷ 7 ∷ 0 ∷ 0 ∷ 0 ∷ 0 ∷ []))) (refusal 2 10)
     ∷ case (reads (numbers (4 ∷ 1 ∷ 2 ∷ 2 ∷ []))) (refusal 2 0)
     ∷ case (reads (numbers (8 ∷ 1 ∷ 2 ∷ 2 ∷ 1 ∷ 0 ∷ []))) (refusal 2 0)
     ∷ case (reads (sizes ++ numbers (4 ∷ 2 ∷ 1 ∷ 1 ∷ []))) (refusal 2 10)
@@ -138,8 +139,8 @@ ranges =
     ∷ case (reads (sizes ++ edge 14 1 (0 ∷ 2 ∷ 30 ∷ []))) fine
     ∷ case (reads (sizes ++ edge 14 2 (0 ∷ 2 ∷ 1 ∷ []))) (refusal 6 10)
     ∷ case (reads (sizes ++ edge 14 0 (1 ∷ 2 ∷ 1 ∷ []))) (refusal 6 10)
-    ∷ case (reads (sizes ++ edge 14 0 (0 ∷ 4 ∷ 1 ∷ []))) fine
-    ∷ case (reads (sizes ++ edge 14 0 (0 ∷ 5 ∷ 1 ∷ []))) (refusal 6 10)
+    ∷ case (reads (sizes ++ edge 14 0 (0 ∷ 5 ∷ 1 ∷ []))) fine
+    ∷ case (reads (sizes ++ edge 14 0 (0 ∷ 6 ∷ 1 ∷ []))) (refusal 6 10)
     ∷ case (reads (sizes ++ edge 14 0 (0 ∷ 2 ∷ 31 ∷ []))) (refusal 6 10)
     ∷ case (reads (sizes ++ edge 20 0 (0 ∷ 2 ∷ 1 ∷ 1 ∷ 2 ∷ 1 ∷ []))) (refusal 6 10)
     ∷ case (reads (sized 2 2 4 ++ edge 14 15 (3 ∷ 2 ∷ 1 ∷ []))) fine
@@ -210,3 +211,55 @@ sides =
 sides-met : allMet sides ≡ true
 unfolding cm pairCount recordRefusal withRecord atEnd readFrom readRule allMet reads sized sizes edge apart sides
 sides-met = refl
+
+-- kind 6: 2 for a body that is short, long or odd, before 3; 3 before kind 5, 4 with edges of kind 5; 6 for each number
+-- in whatever group and for text that breaks the group rules, before 7; 7 for a pin in a group
+grouped : ℕ → ℕ → List ℕ → List ℕ
+grouped size resets text = numbers (size ∷ 6 ∷ 0 ∷ 1 ∷ 0 ∷ resets ∷ text)
+
+inside : List ℕ → List ℕ
+inside atoms = (2 ∷ 1 ∷ []) ++ (atoms ++ (4 ∷ 4 ∷ []))
+
+groups : List Case
+groups =
+    case (reads (sizes ++ grouped 8 0 [])) fine
+    ∷ case (reads (sizes ++ grouped 168 0 (times 16 (3 ∷ 0 ∷ 3 ∷ 1 ∷ []) ++ times 8 (2 ∷ 4 ∷ [])))) fine
+    ∷ case (reads (sizes ++ numbers (6 ∷ 6 ∷ 0 ∷ 1 ∷ 0 ∷ []))) (refusal 2 10)
+    ∷ case (reads (sizes ++ (numbers (7 ∷ 6 ∷ 0 ∷ 1 ∷ 0 ∷ []) ++ (0 ∷ [])))) (refusal 2 10)
+    ∷ case (reads (sizes ++ (grouped 9 0 [] ++ (0 ∷ [])))) (refusal 2 10)
+    ∷ case (reads (sizes ++ (grouped 169 0 (replicate 80 0) ++ (0 ∷ [])))) (refusal 2 10)
+    ∷ case (reads (sizes ++ grouped 170 0 (replicate 81 0))) (refusal 2 10)
+    ∷ case (reads (sizes ++ grouped 168 0 (replicate 80 0))) (refusal 6 10)
+    ∷ case (reads (grouped 8 0 [])) (refusal 3 0)
+    ∷ case (reads (numbers (9 ∷ 6 ∷ []) ++ replicate 9 0)) (refusal 2 0)
+    ∷ case (reads (sizes ++ (edge 8 0 [] ++ grouped 8 0 []))) fine
+    ∷ case (reads (sizes ++ (grouped 8 0 [] ++ edge 8 0 []))) (refusal 3 22)
+    ∷ case (reads (sizes ++ (grouped 8 0 [] ++ location 4 0))) (refusal 3 22)
+    ∷ case (reads (sizes ++ (times 255 (edge 8 0 []) ++ grouped 8 0 []))) fine
+    ∷ case (reads (sizes ++ (times 256 (edge 8 0 []) ++ grouped 8 0 []))) (refusal 4 3082)
+    ∷ case (reads (sizes ++ times 257 (grouped 8 0 []))) (refusal 4 3082)
+    ∷ case (reads (sizes ++ (times 256 (grouped 8 0 []) ++ edge 8 0 []))) (refusal 3 3082)
+    ∷ case (reads (sizes ++ numbers (8 ∷ 6 ∷ 2 ∷ 1 ∷ 1 ∷ 0 ∷ []))) (refusal 6 10)
+    ∷ case (reads (sizes ++ numbers (8 ∷ 6 ∷ 1 ∷ 2 ∷ 1 ∷ 0 ∷ []))) (refusal 6 10)
+    ∷ case (reads (sizes ++ numbers (8 ∷ 6 ∷ 1 ∷ 1 ∷ 2 ∷ 0 ∷ []))) (refusal 6 10)
+    ∷ case (reads (sizes ++ numbers (8 ∷ 6 ∷ 1 ∷ 1 ∷ 1 ∷ 2 ∷ []))) (refusal 6 10)
+    ∷ case (reads (sizes ++ grouped 24 0 (inside (3 ∷ 0 ∷ 5 ∷ 30 ∷ [])))) fine
+    ∷ case (reads (sizes ++ grouped 24 0 (inside (3 ∷ 1 ∷ 5 ∷ 30 ∷ [])))) (refusal 6 10)
+    ∷ case (reads (sizes ++ grouped 24 0 (inside (3 ∷ 0 ∷ 6 ∷ 30 ∷ [])))) (refusal 6 10)
+    ∷ case (reads (sizes ++ grouped 24 0 (inside (3 ∷ 0 ∷ 5 ∷ 31 ∷ [])))) (refusal 6 10)
+    ∷ case (reads (sizes ++ grouped 10 0 (4 ∷ []))) (refusal 6 10)
+    ∷ case (reads (sizes ++ grouped 10 1 (2 ∷ []))) (refusal 6 10)
+    ∷ case (reads (sizes ++ grouped 14 0 (3 ∷ 0 ∷ 2 ∷ []))) (refusal 6 10)
+    ∷ case (reads (sizes ++ grouped 12 0 (1 ∷ 4 ∷ []))) (refusal 6 10)
+    ∷ case (reads (sizes ++ grouped 10 0 (5 ∷ []))) (refusal 6 10)
+    ∷ case (reads (sizes ++ grouped 16 1 (3 ∷ 0 ∷ 2 ∷ 1 ∷ []))) fine
+    ∷ case (reads (sizes ++ grouped 20 1 (2 ∷ 3 ∷ 0 ∷ 2 ∷ 1 ∷ 4 ∷ []))) (refusal 7 10)
+    ∷ case (reads (sizes ++ grouped 24 1 (inside (3 ∷ 0 ∷ 2 ∷ 1 ∷ [])))) (refusal 7 10)
+    ∷ case (reads (sized 17 1 3 ++ grouped 24 0 (inside (3 ∷ 0 ∷ 1 ∷ 14 ∷ [])))) (refusal 8 38)
+    ∷ case (reads (sized 16 1 3 ++ grouped 24 0 (inside (3 ∷ 0 ∷ 1 ∷ 14 ∷ [])))) fine
+    ∷ []
+
+groups-met : allMet groups ≡ true
+unfolding levelsPast atomsPast groupsPast cm pairCount recordRefusal withRecord atEnd readFrom readRule allMet reads
+    sized sizes location edge times grouped inside groups
+groups-met = refl

@@ -9,13 +9,14 @@ use native.Mathlib.Omega.{arith}
 use lib.Dec.{eqb, ltb, leb}
 use borrow.Author.Tests.{leb-true, eqb-true, le-leb}
 use Rattle.model.specs.Basics.{pick, isIn}
-use Rattle.model.specs.Rules.{Edge, Rule, cm}
+use Rattle.model.specs.Rules.{Edge, Rule, guardOf, cm}
 use Rattle.model.specs.Construction.{regionsHold, codeOf, locationOf, basesOf, withCode, startBases, startCodes}
 use Rattle.model.specs.Construction.{startRow, allows, pairResets, rowResets, targetOf, pairTargets, rowTargets}
 use Rattle.model.specs.Construction.{nextRow, holdsFinal}
 use Rattle.model.proofs.Logic.{no-way, by-test, and-left, and-right, or-left, or-right, In, here, there}
 use Rattle.model.proofs.Logic.{not-in-nil, Some, first-some, later-some, some-either, two, less, least}
 use Rattle.model.proofs.Valid.{Valid, is-pinned}
+use Rattle.model.proofs.Texts.{guard-atoms}
 use Rattle.model.proofs.Clocks.{even-guard}
 use Rattle.model.proofs.Codes.{digits-length, code-bases}
 
@@ -206,11 +207,11 @@ module _ (r : Rule) (s i : ℕ) where
       ]
 
   -- where the guard of an allowed edge holds
-  pub guard-of : (x : ℕ) (e : Edge) → allows r s i x e ≡ true → regionsHold (cm r) i (basesOf r x) (e .atoms) ≡ true
+  pub guard-of : (x : ℕ) (e : Edge) → allows r s i x e ≡ true → regionsHold (cm r) i (basesOf r x) (guardOf e) ≡ true
   unfolding allows
   guard-of x e a =
       and-right (eqb (e .source) (locationOf r x) && eqb (e .symbol) s)
-      (regionsHold (cm r) i (basesOf r x) (e .atoms))
+      (regionsHold (cm r) i (basesOf r x) (guardOf e))
       a
 
   -- integer resets: only at even intervals
@@ -218,10 +219,10 @@ module _ (r : Rule) (s i : ℕ) where
   even-reset xs v h =
       let m = reset-of xs h .such in
       let e : Edge = m .member in
-      even-guard (cm r) i (basesOf r (reset-of xs h .member)) (e .atoms)
+      even-guard (cm r) i (basesOf r (reset-of xs h .member)) (guardOf e)
       (λ a j.
       rw (digits-length (code-bases r (reset-of xs h .member)))
-      (v .edges-in e (m .is-in) .atoms-in a j .clock-below))
+      (v .edges-in e (m .is-in) .atoms-in a (guard-atoms e a j) .clock-below))
       (is-pinned e (v .edges-in e (m .is-in) .pinned) (m .such .some-clock))
       (guard-of (reset-of xs h .member) e (m .such .allowed))
 

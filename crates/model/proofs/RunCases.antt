@@ -4,8 +4,10 @@ use mathlib.Core.Path.{_≡_, refl}
 use mathlib.Core.Bool.{true, false}
 use mathlib.Core.List.{List, [], _∷_}
 use Prim.Native.Nat.{ℕ}
+use Rattle.model.specs.declared.Guard.{Guard}
 use Rattle.model.specs.declared.Guard.the-variants.{Holds, Fails}
-use Rattle.model.specs.Rules.{Atom, Edge, Rule, rule, cm, pairCount}
+use Rattle.model.specs.Texts.{plainAtoms, flat}
+use Rattle.model.specs.Rules.{Edge, Rule, rule, cm, pairCount}
 use Rattle.model.specs.Words.{Event, eventsOf}
 use Rattle.model.specs.Guards.{guard}
 use Rattle.model.specs.Runs.{isAcceptingRun, acceptsFrom, acceptsFromSome, accepts, path, leastFrom, leastStart}
@@ -56,41 +58,41 @@ unfolding acceptsFrom acceptsFromSome accepts leastFrom leastStart leastRun free
 leasts-are = (refl, refl, refl, refl)
 
 -- The first atom that fails. x0 at least 1, x1 at most 3, x0 equal 2: at ages of D = 1 and 2, and at regions.
-atom : ℕ → ℕ → ℕ → Atom
-atom clock relation constant = record { clock = clock; relation = relation; constant = constant }
+bounds : List ℕ
+bounds = 0 ∷ 3 ∷ 1 ∷ 1 ∷ 1 ∷ 3 ∷ 0 ∷ 2 ∷ 2 ∷ []
 
-bounds : List Atom
-bounds = atom 0 3 1 ∷ atom 1 1 3 ∷ atom 0 2 2 ∷ []
+asks : ℕ → List ℕ → List ℕ → Guard
+asks unit readings text = guard unit readings (flat (plainAtoms text))
 
 guards : Type 0
 guards =
-    (guard 1 (0 ∷ 9 ∷ []) bounds ≡ Fails 0) × (guard 1 (2 ∷ 9 ∷ []) bounds ≡ Fails 1)
-    × (guard 1 (1 ∷ 3 ∷ []) bounds ≡ Fails 2)
-    × (guard 1 (2 ∷ 3 ∷ []) bounds ≡ Holds)
-    × (guard 2 (1 ∷ 6 ∷ []) bounds ≡ Fails 0)
-    × (guard 2 (4 ∷ 7 ∷ []) bounds ≡ Fails 1)
-    × (guard 2 (5 ∷ 6 ∷ []) bounds ≡ Fails 2)
-    × (guard 2 (4 ∷ 6 ∷ []) bounds ≡ Holds)
-    × (guard 1 (4 ∷ []) [] ≡ Holds)
+    (asks 1 (0 ∷ 9 ∷ []) bounds ≡ Fails 0) × (asks 1 (2 ∷ 9 ∷ []) bounds ≡ Fails 1)
+    × (asks 1 (1 ∷ 3 ∷ []) bounds ≡ Fails 2)
+    × (asks 1 (2 ∷ 3 ∷ []) bounds ≡ Holds)
+    × (asks 2 (1 ∷ 6 ∷ []) bounds ≡ Fails 0)
+    × (asks 2 (4 ∷ 7 ∷ []) bounds ≡ Fails 1)
+    × (asks 2 (5 ∷ 6 ∷ []) bounds ≡ Fails 2)
+    × (asks 2 (4 ∷ 6 ∷ []) bounds ≡ Holds)
+    × (asks 1 (4 ∷ []) [] ≡ Holds)
 
 guards-are : guards
-unfolding atom bounds guards
+unfolding bounds asks guards
 guards-are = (refl, refl, refl, refl, refl, refl, refl, refl, refl)
 
 -- What held a rule back, D = 2. Initial are 1 and 2: edge 0 leaves neither, edge 1 has symbol 1, edge 2 is the lowest
 -- on symbol 0, edge 3 can always be taken, edge 4 never.
-edge-from : ℕ → ℕ → List Atom → Edge
-edge-from source symbol atoms =
-    record { source = source; target = 0; symbol = symbol; resets = 0; atoms = atoms }
+edge-from : ℕ → ℕ → List ℕ → Edge
+edge-from source symbol text =
+    record { kind = 5; source = source; target = 0; symbol = symbol; resets = 0; text = text }
 
 waits : List ℕ → Rule
 waits final =
     rule 3 3 2 (1 ∷ 2 ∷ []) final
-    (edge-from 0 0 (atom 0 2 9 ∷ [])
-    ∷ edge-from 1 1 (atom 0 3 0 ∷ atom 1 0 0 ∷ [])
+    (edge-from 0 0 (0 ∷ 2 ∷ 9 ∷ [])
+    ∷ edge-from 1 1 (0 ∷ 3 ∷ 0 ∷ 1 ∷ 0 ∷ 0 ∷ [])
     ∷ edge-from 2 0 bounds
     ∷ edge-from 1 0 []
-    ∷ edge-from 1 0 (atom 1 0 0 ∷ [])
+    ∷ edge-from 1 0 (1 ∷ 0 ∷ 0 ∷ [])
     ∷ [])
 
 helds : Type 0
@@ -107,7 +109,7 @@ helds =
     × (heldBack (waits (0 ∷ [])) 2 (eventsOf (0 ∷ 0 ∷ []) (1 ∷ 2 ∷ [])) ≡ Fails 0)
 
 helds-are : helds
-unfolding acceptsFrom acceptsFromSome accepts heldBack atom bounds edge-from waits helds
+unfolding acceptsFrom acceptsFromSome accepts heldBack bounds edge-from waits helds
 helds-are = (refl, refl, refl, refl, refl, refl, refl, refl, refl, refl, refl)
 
 -- an edge back to 0, and one to 1 at age 1 that resets the clock
@@ -115,13 +117,7 @@ stays-or-resets : Rule
 stays-or-resets =
     rule 2 1 1 (0 ∷ []) []
     (free-edge 0 0 0
-    ∷ record {
-      source = 0;
-      target = 1;
-      symbol = 0;
-      resets = 1;
-      atoms = record { clock = 0; relation = 2; constant = 1 } ∷ [];
-    }
+    ∷ record { kind = 5; source = 0; target = 1; symbol = 0; resets = 1; text = 0 ∷ 2 ∷ 1 ∷ [] }
     ∷ [])
 
 -- "above cm" is above it at every interval, and a base brought forward is cut there: codes 2 and 5 have base 2, cm is 1

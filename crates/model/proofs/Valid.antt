@@ -10,8 +10,9 @@ use lib.ListN.{length}
 use borrow.Author.Tests.{ltb-true, leb-true, eqb-true}
 use Rattle.model.specs.Basics.{within}
 use Rattle.model.specs.Rules.{Atom, Edge, Rule, largestConstant, largestOf, cm, pairCount, mostPairs, mostEdges}
-use Rattle.model.specs.Rules.{mostAtoms, sizesOk, atomOk, atomsOk, edgeOk, isPinned, integerReset, rising}
-use Rattle.model.specs.Rules.{edgesOk, validRule}
+use Rattle.model.specs.Rules.{sizesOk, atomOk, atomsOk, edgeOk, isPinned, integerReset, rising}
+use Rattle.model.specs.Texts.{outer}
+use Rattle.model.specs.Rules.{atomsOf, guardOf, textOk, sized, kindsRise, edgesOk, validRule}
 use Rattle.model.proofs.Logic.{and-left, and-right, or-cases, within-least, within-most, larger-left}
 use Rattle.model.proofs.Logic.{larger-right, larger-most, In, here, there}
 
@@ -42,17 +43,17 @@ sizes-of l s k h =
 -- an atom and an edge, in their ranges
 pub record AtomIn (k : ℕ) (a : Atom) : Type 0 where
   pub clock-below : a .clock < k
-  pub relation-most : a .relation ≤ 4
+  pub relation-most : a .relation ≤ 5
   pub constant-most : a .constant ≤ 30
 
 pub atom-of : (k : ℕ) (a : Atom) → atomOk k a ≡ true → AtomIn k a
 atom-of k a h =
-    let b : (ltb (a .clock) k && leb (a .relation) 4) ≡ true =
-    and-left (ltb (a .clock) k && leb (a .relation) 4) (leb (a .constant) 30) h in
+    let b : (ltb (a .clock) k && leb (a .relation) 5) ≡ true =
+    and-left (ltb (a .clock) k && leb (a .relation) 5) (leb (a .constant) 30) h in
     record {
-      clock-below = ltb-true (a .clock) k (and-left (ltb (a .clock) k) (leb (a .relation) 4) b);
-      relation-most = leb-true (a .relation) 4 (and-right (ltb (a .clock) k) (leb (a .relation) 4) b);
-      constant-most = leb-true (a .constant) 30 (and-right (ltb (a .clock) k && leb (a .relation) 4)
+      clock-below = ltb-true (a .clock) k (and-left (ltb (a .clock) k) (leb (a .relation) 5) b);
+      relation-most = leb-true (a .relation) 5 (and-right (ltb (a .clock) k) (leb (a .relation) 5) b);
+      constant-most = leb-true (a .constant) 30 (and-right (ltb (a .clock) k && leb (a .relation) 5)
           (leb (a .constant) 30) h);
     }
 
@@ -65,20 +66,23 @@ pub record EdgeIn (r : Rule) (e : Edge) : Type 0 where
   pub target-below : e .target < r .locations
   pub symbol-below : e .symbol < r .symbols
   pub resets-below : e .resets < 2 ^ r .clocks
-  pub atoms-in : (a : Atom) → In a (e .atoms) → AtomIn (r .clocks) a
+  pub keeps-rules : textOk e ≡ true
+  pub atoms-in : (a : Atom) → In a (atomsOf e) → AtomIn (r .clocks) a
   pub pinned : integerReset e ≡ true
-  pub atoms-most : length (e .atoms) ≤ mostAtoms
+  pub is-sized : sized e ≡ true
 
 edge-of :
-    (r : Rule) (e : Edge) → edgeOk r e ≡ true → integerReset e ≡ true → leb (length (e .atoms)) mostAtoms ≡ true
+    (r : Rule) (e : Edge) → edgeOk r e ≡ true → integerReset e ≡ true → sized e ≡ true
     → EdgeIn r e
 edge-of r e h p m =
     let s : Bool = ltb (e .source) (r .locations) in
     let t : Bool = ltb (e .target) (r .locations) in
     let y : Bool = ltb (e .symbol) (r .symbols) in
     let z : Bool = ltb (e .resets) (2 ^ r .clocks) in
-    let q : Bool = atomsOk (r .clocks) (e .atoms) in
-    let h4 : (s && t && y && z) ≡ true = and-left (s && t && y && z) q h in
+    let k : Bool = textOk e in
+    let q : Bool = atomsOk (r .clocks) (atomsOf e) in
+    let h5 : (s && t && y && z && k) ≡ true = and-left (s && t && y && z && k) q h in
+    let h4 : (s && t && y && z) ≡ true = and-left (s && t && y && z) k h5 in
     let h3 : (s && t && y) ≡ true = and-left (s && t && y) z h4 in
     let h2 : (s && t) ≡ true = and-left (s && t) y h3 in
     record {
@@ -86,16 +90,17 @@ edge-of r e h p m =
       target-below = ltb-true (e .target) (r .locations) (and-right s t h2);
       symbol-below = ltb-true (e .symbol) (r .symbols) (and-right (s && t) y h3);
       resets-below = ltb-true (e .resets) (2 ^ r .clocks) (and-right (s && t && y) z h4);
-      atoms-in = atoms-of (r .clocks) (e .atoms) (and-right (s && t && y && z) q h);
+      keeps-rules = and-right (s && t && y && z) k h5;
+      atoms-in = atoms-of (r .clocks) (atomsOf e) (and-right (s && t && y && z && k) q h);
       pinned = p;
-      atoms-most = leb-true (length (e .atoms)) mostAtoms m;
+      is-sized = m;
     }
 
 pub edges-of : (r : Rule) (es : List Edge) → edgesOk r es ≡ true → (e : Edge) → In e es → EdgeIn r e
 edges-of r (f ∷ es) h e i =
     let a : Bool = edgeOk r f in
     let b : Bool = integerReset f in
-    let c : Bool = leb (length (f .atoms)) mostAtoms in
+    let c : Bool = sized f in
     let d : Bool = edgesOk r es in
     let h3 : (a && b && c) ≡ true = and-left (a && b && c) d h in
     let h2 : (a && b) ≡ true = and-left (a && b) c h3 in
@@ -111,6 +116,7 @@ pub record Parts (r : Rule) : Type 0 where
   pub final-rises : rising 0 (r .locations) (r .final) ≡ true
   pub edges-most : length (r .edges) ≤ mostEdges
   pub edges-ok : edgesOk r (r .edges) ≡ true
+  pub kinds-rise : kindsRise 5 (r .edges) ≡ true
 
 pub valid-parts : (r : Rule) → validRule r ≡ true → Parts r
 unfolding validRule
@@ -121,7 +127,9 @@ valid-parts r h =
     let e : Bool = leb (length (r .edges)) mostEdges in
     let f : Bool = edgesOk r (r .edges) in
     let g : Bool = leb (pairCount r) mostPairs in
-    let h5 : (a && b && c && e && f) ≡ true = and-left (a && b && c && e && f) g h in
+    let k : Bool = kindsRise 5 (r .edges) in
+    let h6 : (a && b && c && e && f && k) ≡ true = and-left (a && b && c && e && f && k) g h in
+    let h5 : (a && b && c && e && f) ≡ true = and-left (a && b && c && e && f) k h6 in
     let h4 : (a && b && c && e) ≡ true = and-left (a && b && c && e) f h5 in
     let h3 : (a && b && c) ≡ true = and-left (a && b && c) e h4 in
     let h2 : (a && b) ≡ true = and-left (a && b) c h3 in
@@ -131,6 +139,7 @@ valid-parts r h =
       final-rises = and-right (a && b) c h3;
       edges-most = leb-true (length (r .edges)) mostEdges (and-right (a && b && c) e h4);
       edges-ok = and-right (a && b && c && e) f h5;
+      kinds-rise = and-right (a && b && c && e && f) k h6;
     }
 
 pub valid-pairs : (r : Rule) → validRule r ≡ true → pairCount r ≤ mostPairs
@@ -141,7 +150,8 @@ valid-pairs r h =
     (sizesOk (r .locations) (r .symbols) (r .clocks) && rising 0 (r .locations) (r .initial)
     && rising 0 (r .locations) (r .final)
     && leb (length (r .edges)) mostEdges
-    && edgesOk r (r .edges))
+    && edgesOk r (r .edges)
+    && kindsRise 5 (r .edges))
     (leb (pairCount r) mostPairs)
     h)
 
@@ -172,15 +182,15 @@ constant-largest a (x ∷ xs) (here h) = rw h (larger-left (x .constant) (larges
 constant-largest a (x ∷ xs) (there i) =
     omega (arith, constant-largest a xs i, larger-right (x .constant) (largestConstant xs))
 
-pub edge-largest : (e : Edge) (es : List Edge) → In e es → largestConstant (e .atoms) ≤ largestOf es
-edge-largest e (f ∷ es) (here h) = rw h (larger-left (largestConstant (f .atoms)) (largestOf es))
+pub edge-largest : (e : Edge) (es : List Edge) → In e es → largestConstant (atomsOf e) ≤ largestOf es
+edge-largest e (f ∷ es) (here h) = rw h (larger-left (largestConstant (atomsOf f)) (largestOf es))
 edge-largest e (f ∷ es) (there h) =
-    omega (arith, edge-largest e es h, larger-right (largestConstant (f .atoms)) (largestOf es))
+    omega (arith, edge-largest e es h, larger-right (largestConstant (atomsOf f)) (largestOf es))
 
-pub constant-below : (r : Rule) (e : Edge) (a : Atom) → In e (r .edges) → In a (e .atoms) → a .constant ≤ cm r
+pub constant-below : (r : Rule) (e : Edge) (a : Atom) → In e (r .edges) → In a (atomsOf e) → a .constant ≤ cm r
 unfolding cm
 constant-below r e a i j =
-    omega (arith, constant-largest a (e .atoms) j, edge-largest e (r .edges) i)
+    omega (arith, constant-largest a (atomsOf e) j, edge-largest e (r .edges) i)
 
 pub atoms-largest : (xs : List Atom) (m : ℕ) → ((a : Atom) → In a xs → a .constant ≤ m) → largestConstant xs ≤ m
 atoms-largest [] m h = omega arith
@@ -188,22 +198,22 @@ atoms-largest (x ∷ xs) m h =
     larger-most (x .constant) (largestConstant xs) m (h x (here refl)) (atoms-largest xs m (λ a i. h a (there i)))
 
 pub edges-largest :
-    (es : List Edge) (m : ℕ) → ((e : Edge) → In e es → largestConstant (e .atoms) ≤ m) → largestOf es ≤ m
+    (es : List Edge) (m : ℕ) → ((e : Edge) → In e es → largestConstant (atomsOf e) ≤ m) → largestOf es ≤ m
 edges-largest [] m h = omega arith
 edges-largest (x ∷ xs) m h =
-    larger-most (largestConstant (x .atoms)) (largestOf xs) m (h x (here refl))
+    larger-most (largestConstant (atomsOf x)) (largestOf xs) m (h x (here refl))
     (edges-largest xs m (λ e i. h e (there i)))
 
 pub cm-most : (r : Rule) → Valid r → cm r ≤ 30
 unfolding cm
 cm-most r v =
     edges-largest (r .edges) 30
-    (λ e i. atoms-largest (e .atoms) 30 (λ a j. v .edges-in e i .atoms-in a j .constant-most))
+    (λ e i. atoms-largest (atomsOf e) 30 (λ a j. v .edges-in e i .atoms-in a j .constant-most))
 
 -- an edge that resets a clock is pinned
-pub is-pinned : (e : Edge) → integerReset e ≡ true → 1 ≤ e .resets → isPinned (e .atoms) ≡ true
+pub is-pinned : (e : Edge) → integerReset e ≡ true → 1 ≤ e .resets → isPinned (outer (guardOf e)) ≡ true
 is-pinned e h p =
-    elim (or-cases (eqb (e .resets) 0) (isPinned (e .atoms)) h) [
+    elim (or-cases (eqb (e .resets) 0) (isPinned (outer (guardOf e))) h) [
       | inl z ↦ absurd (omega (arith, eqb-true (e .resets) 0 z))
       | inr q ↦ q
     ]

@@ -55,11 +55,11 @@ leaves-all left head unused scratch cells rows pool number =
 -- 20, 21, 22, in this order and before 23: all untouched, the built record zero
 builds-untouched : Type 0
 builds-untouched =
-    leaves-all 5 zero-head 7365 1 24 9 2 20 × leaves-all 5 worked-head 7365 1 24 9 2 20
-    × leaves-all 5 zero-head 7366 0 24 9 2 21
-    × leaves-all 5 worked-head 7366 0 24 9 2 22
-    × leaves-all 5 worked-head 7366 0 23 9 2 22
-    × leaves-all 5 wide-head 7366 1 24 9 2 22
+    leaves-all 5 zero-head 21843 1 24 9 2 20 × leaves-all 5 worked-head 21843 1 24 9 2 20
+    × leaves-all 5 zero-head 21844 0 24 9 2 21
+    × leaves-all 5 worked-head 21844 0 24 9 2 22
+    × leaves-all 5 worked-head 21844 0 23 9 2 22
+    × leaves-all 5 wide-head 21844 1 24 9 2 22
 
 builds-untouched-are : builds-untouched
 unfolding maskOf bitsFrom cm pairCount ruleIn codeOf locationOf basesOf startRow allows rowResets targetOf nextRow
@@ -77,8 +77,8 @@ builds-untouched-are = (
 -- 23 by cells and by rows, 24: all zero, the scratch and the built record too
 builds-zeroed : Type 0
 builds-zeroed =
-    leaves-all 0 worked-head 7366 1 23 9 2 23 × leaves-all 0 worked-head 7366 3 24 8 2 23
-    × leaves-all 0 worked-head 7366 1 24 9 1 24
+    leaves-all 0 worked-head 21844 1 23 9 2 23 × leaves-all 0 worked-head 21844 3 24 8 2 23
+    × leaves-all 0 worked-head 21844 1 24 9 1 24
 
 builds-zeroed-are : builds-zeroed
 unfolding maskOf bitsFrom cm pairCount ruleIn codeOf locationOf basesOf startRow allows rowResets targetOf nextRow
@@ -92,7 +92,7 @@ builds-zeroed-are = (
 
 -- built: the scratch is zero, the tables hold the worked table and zero in each place past it
 builds-filled :
-    BuildsTable worked-head (worked-edges 7366) (replicate 2 5) (replicate 2 0) (replicate 25 5)
+    BuildsTable worked-head (worked-edges 21844) (replicate 2 5) (replicate 2 0) (replicate 25 5)
     (worked-tables .cells ++ (0 ∷ []))
     (replicate 11 5)
     (worked-tables .rows ++ (0 ∷ 0 ∷ []))

@@ -41,12 +41,12 @@ wide-file = take 4 worked-file ++ (17 ∷ drop 5 worked-file)
 -- the reader refuses: the builder's tables are untouched; 22 leaves them untouched, 23 and 24 zero; before the word
 refused : Type 0
 refused =
-    decides-all 5 (0 ∷ []) (replicate 7423 5) (replicate 7423 5) 0 24 9 2 0 (answer 20 0 0)
-    × decides-all 5 (worked-file ++ (0 ∷ [])) (replicate 7424 5) (replicate 7424 0) 0 24 9 2 0 (answer 1 58 0)
-    × decides-all 5 worked-file (replicate 7424 5) (worked-edges 7366) 0 24 9 2 0 (answer 22 0 0)
-    × decides-all 5 wide-file (replicate 7424 5) (worked-edges 7366) 1 24 9 2 0 (answer 22 0 0)
-    × decides-all 0 worked-file (replicate 7424 5) (worked-edges 7366) 1 23 9 2 0 (answer 23 0 0)
-    × decides-all 0 worked-file (replicate 7424 5) (worked-edges 7366) 1 24 9 1 0 (answer 24 0 0)
+    decides-all 5 (0 ∷ []) (replicate 22015 5) (replicate 22015 5) 0 24 9 2 0 (answer 20 0 0)
+    × decides-all 5 (worked-file ++ (0 ∷ [])) (replicate 22016 5) (replicate 22016 0) 0 24 9 2 0 (answer 1 58 0)
+    × decides-all 5 worked-file (replicate 22016 5) (worked-edges 21844) 0 24 9 2 0 (answer 22 0 0)
+    × decides-all 5 wide-file (replicate 22016 5) (worked-edges 21844) 1 24 9 2 0 (answer 22 0 0)
+    × decides-all 0 worked-file (replicate 22016 5) (worked-edges 21844) 1 23 9 2 0 (answer 23 0 0)
+    × decides-all 0 worked-file (replicate 22016 5) (worked-edges 21844) 1 24 9 1 0 (answer 24 0 0)
 
 refused-are : refused
 unfolding maskOf cm pairCount recordRefusal withRecord atEnd readFrom readRule edgesNumbers edgeTable codeOf locationOf
@@ -107,7 +107,7 @@ refused-are = (
 -- the table is built: 30 and 33 come from the word, and the tables are left as built, as with yes and with no
 decides-built : ℕ → List ℕ → List ℕ → Answer → Type 0
 decides-built d symbols stamps answer-is =
-    Decides worked-file (replicate 7424 5) (worked-edges 7366) (replicate 2 5) (replicate 2 0) (replicate 24 5)
+    Decides worked-file (replicate 22016 5) (worked-edges 21844) (replicate 2 5) (replicate 2 0) (replicate 24 5)
     (worked-tables .cells)
     (replicate 9 5)
     (worked-tables .rows)

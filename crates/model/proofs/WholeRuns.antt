@@ -54,14 +54,14 @@ exact left head unused d symbols stamps scratch answer-is =
 -- 20, 21, 30 to 33, in this order and before 26: the scratch is untouched
 exacts-untouched : Type 0
 exacts-untouched =
-    exact 7 zero-head 7365 2 [] [] 5 (answer 20 0 0) × exact 7 worked-head 7365 2 [] [] 5 (answer 20 0 0)
-    × exact 7 zero-head 7366 0 [] [] 5 (answer 21 0 0)
-    × exact 7 worked-head 7366 0 (0 ∷ []) [] 5 (answer 30 0 0)
-    × exact 7 worked-head 7366 1001 [] [] 5 (answer 30 0 0)
-    × exact 7 worked-head 7366 2 (2 ∷ []) [] 5 (answer 31 0 0)
-    × exact 7 worked-head 7366 2 (replicate 4097 2) (replicate 4097 0) 5 (answer 31 0 0)
-    × exact 7 worked-head 7366 2 (0 ∷ 2 ∷ []) (2 ∷ 1 ∷ []) 3 (answer 32 2 0)
-    × exact 7 worked-head 7366 2 (0 ∷ 1 ∷ []) (2 ∷ 1 ∷ []) 3 (answer 33 2 0)
+    exact 7 zero-head 21843 2 [] [] 5 (answer 20 0 0) × exact 7 worked-head 21843 2 [] [] 5 (answer 20 0 0)
+    × exact 7 zero-head 21844 0 [] [] 5 (answer 21 0 0)
+    × exact 7 worked-head 21844 0 (0 ∷ []) [] 5 (answer 30 0 0)
+    × exact 7 worked-head 21844 1001 [] [] 5 (answer 30 0 0)
+    × exact 7 worked-head 21844 2 (2 ∷ []) [] 5 (answer 31 0 0)
+    × exact 7 worked-head 21844 2 (replicate 4097 2) (replicate 4097 0) 5 (answer 31 0 0)
+    × exact 7 worked-head 21844 2 (0 ∷ 2 ∷ []) (2 ∷ 1 ∷ []) 3 (answer 32 2 0)
+    × exact 7 worked-head 21844 2 (0 ∷ 1 ∷ []) (2 ∷ 1 ∷ []) 3 (answer 33 2 0)
 
 exacts-untouched-are : exacts-untouched
 unfolding ruleIn wordRefusal answer exact exacts-untouched
@@ -80,15 +80,15 @@ exacts-untouched-are = (
 -- 26 and each verdict: the scratch is zero
 forked : ℕ → List ℕ → List ℕ → ℕ → Answer → Type 0
 forked d symbols stamps scratch answer-is =
-    RunsExact (headOf forks) (edgeTable 7424 forks) d symbols stamps (replicate scratch 7) (replicate scratch 0)
+    RunsExact (headOf forks) (edgeTable 22016 forks) d symbols stamps (replicate scratch 7) (replicate scratch 0)
     answer-is
 
 exacts-zeroed : Type 0
 exacts-zeroed =
-    exact 0 worked-head 7366 2 [] [] 3 (answer 26 0 0) × exact 0 worked-head 7366 2 [] [] 4 (answer 0 0 1)
-    × exact 0 worked-head 7366 2 (0 ∷ []) (2 ∷ []) 4 (answer 0 0 0)
-    × exact 0 worked-head 7366 2 (0 ∷ 1 ∷ []) (2 ∷ 4 ∷ []) 9 (answer 0 0 1)
-    × exact 0 worked-head 7366 2 (replicate 4096 0) (replicate 4096 0) 4 (answer 0 0 0)
+    exact 0 worked-head 21844 2 [] [] 3 (answer 26 0 0) × exact 0 worked-head 21844 2 [] [] 4 (answer 0 0 1)
+    × exact 0 worked-head 21844 2 (0 ∷ []) (2 ∷ []) 4 (answer 0 0 0)
+    × exact 0 worked-head 21844 2 (0 ∷ 1 ∷ []) (2 ∷ 4 ∷ []) 9 (answer 0 0 1)
+    × exact 0 worked-head 21844 2 (replicate 4096 0) (replicate 4096 0) 4 (answer 0 0 0)
     × forked 1 (1 ∷ []) (0 ∷ []) 7 (answer 26 1 0)
     × forked 1 (1 ∷ []) (0 ∷ []) 8 (answer 0 0 1)
     × forked 1 (0 ∷ 1 ∷ []) (0 ∷ 0 ∷ []) 7 (answer 26 2 0)
@@ -140,23 +140,23 @@ run-by edges =
 
 branches : Type 0
 branches =
-    RunsBranches zero-head (worked-edges 7365) 0 [] [] (branch 20 0)
-    × RunsBranches zero-head (worked-edges 7366) 0 [] [] (branch 21 0)
-    × RunsBranches worked-head (worked-edges 7366) 0 (0 ∷ []) [] (branch 30 0)
-    × RunsBranches worked-head (worked-edges 7366) 2 (2 ∷ []) [] (branch 31 0)
-    × RunsBranches worked-head (worked-edges 7366) 2 (replicate 13 2) (replicate 13 0) (branch 31 0)
-    × RunsBranches worked-head (worked-edges 7366) 2 (replicate 12 0) (replicate 12 0) (held-at 0)
-    × RunsBranches worked-head (worked-edges 7366) 2 (0 ∷ 2 ∷ []) (2 ∷ 1 ∷ []) (branch 32 2)
-    × RunsBranches worked-head (worked-edges 7366) 2 (0 ∷ 1 ∷ []) (2 ∷ 1 ∷ []) (branch 33 2)
-    × RunsBranches worked-head (worked-edges 7366) 2 (0 ∷ 1 ∷ []) (2 ∷ 4 ∷ []) (run-by (0 ∷ 1 ∷ replicate 10 0))
-    × RunsBranches worked-head (worked-edges 7366) 2 (0 ∷ 1 ∷ []) (2 ∷ 3 ∷ []) (branch 0 0)
-    × RunsBranches worked-head (worked-edges 7366) 2 [] [] (run-by (replicate 12 0))
-    × RunsBranches worked-head (worked-edges 7366) 2 (0 ∷ []) (1 ∷ []) (held-at 0)
-    × RunsBranches worked-head (worked-edges 7366) 2 (1 ∷ []) (1 ∷ []) (branch 0 0)
-    × RunsBranches worked-head (worked-edges 7366) 2 (0 ∷ []) (2 ∷ []) (branch 0 0)
-    × RunsBranches (headOf forks) (edgeTable 7424 forks) 1 (0 ∷ 1 ∷ 1 ∷ []) (0 ∷ 0 ∷ 0 ∷ [])
+    RunsBranches zero-head (worked-edges 21843) 0 [] [] (branch 20 0)
+    × RunsBranches zero-head (worked-edges 21844) 0 [] [] (branch 21 0)
+    × RunsBranches worked-head (worked-edges 21844) 0 (0 ∷ []) [] (branch 30 0)
+    × RunsBranches worked-head (worked-edges 21844) 2 (2 ∷ []) [] (branch 31 0)
+    × RunsBranches worked-head (worked-edges 21844) 2 (replicate 13 2) (replicate 13 0) (branch 31 0)
+    × RunsBranches worked-head (worked-edges 21844) 2 (replicate 12 0) (replicate 12 0) (held-at 0)
+    × RunsBranches worked-head (worked-edges 21844) 2 (0 ∷ 2 ∷ []) (2 ∷ 1 ∷ []) (branch 32 2)
+    × RunsBranches worked-head (worked-edges 21844) 2 (0 ∷ 1 ∷ []) (2 ∷ 1 ∷ []) (branch 33 2)
+    × RunsBranches worked-head (worked-edges 21844) 2 (0 ∷ 1 ∷ []) (2 ∷ 4 ∷ []) (run-by (0 ∷ 1 ∷ replicate 10 0))
+    × RunsBranches worked-head (worked-edges 21844) 2 (0 ∷ 1 ∷ []) (2 ∷ 3 ∷ []) (branch 0 0)
+    × RunsBranches worked-head (worked-edges 21844) 2 [] [] (run-by (replicate 12 0))
+    × RunsBranches worked-head (worked-edges 21844) 2 (0 ∷ []) (1 ∷ []) (held-at 0)
+    × RunsBranches worked-head (worked-edges 21844) 2 (1 ∷ []) (1 ∷ []) (branch 0 0)
+    × RunsBranches worked-head (worked-edges 21844) 2 (0 ∷ []) (2 ∷ []) (branch 0 0)
+    × RunsBranches (headOf forks) (edgeTable 22016 forks) 1 (0 ∷ 1 ∷ 1 ∷ []) (0 ∷ 0 ∷ 0 ∷ [])
     (run-by (0 ∷ 2 ∷ 3 ∷ replicate 9 0))
-    × RunsBranches (headOf forks) (edgeTable 7424 forks) 1 (replicate 12 1) (replicate 12 0)
+    × RunsBranches (headOf forks) (edgeTable 22016 forks) 1 (replicate 12 1) (replicate 12 0)
     (run-by (replicate 11 2 ++ (3 ∷ [])))
 
 branches-are : branches

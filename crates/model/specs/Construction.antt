@@ -5,7 +5,8 @@ use Prim.Native.Nat.{ℕ, zero, suc, _+_, _-_, _*_, _/_, _^_}
 use lib.Dec.{eqb, ltb, leb}
 use lib.ListN.{length, getD}
 use Rattle.model.specs.Basics.{pick, oneIf, isIn, same, zeros, quotient, remainder}
-use Rattle.model.specs.Rules.{Atom, Edge, Rule, cm, baseCount}
+use Rattle.model.specs.Texts.{Members}
+use Rattle.model.specs.Rules.{Edge, Rule, guardOf, cm, baseCount}
 use Rattle.model.specs.Words.{Event}
 use Rattle.model.specs.Alike.{halfSeconds}
 use Rattle.model.specs.Guards.{guard, isMet}
@@ -36,9 +37,9 @@ abbrev pub regionsOf : ℕ → ℕ → List ℕ → List ℕ
 regionsOf c i [] = []
 regionsOf c i (b ∷ bases) = regionOf c b i ∷ regionsOf c i bases
 
--- a guard over regions: all atoms hold; a constant is at most cm, and constant c is region 2c
-abbrev pub regionsHold : ℕ → ℕ → List ℕ → List Atom → Bool
-regionsHold c i bases atoms = isMet (guard 2 (regionsOf c i bases) atoms)
+-- a guard over regions; a constant is at most cm, and constant c is region 2c
+abbrev pub regionsHold : ℕ → ℕ → List ℕ → Members → Bool
+regionsHold c i bases m = isMet (guard 2 (regionsOf c i bases) m)
 
 -- The code of a pair: location · (cm + 2)^K plus the sum of base(k) · (cm + 2)^k; and the pair of a code.
 abbrev pub digitsCode : ℕ → List ℕ → ℕ
@@ -81,7 +82,7 @@ startRow r = startCodes r (r .initial)
 -- an edge that a pair allows, on a symbol and an interval of the timer
 unfoldable pub allows : Rule → ℕ → ℕ → ℕ → Edge → Bool
 allows r s i x e =
-    eqb (e .source) (locationOf r x) && eqb (e .symbol) s && regionsHold (cm r) i (basesOf r x) (e .atoms)
+    eqb (e .source) (locationOf r x) && eqb (e .symbol) s && regionsHold (cm r) i (basesOf r x) (guardOf e)
 
 -- the timer is reset if at least one taken edge resets a clock
 abbrev pub pairResets : Rule → ℕ → ℕ → ℕ → List Edge → Bool

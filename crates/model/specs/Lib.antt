@@ -1,13 +1,15 @@
 -- What a reader must believe, in the order of document 01. What is proved of it stands in proofs/.
 -- Choices, lists of numbers, masks; refusals and the order among them
 pub mod Basics
+-- What an edge's text spells: atoms, and groups of atoms with their rules (2.9)
+pub mod Texts
 -- "The rule": locations, clocks, edges, cm and N; what pins a reset (2.4); which rules a file may spell
 pub mod Rules
 -- "The rule": words, and what a word may not be (30 to 33)
 pub mod Words
 -- Words alike, and half seconds (2.6)
 pub mod Alike
--- "The rule": guards, and the first atom that does not hold (2.1)
+-- "The rule": guards, all-of and any-of (2.9), and the first member that does not hold (2.1)
 pub mod Guards
 -- "The rule": ages, runs, acceptance; "Runners": the least accepting run, what held the rule back (2.1), configurations
 -- and 26

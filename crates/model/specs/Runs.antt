@@ -5,15 +5,16 @@ use Prim.Native.Nat.{ℕ, suc, _-_, _+_}
 use lib.Dec.{eqb, ltb}
 use lib.ListN.{length, getD}
 use Rattle.model.specs.Basics.{pick, isIn, same, zeros, bit, Refusal, refusal, refuse}
-use Rattle.model.specs.Rules.{Atom, Edge, Rule}
+use Rattle.model.specs.Texts.{Members}
+use Rattle.model.specs.Rules.{Edge, Rule, guardOf}
 use Rattle.model.specs.Words.{Event}
 use Rattle.model.specs.Guards.{guard, isMet}
 use Rattle.model.specs.declared.Guard.{Guard}
 use Rattle.model.specs.declared.Guard.the-variants.{Holds}
 
--- a guard over ages: all atoms hold, each age compared with constant · D
-abbrev pub holds : ℕ → List ℕ → List Atom → Bool
-holds d ages atoms = isMet (guard d ages atoms)
+-- a guard over ages, each age compared with constant · D
+abbrev pub holds : ℕ → List ℕ → Members → Bool
+holds d ages m = isMet (guard d ages m)
 
 -- the delay is added to every age
 abbrev pub older : ℕ → List ℕ → List ℕ
@@ -30,7 +31,7 @@ zeroed mask ages = zeroedFrom 0 mask ages
 
 -- an edge that leaves the location, with the event's symbol, whose guard holds
 abbrev pub canTake : ℕ → ℕ → List ℕ → Event → Edge → Bool
-canTake d l ages v e = eqb (e .source) l && eqb (e .symbol) (v .symbol) && holds d ages (e .atoms)
+canTake d l ages v e = eqb (e .source) l && eqb (e .symbol) (v .symbol) && holds d ages (guardOf e)
 
 -- all ages are 0 at time 0
 abbrev pub startAges : Rule → List ℕ
@@ -38,7 +39,7 @@ startAges r = zeros (r .clocks)
 
 -- A run, as the paper has it: a start location and one edge for each event, by number. `last` is the stamp before.
 abbrev pub noEdge : Edge
-noEdge = record { source = 0; target = 0; symbol = 0; resets = 0; atoms = [] }
+noEdge = record { kind = 0; source = 0; target = 0; symbol = 0; resets = 0; text = [] }
 
 abbrev pub runEndsFinal : Rule → ℕ → List Event → ℕ → ℕ → List ℕ → List ℕ → Bool
 runEndsFinal r d [] last l ages [] = isIn l (r .final)
@@ -109,7 +110,7 @@ leastRun r d vs = leastStart r d vs (r .initial)
 abbrev pub lowestLeaving : List ℕ → ℕ → ℕ → List ℕ → List Edge → Guard
 lowestLeaving initial s d ages [] = Holds
 lowestLeaving initial s d ages (e ∷ es) =
-    pick (isIn (e .source) initial && eqb (e .symbol) s) (guard d ages (e .atoms)) (lowestLeaving initial s d ages es)
+    pick (isIn (e .source) initial && eqb (e .symbol) s) (guard d ages (guardOf e)) (lowestLeaving initial s d ages es)
 
 unfoldable pub heldBack : Rule → ℕ → List Event → Guard
 heldBack r d [] = Holds

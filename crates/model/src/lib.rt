@@ -14,16 +14,16 @@ pub const MOST_EDGES: usize = 256;
 
 pub const MOST_ATOMS: usize = 8;
 
-pub const MOST_RELATION: usize = 4;
+pub const MOST_RELATION: usize = 5;
 
 pub const MOST_CONSTANT: usize = 30;
 
 // The relations that pin, by their codes in an atom.
-pub const AT_MOST: u16 = 1;
+pub const AT_MOST: usize = 1;
 
-pub const EQUAL: u16 = 2;
+pub const EQUAL: usize = 2;
 
-pub const AT_LEAST: u16 = 3;
+pub const AT_LEAST: usize = 3;
 
 pub const MOST_PAIRS: usize = 65536;
 
@@ -45,8 +45,31 @@ pub const LIST_GRAIN: usize = 2;
 // The joint states of two tables that may be searched.
 pub const MOST_JOINT_STATES: usize = 1000000;
 
+// The kinds of edges: with atoms, all of which must hold, and with atoms in groups.
+pub const PLAIN_EDGE: usize = 5;
+
+pub const GROUPED_EDGE: usize = 6;
+
+// The marks of a text with groups.
+pub const OPENS_ALL: usize = 1;
+
+pub const OPENS_ANY: usize = 2;
+
+pub const IS_ATOM: usize = 3;
+
+pub const CLOSES: usize = 4;
+
+// The group rules: levels, the outermost included, opened groups, atoms; and the numbers that they make at most.
+pub const MOST_LEVELS: usize = 4;
+
+pub const MOST_GROUPS: usize = 8;
+
+pub const MOST_GROUPED_ATOMS: usize = 16;
+
+pub const MOST_TEXT: usize = 80;
+
 // Bytes of a file: of a number, of body length and kind, of the bodies of sizes, an edge's four fields, an atom and the
-// longest edge.
+// longest edge of either kind.
 pub const NUMBER_BYTES: usize = 2;
 
 pub const RECORD_HEAD: usize = 4;
@@ -57,20 +80,25 @@ pub const FIELDS_BODY: usize = 8;
 
 pub const ATOM_BODY: usize = 6;
 
-pub const MOST_BODY: usize = 56;
+pub const MOST_PLAIN_BODY: usize = 56;
 
-// An edge of the table: source, target, symbol, reset mask, atom count, then eight atoms of clock, relation, constant.
-pub const EDGE_SOURCE: usize = 0;
+pub const MOST_GROUPED_BODY: usize = 168;
 
-pub const EDGE_TARGET: usize = 1;
+// An edge of the table: kind, source, target, symbol, reset mask, the count of atoms or of text numbers, then 80 places
+// of text; an atom is clock, relation, constant.
+pub const EDGE_KIND: usize = 0;
 
-pub const EDGE_SYMBOL: usize = 2;
+pub const EDGE_SOURCE: usize = 1;
 
-pub const EDGE_RESETS: usize = 3;
+pub const EDGE_TARGET: usize = 2;
 
-pub const EDGE_COUNT: usize = 4;
+pub const EDGE_SYMBOL: usize = 3;
 
-pub const EDGE_FIELDS: usize = 5;
+pub const EDGE_RESETS: usize = 4;
+
+pub const EDGE_COUNT: usize = 5;
+
+pub const EDGE_FIELDS: usize = 6;
 
 pub const ATOM_RELATION: usize = 1;
 
@@ -78,9 +106,9 @@ pub const ATOM_CONSTANT: usize = 2;
 
 pub const ATOM_WIDTH: usize = 3;
 
-pub const EDGE_WIDTH: usize = 29;
+pub const EDGE_WIDTH: usize = 86;
 
-pub const EDGE_NEED: usize = 7424;
+pub const EDGE_NEED: usize = 22016;
 
 // A row of the table: start and length in the pool, and the stored verdict.
 pub const ROW_LENGTH: usize = 1;
@@ -162,14 +190,14 @@ pub struct Building {
     pub built: Built,
 }
 
-// A guard's answer: it holds, or the first atom, by position from 0, that does not.
+// A guard's answer: it holds, or the first member of its outermost level, by position from 0, that does not.
 pub enum Guard {
     Holds,
     Fails(usize),
 }
 
 // A run that accepts: its start and its edges, by number. All zero where there is none.
-// `held`: a guard held the rule back at the first event; its atom at `position`, from 0, is the first that does not
+// `held`: a guard held the rule back at the first event; its member at `position`, from 0, is the first that does not
 // hold. Both are zero where a run accepts, and wherever no guard is to be named.
 #[repr(C)]
 pub struct Branch {
