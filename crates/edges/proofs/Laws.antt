@@ -1,5 +1,6 @@
--- Powers as a loop makes them, that they fit, and the largest constant as a loop over the table finds it.
-use mathlib.Core.Path.{_≡_, sym, _∙_, ap}
+-- Powers as a loop makes them, that they fit, and the largest constant as it is found, atom by atom of a text and edge
+-- by edge of the table.
+use mathlib.Core.Path.{_≡_, sym, _∙_, ap, ap₂}
 use mathlib.Core.List.{List}
 use Prim.Native.Nat.{ℕ, suc, _+_, _-_, _*_, _^_, _≤_, _<_}
 use native.Mathlib.Omega.{arith}
@@ -7,15 +8,18 @@ use native.Mathlib.Nat.{pow-suc, pow-le-pow-left, pow-le-pow-right, le-trans}
 use native.Mathlib.Numerals.{add-one}
 use lib.Dec.{leb}
 use lib.ListN.{length, getD, drop}
-use lib.Seq.{getD-drop}
 use borrow.Author.Tests.{le-leb, lt-leb, leb-true, lt-ltb, le-ltb}
 use Rattle.model.specs.declared.Head.{Head}
 use Rattle.model.specs.Basics.{larger}
-use Rattle.model.specs.Rules.{largestConstant, largestOf, cm, mostClocks, mostPairs}
-use Rattle.model.specs.Layout.{edgeFields, atomWidth, edgeWidth, atomsIn, edgeAt, edgesIn, ruleIn}
+use Rattle.model.specs.Rules.{Atom, Edge, atomWidth, atomsIn, atomsOf, largestConstant, largestOf, cm}
+use Rattle.model.specs.Rules.{mostClocks, mostPairs}
+use Rattle.model.specs.Layout.{edgeWidth, edgeAt, edgesIn, ruleIn}
 use Rattle.edges.specs.Powers.{smallPower}
 use Rattle.model.proofs.Logic.{by-test, larger-three, larger-none}
-use Rattle.model.proofs.EdgeTable.{edges-rest, atoms-rest, atoms-length}
+use Rattle.model.proofs.EdgeTable.{edges-rest}
+use Rattle.texts.specs.Atoms.{NextAtom}
+use Rattle.texts.proofs.AtomLoop.{Left, left-next, left-end}
+use Rattle.texts.proofs.PlainLoop.{PlainLeft, plain-on, plain-end}
 
 pub power-fits : (base k : ℕ) → base < mostPairs → k < mostClocks → base ^ k * base ≤ 65535 ^ mostClocks
 power-fits base k h g =
@@ -28,32 +32,40 @@ power-fits base k h g =
 pub power-next : (base k : ℕ) → base ^ k * base ≡ base ^ (k + 1)
 power-next base k = rw (add-one k) (sym (pow-suc base k))
 
--- The largest constant so far with the atoms still to come is what it is in all.
-pub record Largest (least count j most : ℕ) (t : List ℕ) : Type 0 where
-  pub turns : j ≤ count
-  pub rest-is :
-      larger most (largestConstant (atomsIn (count - j) (drop (atomWidth * j) t)))
-      ≡ larger least (largestConstant (atomsIn count t))
+-- the largest constant in atoms, or `most` if that is larger
+abbrev pub largestFrom : ℕ → List Atom → ℕ
+largestFrom most atoms = larger most (largestConstant atoms)
 
-pub largest-start : (least count : ℕ) (t : List ℕ) → Largest least count 0 least t
-largest-start least count t = let z : count - 0 ≡ count = omega arith in record { turns = omega arith; rest-is = rw z }
+-- the largest constant so far with the atoms still to come is what it is in all
+module _
+    (most : ℕ) {at all : ℕ} {atoms : List ℕ → List Atom} {text : List ℕ}
+    (inv : Left (largestFrom most) atoms text at all)
+  where
+    pub largest-next :
+        (next constant r : ℕ) → at ≤ length text → constant ≡ getD text (at + 2) 0 → next ≡ larger most constant
+        → NextAtom atoms text (at + atomWidth) r
+        → Left (largestFrom next) atoms text r all
+    largest-next next constant r h e q found =
+        left-next inv (largestFrom next) r h found
+        (λ others. rw (q, e) (larger-three most (getD text (at + 2) 0) (largestConstant others)))
 
-module _ {least count j most : ℕ} {t : List ℕ} (inv : Largest least count j most t) where
-  pub largest-next :
-      (next constant : ℕ) → j < count → constant ≡ getD t (atomWidth * j + 2) 0 → next ≡ larger most constant
-      → Largest least count (j + 1) next t
-  largest-next next constant h e q = record {
-    turns = omega arith;
-    rest-is =
-        ap (λ (m : ℕ). larger m (largestConstant (atomsIn (count - (j + 1)) (drop (atomWidth * (j + 1)) t)))) q
-        ∙ (larger-three most constant (largestConstant (atomsIn (count - (j + 1)) (drop (atomWidth * (j + 1)) t)))
-        ∙ (rw (e, ← ap largestConstant (atoms-rest count j t h)) (inv .rest-is)));
-  }
+    pub largest-end : length text < at → most ≡ all
+    largest-end h = sym (larger-none most) ∙ left-end inv h
 
-  pub largest-end : count ≤ j → most ≡ larger least (largestConstant (atomsIn count t))
-  largest-end h = let z : count - j ≡ 0 = omega arith in sym (larger-none most) ∙ (rw z at (inv .rest-is))
+-- the same where the atoms are those of a text of kind 5
+module _ (most : ℕ) {at all : ℕ} {text : List ℕ} (inv : PlainLeft (largestFrom most) text at all) where
+  pub plain-next :
+      (next constant : ℕ) → atomWidth ≤ length text - at → constant ≡ getD text (at + 2) 0
+      → next ≡ larger most constant
+      → PlainLeft (largestFrom next) text (at + atomWidth) all
+  plain-next next constant h e q =
+      plain-on inv (largestFrom next) h
+      (λ others. rw (q, e) (larger-three most (getD text (at + 2) 0) (largestConstant others)))
 
--- The same over edges.
+  pub plain-last : length text - at < atomWidth → most ≡ all
+  plain-last h = sym (larger-none most) ∙ plain-end inv h
+
+-- The largest constant so far with the edges still to come is what it is in all.
 pub record LargestEdge (least count e most : ℕ) (t : List ℕ) : Type 0 where
   pub turns : e ≤ count
   pub rest-is :
@@ -65,13 +77,13 @@ edges-start least count t = let z : count - 0 ≡ count = omega arith in record 
 
 module _ {least count e most : ℕ} {t : List ℕ} (inv : LargestEdge least count e most t) where
   pub edges-next :
-      (next : ℕ) → e < count → next ≡ larger most (largestConstant (edgeAt e t .atoms))
+      (next : ℕ) → e < count → next ≡ larger most (largestConstant (atomsOf (edgeAt e t)))
       → LargestEdge least count (e + 1) next t
   edges-next next h q = record {
     turns = omega arith;
     rest-is =
         ap (λ (m : ℕ). larger m (largestOf (edgesIn (count - (e + 1)) (drop (edgeWidth * (e + 1)) t)))) q
-        ∙ (larger-three most (largestConstant (edgeAt e t .atoms))
+        ∙ (larger-three most (largestConstant (atomsOf (edgeAt e t)))
         (largestOf (edgesIn (count - (e + 1)) (drop (edgeWidth * (e + 1)) t)))
         ∙ (rw (← ap largestOf (edges-rest count e t h)) (inv .rest-is)));
   }
@@ -85,14 +97,10 @@ pub cm-found :
 unfolding cm ruleIn
 cm-found h t most e = e ∙ rw (le-leb 0 (largestOf (edgesIn (h .count) t)) (omega arith))
 
--- the constant of atom j
-pub atom-constant :
-    (t : List ℕ) (e j at : ℕ) → at ≡ edgeWidth * e + edgeFields
-    → getD t (at + atomWidth * j + 2) 0 ≡ getD (drop edgeFields (drop (edgeWidth * e) t)) (atomWidth * j + 2) 0
-atom-constant t e j at is =
-    let a : at + atomWidth * j + 2 ≡ edgeWidth * e + (edgeFields + (atomWidth * j + 2)) = omega arith in
-    rw a (sym (getD-drop edgeFields (drop (edgeWidth * e) t) (atomWidth * j + 2) 0
-    ∙ getD-drop (edgeWidth * e) t (edgeFields + (atomWidth * j + 2)) 0))
+-- the atoms of an edge, from its kind and its text
+pub atoms-known :
+    {kind : ℕ} {text : List ℕ} (e : Edge) → kind ≡ e .kind → text ≡ e .text → atomsIn kind text ≡ atomsOf e
+atoms-known e k t = ap₂ atomsIn k t
 
 -- the larger of the two, as a branch finds it
 pub larger-less : (a b : ℕ) → a < b → b ≡ larger a b
@@ -100,14 +108,6 @@ larger-less a b h = rw (le-leb a b (omega arith))
 
 pub larger-least : (a b : ℕ) → b ≤ a → a ≡ larger a b
 larger-least a b h = by-test (leb a b) (λ e. rw e (omega (arith, leb-true a b e))) (λ e. rw e)
-
--- the atoms counted by their own number
-pub count-known :
-    (least : ℕ) (t : List ℕ) (e n : ℕ) → n ≡ length (edgeAt e t .atoms)
-    → larger least (largestConstant (atomsIn n (drop edgeFields (drop (edgeWidth * e) t))))
-    ≡ larger least (largestConstant (edgeAt e t .atoms))
-count-known least t e n h =
-    rw (h, atoms-length (getD (drop (edgeWidth * e) t) 4 0) (drop edgeFields (drop (edgeWidth * e) t)))
 
 -- powers that do not fit are 0
 pub base-high : (base exponent : ℕ) → mostPairs ≤ base → 0 ≡ smallPower base exponent

@@ -1,15 +1,15 @@
-// The edge table by place: an edge's fields, its checks, the pin of its resets, and what the sizes of a rule give, cm,
-// powers and N.
+// The edge table by place: an edge's fields and its text, and what the sizes of a rule give, cm, powers and N.
 // Total: a place past the end of the table holds 0, as in the definitions.
 ghost use mathlib.Core.Path.{_≡_};
 ghost use Prim.Native.Nat.{_^_, _≤_, _<_};
 ghost use lib.Dec.{ltb};
 ghost use Rattle.model.specs.Basics.{larger, within};
-ghost use Rattle.model.specs.Rules.{cm, largestConstant, mostClocks, mostPairs, sizesOk};
-ghost use Rattle.model.specs.Layout.{edgeAt, ruleIn};
+ghost use Rattle.model.specs.Texts.{plainAtoms, atomsPast};
+ghost use Rattle.model.specs.Rules.{atomsIn, cm, largestConstant, mostClocks, mostPairs, sizesOk};
+ghost use Rattle.model.specs.Layout.{ruleIn};
 ghost use Rattle.edges.specs.Powers.{smallPower, smallPairs};
-use crate::fields::atoms_place;
-use crate::fields::count_of;
+use crate::fields::kind_of;
+use crate::fields::text_of;
 use model::ATOM_CONSTANT;
 use model::ATOM_WIDTH;
 use model::Head;
@@ -18,12 +18,13 @@ use model::MOST_CONSTANT;
 use model::MOST_LOCATIONS;
 use model::MOST_PAIRS;
 use model::MOST_SYMBOLS;
+use model::PLAIN_EDGE;
 use numbers::number_at;
+use numbers::wide16;
 use numbers::wide32;
+use texts::next_atom;
 
-pub mod checks;
 pub mod fields;
-pub mod pins;
 
 // base ^ exponent, for a base below 65,536 and an exponent of at most 4.
 pub fn power(base: usize, exponent: usize) -> usize
@@ -51,22 +52,46 @@ pub(crate) fn small_power(base: usize, exponent: usize) -> usize
     power
 }
 
-// The largest constant of the atoms of edge `e`, or `least` if that is larger.
-pub(crate) fn largest_in(edges: &[u16], e: u32, least: usize) -> usize
-    ensures { λ r. ⌜ r ≡ larger least (largestConstant (edgeAt e (now (edges .entry)) .atoms)) ⌝ }
+// The largest constant in the atoms of a text of kind 5, or `least` if that is larger.
+pub(crate) fn plain_largest(text: &[u16], least: usize) -> usize
+    ensures { λ r. ⌜ r ≡ larger least (largestConstant (plainAtoms (now (text .entry)))) ⌝ }
 {
-    let at = atoms_place(e);
-    let count = count_of(edges, e);
     let mut most = least;
-    let mut j: usize = 0;
-    while j < count {
-        let constant = number_at(edges, at + ATOM_WIDTH * j + ATOM_CONSTANT);
+    let mut at: usize = 0;
+    while ATOM_WIDTH <= text.len() - at {
+        let constant = wide16(text[at + ATOM_CONSTANT]);
         if most < constant {
             most = constant;
         }
-        j += 1;
+        at += ATOM_WIDTH;
     }
     most
+}
+
+// The same of a text of kind 6, its atoms in whatever group.
+pub(crate) fn grouped_largest(text: &[u16], least: usize) -> usize
+    ensures { λ r. ⌜ r ≡ larger least (largestConstant (atomsPast 0 (now (text .entry)))) ⌝ }
+{
+    let mut most = least;
+    let mut at = next_atom(text, 0);
+    while at <= text.len() {
+        let constant = number_at(text, at + ATOM_CONSTANT);
+        if most < constant {
+            most = constant;
+        }
+        at = next_atom(text, at + ATOM_WIDTH);
+    }
+    most
+}
+
+// The same by the kind of the text.
+pub(crate) fn largest_in(kind: usize, text: &[u16], least: usize) -> usize
+    ensures { λ r. ⌜ r ≡ larger least (largestConstant (atomsIn kind (now (text .entry)))) ⌝ }
+{
+    if kind == PLAIN_EDGE {
+        return plain_largest(text, least);
+    }
+    grouped_largest(text, least)
 }
 
 // cm: the largest constant in any atom, 0 if there is none.
@@ -76,7 +101,7 @@ pub fn top_of(head: Head, edges: &[u16]) -> usize
     let mut most: usize = 0;
     let mut e: u32 = 0;
     while e < head.count {
-        most = largest_in(edges, e, most);
+        most = largest_in(kind_of(edges, e), text_of(edges, e), most);
         e += 1;
     }
     most

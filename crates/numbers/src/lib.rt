@@ -124,6 +124,20 @@ pub fn part_of(table: &[u32], start: usize, count: usize) -> &[u32]
     &table[start..end]
 }
 
+// The same of a table of 16 bits.
+pub fn part16_of(table: &[u16], start: usize, count: usize) -> &[u16]
+    ensures { λ r. ⌜ now r ≡ take count (drop start (now (table .entry))) ⌝ }
+{
+    if table.len() <= start {
+        return &table[0..0];
+    }
+    if table.len() - start <= count {
+        return &table[start..];
+    }
+    let past = start + count;
+    &table[start..past]
+}
+
 // Zeroes a table of 16 bits.
 pub fn clear16(table: &mut [u16])
     ensures { λ _. ⌜ now (table .exit) ≡ zeros (length (now (table .entry))) ⌝ }

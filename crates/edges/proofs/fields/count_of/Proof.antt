@@ -1,6 +1,6 @@
 -- `edges::fields::count_of` meets its contract.
 use borrow.Author.Needs.{needs}
-use Rattle.edges.proofs.FieldsRead.{count-read}
+use Rattle.edges.proofs.FieldsRead.{field-read}
 use Rattle.edges.proofs.fields.count_of.Statement.{statement}
 use Rattle.edges.proofs.fields.count_of.Tie as tie
 
@@ -19,8 +19,10 @@ number-at-requires c κs = search needs
 returns : tie.Need-returns
 returns c =
     let a = c .before .before .before .args in
-    let e = c .before .wide32 in
-    (count-read (a .edges .now) (a .e) (e .result) (e .ensures .0) (c .number-at .ensures .0), c .number-at .ensures .1)
+    let e = c .before .wide32 in (
+      field-read (a .edges .now) (a .e) 5 (e .result) (e .ensures .0) (c .number-at .ensures .0),
+      c .number-at .ensures .1,
+    )
 
 pub count-of-spec : {M : Type 1} → statement M
 count-of-spec =

@@ -1,0 +1,2 @@
+pub mod EdgeChecks
+pub mod PinLaws
