@@ -11,7 +11,7 @@ use lib.Seq.{drop-nil, getD-take}
 use borrow.Author.Tests.{not-true, le-leb, lt-leb, eq-eqb, ne-eqb}
 use Rattle.model.specs.declared.Age.{Age}
 use Rattle.model.specs.Basics.{same, pick, lesser, bit, isIn}
-use Rattle.model.specs.Rules.{Edge, mostLocations, mostClocks}
+use Rattle.model.specs.Rules.{Edge, guardOf, mostLocations, mostClocks}
 use Rattle.model.specs.Guards.{guard, isMet}
 use Rattle.model.specs.Runs.{Config, zeroed}
 use Rattle.model.specs.Layout.{locationsIn}
@@ -136,9 +136,9 @@ module _ (d k symbol : ℕ) (from : Configuration) (e : Edge) (r : Bool)
   false-not-leaving f = let no : r ≡ false = not-true r f in sym no ∙ not-leaving no
 
   pub guard-decides :
-      (g : Bool) (by : List ℕ) → r ≡ true → by ≡ agesOf k (from .ages) → g ≡ isMet (guard d by (e .atoms))
+      (g : Bool) (by : List ℕ) → r ≡ true → by ≡ agesOf k (from .ages) → g ≡ isMet (guard d by (guardOf e))
       → g ≡ takes d k symbol from e
-  guard-decides g by f b h = rw (sym t ∙ f) (h ∙ ap (λ (ages : List ℕ). isMet (guard d ages (e .atoms))) b)
+  guard-decides g by f b h = rw (sym t ∙ f) (h ∙ ap (λ (ages : List ℕ). isMet (guard d ages (guardOf e))) b)
 
 -- Two lists of one length are the same from place k on exactly if they are the same there and after.
 same-step :

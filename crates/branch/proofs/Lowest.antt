@@ -12,7 +12,7 @@ use Rattle.model.specs.declared.Head.{Head}
 use Rattle.model.specs.declared.Guard.{Guard}
 use Rattle.model.specs.declared.Guard.the-variants.{Holds}
 use Rattle.model.specs.Basics.{pick, isIn, zeros}
-use Rattle.model.specs.Rules.{Edge, mostClocks}
+use Rattle.model.specs.Rules.{Edge, guardOf, mostClocks}
 use Rattle.model.specs.Words.{eventsOf}
 use Rattle.model.specs.Guards.{guard}
 use Rattle.model.specs.Runs.{older, startAges, accepts, lowestLeaving, heldBack}
@@ -58,7 +58,7 @@ module _ (starts symbol count d : ℕ) (edges by : List ℕ) where
   module _ {e : ℕ} (inv : Asking e) (h : e < count) (r : Bool)
       (tested : r ≡ leavesSome (locationsIn starts) symbol (edgeAt e edges)) where
     ask-step :
-        pick r (guard d by (edgeAt e edges .atoms)) (lowestFrom (e + 1)) ≡ lowestFrom 0
+        pick r (guard d by (guardOf (edgeAt e edges))) (lowestFrom (e + 1)) ≡ lowestFrom 0
     ask-step =
         rw tested
         (sym (ap (lowestLeaving (locationsIn starts) symbol d by) (edges-rest count e edges h))
@@ -68,7 +68,7 @@ module _ (starts symbol count d : ℕ) (edges by : List ℕ) where
     asking-next f = record { turns = omega arith; rest-is = rw f at ask-step }
 
     pub asking-found :
-        (g : Guard) → r ≡ true → g ≡ guard d by (edgeAt e edges .atoms) → g ≡ lowestFrom 0
+        (g : Guard) → r ≡ true → g ≡ guard d by (guardOf (edgeAt e edges)) → g ≡ lowestFrom 0
     asking-found g f k = k ∙ (rw f at ask-step)
 
   pub asking-none : {e : ℕ} → Asking e → count ≤ e → Holds ≡ lowestFrom 0

@@ -7,11 +7,12 @@ use lib.Dec.{eqb}
 use lib.ListN.{take}
 use lib.Seq.{getD-take}
 use Rattle.model.specs.Basics.{pick, bit}
-use Rattle.model.specs.Rules.{Atom, Edge, Rule, cm}
+use Rattle.model.specs.Texts.{Atom, Members}
+use Rattle.model.specs.Rules.{Edge, Rule, guardOf, cm}
 use Rattle.model.specs.Runs.{zeroedFrom, zeroed}
 use Rattle.model.specs.Guards.{guard, isMet}
 use Rattle.model.specs.Construction.{regionOf, regionsOf, regionsHold, codeOf, basesOf, allows, advanced, targetOf}
-use Rattle.model.proofs.Logic.{In}
+use Rattle.model.proofs.Texts.{Within, guard-atoms}
 use Rattle.model.proofs.Guards.{same-readings}
 use Rattle.model.proofs.Valid.{EdgeIn}
 use Rattle.codes.specs.declared.Scale.{Scale}
@@ -44,10 +45,10 @@ take-regions (suc k) c i (b ∷ bs) = ap (λ (l : List ℕ). regionOf c b i ∷ 
 
 -- a guard looks only at the clocks of its atoms
 guard-take :
-    (k c i : ℕ) (bs : List ℕ) (xs : List Atom) → ((a : Atom) → In a xs → a .clock < k)
-    → guard 2 (regionsOf c i bs) xs ≡ guard 2 (regionsOf c i (take k bs)) xs
-guard-take k c i bs xs h =
-    same-readings 2 (regionsOf c i bs) (regionsOf c i (take k bs)) xs
+    (k c i : ℕ) (bs : List ℕ) (m : Members) → ((a : Atom) → Within a m → a .clock < k)
+    → guard 2 (regionsOf c i bs) m ≡ guard 2 (regionsOf c i (take k bs)) m
+guard-take k c i bs m h =
+    same-readings 2 (regionsOf c i bs) (regionsOf c i (take k bs)) m
     (λ a j. rw (← take-regions k c i bs) (sym (getD-take k (regionsOf c i bs) (a .clock) 0 (h a j))))
 
 module _ {r : Rule} {z : Scale} (scaled : Scaled r z) where
@@ -56,11 +57,11 @@ module _ {r : Rule} {z : Scale} (scaled : Scaled r z) where
       → pairAllows (z .top) at (unpacked z x) e ≡ allows r (at .symbol) (at .interval) x e
   unfolding allows
   allows-is at x e v =
-      let holds : ℕ → List ℕ → Bool = λ c bs. regionsHold c (at .interval) bs (e .atoms) in
+      let holds : ℕ → List ℕ → Bool = λ c bs. regionsHold c (at .interval) bs (guardOf e) in
       let g : holds (z .top) (unpacked z x .bases) ≡ holds (cm r) (basesOf r x) =
       ap isMet
-      (guard-take (r .clocks) (z .top) (at .interval) (unpacked z x .bases) (e .atoms)
-      (λ a i. v .atoms-in a i .clock-below))
+      (guard-take (r .clocks) (z .top) (at .interval) (unpacked z x .bases) (guardOf e)
+      (λ a i. v .atoms-in a (guard-atoms e a i) .clock-below))
       ∙ ap₂ holds (scaled .top-is) (bases-are scaled x) in
       ap₂ (λ (l : ℕ) (t : Bool). eqb (e .source) l && eqb (e .symbol) (at .symbol) && t) (location-is scaled x) g
 

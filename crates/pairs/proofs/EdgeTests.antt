@@ -9,7 +9,7 @@ use lib.Dec.{leb}
 use lib.ListN.{length, getD}
 use borrow.Author.Tests.{lt-ltb, le-ltb, le-leb, leb-true, eq-eqb, ne-eqb}
 use Rattle.model.specs.Basics.{lesser}
-use Rattle.model.specs.Rules.{Edge, mostClocks}
+use Rattle.model.specs.Rules.{Edge, guardOf, mostClocks}
 use Rattle.model.specs.Guards.{guard, isMet}
 use Rattle.model.specs.Construction.{regionOf, regionsOf}
 use Rattle.model.proofs.Logic.{by-test, Two, two, less, least, lesser-right}
@@ -73,7 +73,7 @@ module _ (c : ℕ) (at : Input) (p : Pair) (e : Edge) where
       → read ≡ at .symbol
       → symbol ≡ read
       → by ≡ regionsOf c (at .interval) (p .bases)
-      → r ≡ isMet (guard 2 by (e .atoms))
+      → r ≡ isMet (guard 2 by (guardOf e))
       → r ≡ pairAllows c at p e
   same-edge source symbol read by r s l y d h b g =
       rw (← s, eq-eqb source (p .location) l, ← y, ← d, eq-eqb symbol read h) (g ∙ rw b)

@@ -5,7 +5,7 @@ use mathlib.Core.List.{List}
 use Prim.Native.Nat.{ℕ, suc, _+_, _/_}
 use lib.Dec.{eqb, ltb, leb}
 use Rattle.model.specs.Basics.{pick, bit}
-use Rattle.model.specs.Rules.{Edge}
+use Rattle.model.specs.Rules.{Edge, guardOf}
 use Rattle.model.specs.Runs.{zeroed}
 use Rattle.model.specs.Construction.{regionsHold, advanced}
 use Rattle.codes.specs.declared.Scale.{Scale}
@@ -27,7 +27,7 @@ movedBases mask timer c i bases = zeroed mask (pick timer (advanced c i bases) b
 -- an edge that a pair allows, and its target
 abbrev pub pairAllows : ℕ → Input → Pair → Edge → Bool
 pairAllows c at p e =
-    eqb (e .source) (p .location) && eqb (e .symbol) (at .symbol) && regionsHold c (at .interval) (p .bases) (e .atoms)
+    eqb (e .source) (p .location) && eqb (e .symbol) (at .symbol) && regionsHold c (at .interval) (p .bases) (guardOf e)
 
 abbrev pub pairTarget : Scale → ℕ → Bool → Pair → Edge → ℕ
 pairTarget z i timer p e = packed z (e .target) (movedBases (e .resets) timer (z .top) i (p .bases))

@@ -1,5 +1,4 @@
--- `guards::atom_holds` meets its contract: constant · unit fits 64 bits.
-use Rattle.guards.proofs.Laws.{limit-fits}
+-- `guards::atom_holds` meets its contract: the atom's three numbers, each read where it stands.
 use borrow.Author.Needs.{needs}
 use Rattle.guards.proofs.atom_holds.Statement.{statement}
 use Rattle.guards.proofs.atom_holds.Tie as tie
@@ -7,23 +6,11 @@ use Rattle.guards.proofs.atom_holds.Tie as tie
 number-at-requires : tie.Need-number-at-requires
 number-at-requires c κs = search needs
 
-entry-at-requires : tie.Need-entry-at-requires
-entry-at-requires c κs = search needs
-
-wide32-requires : tie.Need-wide32-requires
-wide32-requires c κs = search needs
-
 add-number-at : tie.Need-add-number-at
 add-number-at c = search needs
 
 number-at-requires-2 : tie.Need-number-at-requires-2
 number-at-requires-2 c κs = search needs
-
-wide32-requires-2 : tie.Need-wide32-requires-2
-wide32-requires-2 c κs = search needs
-
-mul-limit : tie.Need-mul-limit
-mul-limit c = limit-fits _ _ (search needs) (search needs)
 
 add-number-at-2 : tie.Need-add-number-at-2
 add-number-at-2 c = search needs
@@ -31,8 +18,8 @@ add-number-at-2 c = search needs
 number-at-requires-3 : tie.Need-number-at-requires-3
 number-at-requires-3 c κs = search needs
 
-relate-requires : tie.Need-relate-requires
-relate-requires c κs = search needs
+numbers-hold-requires : tie.Need-numbers-hold-requires
+numbers-hold-requires c κs = search needs
 
 returns : tie.Need-returns
 returns c = cc
@@ -42,13 +29,9 @@ atom-holds-spec =
     tie.close
     (tie.spec
     number-at-requires
-    entry-at-requires
-    wide32-requires
     add-number-at
     number-at-requires-2
-    wide32-requires-2
-    mul-limit
     add-number-at-2
     number-at-requires-3
-    relate-requires
+    numbers-hold-requires
     returns)
