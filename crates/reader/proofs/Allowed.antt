@@ -1,16 +1,15 @@
 -- What a record that is allowed has, by its kind; the rule so far after it; and that its numbers fit.
 use mathlib.Core.Path.{_≡_, sym, _∙_, ap}
-use mathlib.Core.Bool.{true}
+use mathlib.Core.Bool.{true, false}
 use mathlib.Core.List.{List, [], _∷_, _++_}
 use Prim.Native.Nat.{ℕ, _+_, _*_, _^_, _≤_, _<_}
 use native.Mathlib.Omega.{arith}
-use lib.Dec.{eqb}
 use lib.ListN.{length, take, drop}
 use lib.Pow.{pow-mono}
 use Rattle.model.specs.declared.Head.{Head}
 use Rattle.model.specs.Basics.{pick, zeros, filled, maskOf}
-use Rattle.model.specs.Rules.{Edge, Rule, mostEdges, mostLocations, rising}
-use Rattle.model.specs.Files.{pastLast, numberAt, recordHead, edgeFrom, noRule, withRecord}
+use Rattle.model.specs.Rules.{Edge, Rule, plainEdge, groupedEdge, mostEdges, mostLocations, rising}
+use Rattle.model.specs.Files.{pastLast, numberAt, recordHead, isEdge, edgeFrom, noRule, withRecord}
 use Rattle.model.specs.Layout.{edgeWidth, edgesNumbers, edgeTable}
 use Rattle.model.proofs.Valid.{sizes-of}
 use Rattle.model.proofs.ValidParts.{rising-last}
@@ -18,10 +17,10 @@ use Rattle.model.proofs.MaskSets.{mask-last, mask-below}
 use Rattle.model.proofs.EdgesWritten.{edges-numbers-length}
 use Rattle.model.proofs.Readable.{table-length}
 use Rattle.model.proofs.FileRecords.{Location-allowed, Allowed, sizes, initial, final, ceiling, edge}
-use Rattle.model.proofs.FileSoFar.{So-far, sizes-so-far, record-so-far}
+use Rattle.model.proofs.FileSoFar.{So-far, sizes-so-far, record-so-far, with-edge, sized-from}
+use Rattle.model.proofs.Logic.{no-way, in-within}
 use Rattle.reader.specs.declared.Cursor.{Cursor}
 use Rattle.reader.specs.State.{tableWith, Body, Room, Takes, Stage, none, some, State}
-use Rattle.reader.proofs.Stored.{atoms-few}
 use Rattle.reader.proofs.Tables.{next-zero, table-more}
 
 -- which kind it is
@@ -31,28 +30,28 @@ module _ {last : ℕ} {r : Rule} {kind n : ℕ} {body : List ℕ} where
   kind-least (initial e a) = omega arith
   kind-least (final e a) = omega arith
   kind-least (ceiling e a) = omega arith
-  kind-least (edge e a) = omega arith
+  kind-least (edge l m a) = omega arith
 
-  kind-most : Allowed last r kind n body → kind ≤ 5
-  kind-most (sizes e a) = omega arith
-  kind-most (initial e a) = omega arith
-  kind-most (final e a) = omega arith
-  kind-most (ceiling e a) = omega arith
-  kind-most (edge e a) = omega arith
+  kind-most : Allowed last r kind n body → isEdge kind ≡ false → kind ≤ 4
+  kind-most (sizes e a) k = omega arith
+  kind-most (initial e a) k = omega arith
+  kind-most (final e a) k = omega arith
+  kind-most (ceiling e a) k = omega arith
+  kind-most (edge l m a) k = no-way (sym k ∙ in-within plainEdge groupedEdge kind l m)
 
   is-initial : Allowed last r kind n body → kind ≡ 2 → Location-allowed last 2 r (r .initial) n body
   is-initial (sizes e a) k = absurd (omega arith)
   is-initial (initial e a) k = a
   is-initial (final e a) k = absurd (omega arith)
   is-initial (ceiling e a) k = absurd (omega arith)
-  is-initial (edge e a) k = absurd (omega arith)
+  is-initial (edge l m a) k = absurd (omega arith)
 
   is-final : Allowed last r kind n body → kind ≡ 3 → Location-allowed last 3 r (r .final) n body
   is-final (sizes e a) k = absurd (omega arith)
   is-final (initial e a) k = absurd (omega arith)
   is-final (final e a) k = a
   is-final (ceiling e a) k = absurd (omega arith)
-  is-final (edge e a) k = absurd (omega arith)
+  is-final (edge l m a) k = absurd (omega arith)
 
 -- nothing is read yet where no sizes were seen
 unseen : (last : ℕ) (r : Rule) → Stage last r → r .locations ≡ 0 → r ≡ noRule
@@ -75,8 +74,8 @@ after-so-far last r kind n body s (final e a) =
     record-so-far last r (seen last r s (a .sizes-seen)) kind n body (final e a)
 after-so-far last r kind n body s (ceiling e a) =
     record-so-far last r (seen last r s (a .sizes-seen)) kind n body (ceiling e a)
-after-so-far last r kind n body s (edge e a) =
-    record-so-far last r (seen last r s (a .sizes-seen)) kind n body (edge e a)
+after-so-far last r kind n body s (edge l m a) =
+    record-so-far last r (seen last r s (a .sizes-seen)) kind n body (edge l m a)
 
 numbers-wide : (last : ℕ) (r : Rule) → Stage last r → length (edgesNumbers (r .edges)) ≡ edgeWidth * length (r .edges)
 unfolding edgesNumbers
@@ -104,10 +103,10 @@ module _ {r : Rule} {c : Cursor} {t : List ℕ} (state : State r c t) {kind n : 
       sizes-of (r .locations) (r .symbols) (r .clocks) (seen (c .last) r (state .stage) h .parts .sizes) .locations-most
 
   pub room-for :
-      (kind ≡ 5 → ⊥) → Body kind body → c .at + (recordHead + n) < 2 ^ 64 → Room c kind n body
-  room-for not-5 b next = record {
+      isEdge kind ≡ false → Body kind body → c .at + (recordHead + n) < 2 ^ 64 → Room c kind n body
+  room-for not-edge b next = record {
     kind-least = kind-least allowed;
-    kind-most = omega (arith, kind-most allowed, not-5);
+    kind-most = kind-most allowed not-edge;
     next = next;
     number = b .number;
     sizes = b .sizes;
@@ -137,7 +136,7 @@ table-after :
     (last : ℕ) (r : Rule) (count : ℕ) (t t′ : List ℕ) (kind n : ℕ) (body : List ℕ) → Stage last r
     → count ≡ length (r .edges)
     → t ≡ edgeTable (length t) r
-    → t′ ≡ pick (eqb kind 5) (tableWith count (edgeFrom n body) t) t
+    → t′ ≡ pick (isEdge kind) (tableWith count (edgeFrom kind n body) t) t
     → Allowed last r kind n body
     → t′ ≡ edgeTable (length t) (withRecord r kind n body)
 unfolding withRecord edgeTable
@@ -147,10 +146,11 @@ table-after last r count t t′ kind n body s c is q (sizes e a) =
 table-after last r count t t′ kind n body s c is q (initial e a) = rw e ((rw e at q) ∙ is)
 table-after last r count t t′ kind n body s c is q (final e a) = rw e ((rw e at q) ∙ is)
 table-after last r count t t′ kind n body s c is q (ceiling e a) = rw e ((rw e at q) ∙ is)
-table-after last r count t t′ kind n body s c is q (edge e a) =
-    let wide = numbers-wide last r s ∙ ap (λ (m : ℕ). edgeWidth * m) (sym c) in
-    let few = atoms-few n body (a .length-most) in
-    rw e ((rw e at q) ∙ table-more r t count wide is (edgeFrom n body) few)
+table-after last r count t t′ kind n body s c is q (edge l m a) =
+    let wide = numbers-wide last r s ∙ ap (λ (k : ℕ). edgeWidth * k) (sym c) in
+    let fits = sized-from kind n body l m (a .length-ok) in
+    let stored : t′ ≡ tableWith count (edgeFrom kind n body) t = rw (in-within plainEdge groupedEdge kind l m) at q in
+    rw (with-edge r kind n body l) (stored ∙ table-more r t count wide is (edgeFrom kind n body) fits)
 
 -- cursor and table after a record
 pub state-after :

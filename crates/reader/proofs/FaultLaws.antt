@@ -1,29 +1,19 @@
--- Each fault of a record, as the code tests it: 1 to 7, over plain variables.
-use mathlib.Core.Path.{_≡_, refl, sym, _∙_, ap, ap₂}
-use mathlib.Core.Bool.{Bool, true, false, _||_, not}
+-- Each fault of a record, as the code tests it: 2 to 6, over plain variables.
+use mathlib.Core.Path.{_≡_, sym, _∙_, ap, ap₂}
+use mathlib.Core.Bool.{Bool, true, false}
 use mathlib.Core.List.{List}
-use Prim.Native.Nat.{ℕ, _+_, _-_, _*_, _≤_, _<_}
+use Prim.Native.Nat.{ℕ, _≤_, _<_}
 use native.Mathlib.Omega.{arith}
 use lib.Dec.{eqb, ltb, leb}
-use lib.ListN.{getD, take, drop}
 use borrow.Author.Tests.{lt-ltb, le-ltb, le-leb, lt-leb, ne-eqb}
 use Rattle.model.specs.declared.Head.{Head}
-use Rattle.model.specs.Basics.{pick}
-use Rattle.model.specs.Rules.{Atom, Rule, mostConstant, edgeOk, atomsOk, isPinned}
-use Rattle.model.specs.Files.{numberAt, edgeBody, bodyOk, outOfOrder, oneTooMany, badSizes, outOfRange}
-use Rattle.model.specs.Layout.{edgeFields, atomWidth, edgeIn, headOf}
+use Rattle.model.specs.Rules.{Rule, plainEdge, groupedEdge, mostConstant}
+use Rattle.model.specs.Files.{numberAt, numberBytes, sizesBody, isEdge, plainBody, groupedBody, bodyOk, outOfOrder}
+use Rattle.model.specs.Files.{oneTooMany, badSizes, outOfRange}
+use Rattle.model.specs.Layout.{headOf}
 use Rattle.model.proofs.Logic.{or-none}
-use Rattle.numbers.proofs.Answers.{failed, passed}
-use Rattle.edges.specs.Checks.{fieldsOk, wholeAtoms}
-use Rattle.edges.proofs.EdgeChecks.{edge-part}
-use Rattle.edges.proofs.PinLaws.{reset-known}
 use Rattle.reader.specs.declared.Cursor.{Cursor}
-use Rattle.model.specs.Files.{numberBytes, sizesBody}
-use Rattle.reader.specs.State.{Holds, orderFault, edgeFault, Standing}
-
-turned : (z : Bool) → _≡_ {A = ℕ} (pick z 0 7) (pick (not z) 7 0)
-turned true = refl
-turned false = refl
+use Rattle.reader.specs.State.{Holds, orderFault}
 
 -- 2: the kinds and their lengths
 module _ (kind n : ℕ) where
@@ -33,15 +23,31 @@ module _ (kind n : ℕ) where
   pub body-one : 2 ≤ kind → kind ≤ 4 → eqb n numberBytes ≡ bodyOk kind n
   body-one a b = rw (ne-eqb kind 1 (λ e. omega arith), le-leb 2 kind a, le-leb kind 4 b)
 
-  pub body-edge : {x : Bool} → kind ≡ 5 → x ≡ edgeBody n → x ≡ bodyOk kind n
-  body-edge e q = rw e q
+  pub body-plain : {x : Bool} → kind ≡ plainEdge → x ≡ plainBody n → x ≡ bodyOk kind n
+  body-plain e q = rw e q
 
-  module _ (not-sizes : kind ≡ 1 → ⊥) (not-edge : kind ≡ 5 → ⊥) where
+  pub body-grouped : {x : Bool} → kind ≡ groupedEdge → x ≡ groupedBody n → x ≡ bodyOk kind n
+  body-grouped e q = rw e q
+
+  module _ (not-sizes : kind ≡ 1 → ⊥) (not-plain : kind ≡ plainEdge → ⊥) (not-grouped : kind ≡ groupedEdge → ⊥) where
     pub body-low : kind < 2 → false ≡ bodyOk kind n
-    body-low a = rw (ne-eqb kind 1 not-sizes, lt-leb 2 kind a, ne-eqb kind 5 not-edge)
+    body-low a =
+        rw (
+          ne-eqb kind 1 not-sizes,
+          lt-leb 2 kind a,
+          ne-eqb kind plainEdge not-plain,
+          ne-eqb kind groupedEdge not-grouped,
+        )
 
     pub body-high : 2 ≤ kind → 4 < kind → false ≡ bodyOk kind n
-    body-high a b = rw (ne-eqb kind 1 not-sizes, le-leb 2 kind a, lt-leb kind 4 b, ne-eqb kind 5 not-edge)
+    body-high a b =
+        rw (
+          ne-eqb kind 1 not-sizes,
+          le-leb 2 kind a,
+          lt-leb kind 4 b,
+          ne-eqb kind plainEdge not-plain,
+          ne-eqb kind groupedEdge not-grouped,
+        )
 
 -- 3: the order of the records
 module _ (c : Cursor) (r : Rule) (h : Holds r c) (kind : ℕ) (body : List ℕ) where
@@ -112,7 +118,7 @@ module _ (h : Head) (r : Rule) (h-is : h ≡ headOf r) (kind n : ℕ) (body : Li
         le-leb 2 kind a,
         le-leb kind 3 b,
         ne-eqb kind 4 (λ e. omega arith),
-        ne-eqb kind 5 (λ e. omega arith),
+        lt-leb plainEdge kind (omega arith),
         l-is,
         h-is,
         x-is,
@@ -122,45 +128,9 @@ module _ (h : Head) (r : Rule) (h-is : h ≡ headOf r) (kind n : ℕ) (body : Li
   pub range-ceiling : (x : ℕ) → kind ≡ 4 → x ≡ numberAt 0 body → ltb mostConstant x ≡ outOfRange r kind n body
   range-ceiling x e x-is = rw (e, x-is) (sym (or-none _))
 
-  module _ (not-4 : kind ≡ 4 → ⊥) (not-5 : kind ≡ 5 → ⊥) where
+  module _ (not-4 : kind ≡ 4 → ⊥) (not-edge : isEdge kind ≡ false) where
     pub range-low : kind < 2 → false ≡ outOfRange r kind n body
-    range-low a = rw (lt-leb 2 kind a, ne-eqb kind 4 not-4, ne-eqb kind 5 not-5)
+    range-low a = rw (not-edge, lt-leb 2 kind a, ne-eqb kind 4 not-4)
 
     pub range-high : 2 ≤ kind → 3 < kind → false ≡ outOfRange r kind n body
-    range-high a b = rw (le-leb 2 kind a, lt-leb kind 3 b, ne-eqb kind 4 not-4, ne-eqb kind 5 not-5)
-
--- 6 and 7 of an edge at its place: its fields, its atoms, its resets
-module _
-    (h : Head) (r : Rule) (h-is : h ≡ headOf r) {v : List ℕ} (standing : Standing v) {x : Bool}
-    (fields : x ≡ fieldsOk h v)
-  where
-    fields-known : x ≡ fieldsOk (headOf r) v
-    fields-known = fields ∙ ap (λ (y : Head). fieldsOk y v) h-is
-
-    pub edge-fields : not x ≡ true → _≡_ {A = ℕ} 6 (edgeFault r (edgeIn v))
-    unfolding edgeFault
-    edge-fields q = rw (failed fields-known q)
-
-    module _ (fields-fine : not x ≡ false) (m : ℕ) (m-is : m ≡ getD v 4 0) where
-      abbrev part-atoms : List Atom
-      part-atoms = wholeAtoms (take (edgeFields + atomWidth * m - edgeFields) (drop edgeFields v))
-
-      part-is : part-atoms ≡ edgeIn v .atoms
-      part-is = edge-part m v m-is (omega (arith, standing .wide, standing .few))
-
-      module _ (k : ℕ) (k-is : k ≡ h .clocks) {y : Bool} (atoms : y ≡ atomsOk k part-atoms) where
-        ok-known : y ≡ edgeOk r (edgeIn v)
-        ok-known =
-            let clocks : k ≡ r .clocks = k-is ∙ ap (λ (y : Head). y .clocks) h-is in
-            rw (passed fields-known fields-fine) (atoms ∙ ap₂ atomsOk clocks part-is)
-
-        pub edge-atoms : not y ≡ true → _≡_ {A = ℕ} 6 (edgeFault r (edgeIn v))
-        unfolding edgeFault
-        edge-atoms q = rw (failed ok-known q)
-
-        pub edge-resets :
-            not y ≡ false → {z : Bool} (resets : ℕ) → resets ≡ getD v 3 0 → z ≡ (eqb resets 0 || isPinned part-atoms)
-            → edgeFault r (edgeIn v) ≡ pick (not z) 7 0
-        unfolding edgeFault
-        edge-resets atoms-fine {z} resets resets-is pins =
-            rw (passed ok-known atoms-fine, sym (reset-known (edgeIn v) pins resets-is part-is)) (turned z)
+    range-high a b = rw (not-edge, le-leb 2 kind a, lt-leb kind 3 b, ne-eqb kind 4 not-4)

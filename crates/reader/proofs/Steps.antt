@@ -4,13 +4,14 @@ use mathlib.Core.Bool.{Bool, true, false, not}
 use mathlib.Core.List.{List}
 use Prim.Native.Nat.{ℕ, _+_, _-_, _%_, _^_, _≤_, _<_}
 use native.Mathlib.Omega.{arith}
-use lib.Dec.{eqb, ltb}
+use lib.Dec.{eqb, ltb, leb}
 use lib.ListN.{length, take, drop, length-drop}
-use borrow.Author.Tests.{ltb-false, leb-false, eqb-true, ne-eqb}
+use borrow.Author.Tests.{ltb-false, leb-false, eqb-true, ne-eqb, le-leb, lt-leb}
 use Rattle.model.specs.Basics.{pick, within, Refusal, refuse, _⨾_}
-use Rattle.model.specs.Rules.{Rule, mostEdges, edgeOk, integerReset}
-use Rattle.model.specs.Files.{recordHead, bodyLength, kindOf, bodyOf, edgeBody, bodyOk, cutShort, recordRefusal}
-use Rattle.model.specs.Files.{outOfOrder, oneTooMany, badSizes, outOfRange, notPinned, edgeFrom}
+use Rattle.model.specs.Rules.{Edge, Rule, plainEdge, groupedEdge, mostEdges, edgeOk, integerReset}
+use Rattle.model.specs.Files.{recordHead, numberBytes, sizesBody, fieldsBody, atomBody, mostPlainBody, mostGroupedBody}
+use Rattle.model.specs.Files.{bodyLength, kindOf, bodyOf, isEdge, plainBody, groupedBody, bodyOk, cutShort, edgeFrom}
+use Rattle.model.specs.Files.{recordRefusal, outOfOrder, oneTooMany, badSizes, outOfRange, notPinned}
 use Rattle.model.proofs.Logic.{by-test, and-left, and-right, neither-right, within-least, within-most}
 use Rattle.model.proofs.FileRecords.{Allowed}
 use Rattle.model.proofs.FileChecks.{record-allowed}
@@ -19,8 +20,7 @@ use Rattle.numbers.proofs.Parts.{part-rest}
 use Rattle.reader.specs.declared.Cursor.{Cursor}
 use Rattle.reader.specs.declared.Step.{Step}
 use Rattle.reader.specs.declared.Step.the-variants.{Next, Refused}
-use Rattle.model.specs.Files.{numberBytes, sizesBody, fieldsBody, atomBody, mostBody}
-use Rattle.reader.specs.State.{numbered, bodyRefusal, orderFault, edgeFault, Body, Room, Takes, EdgeRoom}
+use Rattle.reader.specs.State.{numbered, bodyRefusal, orderFault, faultOf, Body, Room, Takes, EdgeRoom}
 use Rattle.reader.specs.State.{EdgeIs, State, Goes-on, Stops, StepIs}
 use Rattle.reader.proofs.Allowed.{room-for, edge-zero, state-after}
 
@@ -44,21 +44,38 @@ rest-whole s e h =
     (neither-right (ltb (length s) recordHead) (ltb (length s) (recordHead + bodyLength s)) (sym e ∙ h))
 
 -- a body of a length that its kind has
-edge-least : (n : ℕ) → edgeBody n ≡ true → fieldsBody ≤ n
-edge-least n q =
-    within-least fieldsBody mostBody n
-    (and-left (within fieldsBody mostBody n) (eqb ((n - fieldsBody) % atomBody) 0) q)
+record Sizes (n : ℕ) : Type 0 where
+  least : fieldsBody ≤ n
+  most : n ≤ mostGroupedBody
 
-edge-most : (n : ℕ) → edgeBody n ≡ true → n ≤ mostBody
-edge-most n q =
-    within-most fieldsBody mostBody n
-    (and-left (within fieldsBody mostBody n) (eqb ((n - fieldsBody) % atomBody) 0) q)
+plain-sizes : (n : ℕ) → plainBody n ≡ true → Sizes n
+plain-sizes n h =
+    let a = and-left (within fieldsBody mostPlainBody n) (eqb ((n - fieldsBody) % atomBody) 0) h in
+    let most = within-most fieldsBody mostPlainBody n a in
+    record { least = within-least fieldsBody mostPlainBody n a; most = omega arith }
+
+grouped-sizes : (n : ℕ) → groupedBody n ≡ true → Sizes n
+grouped-sizes n h =
+    let a = and-left (within fieldsBody mostGroupedBody n) (eqb (n % numberBytes) 0) h in
+    record { least = within-least fieldsBody mostGroupedBody n a; most = within-most fieldsBody mostGroupedBody n a }
+
+edge-sizes : (kind n : ℕ) → plainEdge ≤ kind → bodyOk kind n ≡ true → Sizes n
+edge-sizes kind n a h =
+    let b : eqb kind 1 ≡ false = ne-eqb kind 1 (λ e. omega arith) in
+    let c : leb kind 4 ≡ false = lt-leb kind 4 (omega arith) in
+    let d : leb 2 kind ≡ true = le-leb 2 kind (omega arith) in
+    by-test (eqb kind plainEdge) (λ e. plain-sizes n (rw (b, d, c, e) at h))
+    (λ e. grouped-sizes n (and-right (eqb kind groupedEdge) (groupedBody n) (rw (b, d, c, e) at h)))
 
 body-least : (kind n : ℕ) → bodyOk kind n ≡ true → numberBytes ≤ n
 body-least kind n h =
     by-test (eqb kind 1) (λ a. omega (arith, eqb-true n sizesBody (rw a at h)))
     (λ a. by-test (within 2 4 kind) (λ b. omega (arith, eqb-true n numberBytes (rw (a, b) at h)))
-    (λ b. omega (arith, edge-least n (and-right (eqb kind 5) (edgeBody n) (rw (a, b) at h)))))
+    (λ b. by-test (eqb kind plainEdge) (λ d. omega (arith, plain-sizes n (rw (a, b, d) at h) .least))
+    (λ d. omega (
+      arith,
+      grouped-sizes n (and-right (eqb kind groupedEdge) (groupedBody n) (rw (a, b, d) at h)) .least,
+    ))))
 
 -- 3 to 5 as the code has them: the first refuses, or none does
 first-refuses :
@@ -106,16 +123,19 @@ module _ (p last : ℕ) (r : Rule) (kind n : ℕ) (body : List ℕ) where
     unfolding bodyRefusal
     later-refuses = rw (order-passes .0, order-passes .1, order-passes .2)
 
-    edge-known : kind ≡ 5 → bodyRefusal p last r kind n body ≡ numbered (edgeFault r (edgeFrom n body)) p
-    unfolding edgeFault
+    edge-known : isEdge kind ≡ true → bodyRefusal p last r kind n body ≡ numbered (faultOf r (edgeFrom kind n body)) p
+    unfolding faultOf
     edge-known k =
-        later-refuses ∙ rw k (edge-refuses (edgeOk r (edgeFrom n body)) (integerReset (edgeFrom n body)) p)
+        let low = within-least plainEdge groupedEdge kind k in
+        let e : Edge = edgeFrom kind n body in
+        later-refuses
+        ∙ rw (k, lt-leb kind 3 (omega arith), le-leb 2 kind (omega arith), ne-eqb kind 4 (λ q. omega arith))
+        (edge-refuses (edgeOk r e) (integerReset e) p)
 
-    other-known : (kind ≡ 5 → ⊥) → bodyRefusal p last r kind n body ≡ refuse (outOfRange r kind n body) 6 p
-    other-known k =
-        later-refuses ∙ other-refuses (outOfRange r kind n body) (notPinned kind n body) p (rw (ne-eqb kind 5 k))
+    other-known : isEdge kind ≡ false → bodyRefusal p last r kind n body ≡ refuse (outOfRange r kind n body) 6 p
+    other-known k = later-refuses ∙ other-refuses (outOfRange r kind n body) (notPinned kind n body) p (rw k)
 
-    edges-few : kind ≡ 5 → length (r .edges) < mostEdges
+    edges-few : isEdge kind ≡ true → length (r .edges) < mostEdges
     edges-few k = leb-false mostEdges (length (r .edges)) (rw k at (order-passes .1))
 
 -- A record that is whole and whose body has a length of its kind: size and kind are as the code read them.
@@ -227,31 +247,37 @@ module _ {file : List ℕ} {c : Cursor} {size kind : ℕ} (whole : Whole file c 
       fine = sym none ∙ f-is
 
       -- an edge
-      module _ (k : kind ≡ 5) where
-        pub edge-room : length file < 2 ^ 64 → EdgeRoom c size body t
+      module _ (k : isEdge kind ≡ true) where
+        pub edge-room : length file < 2 ^ 64 → EdgeRoom c kind size body t
         edge-room h =
-            let ok : edgeBody size ≡ true = rw k at (whole .ok) in
+            let low = within-least plainEdge groupedEdge kind k in
+            let sizes = edge-sizes kind size low (whole .ok) in
             let places = edge-zero state (edges-few (c .at) (c .last) r kind size body fine k) in
             record {
-              size-least = edge-least size ok;
-              size-most = edge-most size ok;
-              whole = body-whole;
+              known = record {
+                kind-least = low;
+                kind-most = within-most plainEdge groupedEdge kind k;
+                size-ok = whole .ok;
+                size-least = sizes .least;
+                size-most = sizes .most;
+                whole = body-whole;
+              };
               next = omega (arith, place-inside inside);
               few = places .0;
               long = state .long;
               zero = places .1;
             }
 
-        pub edge-step : (t′ : List ℕ) (x : Step) → EdgeIs r c size body t t′ x → StepIs file r c t′ x
+        pub edge-step : (t′ : List ℕ) (x : Step) → EdgeIs r c kind size body t t′ x → StepIs file r c t′ x
         edge-step t′ (Next d) h =
             let known = edge-known (c .at) (c .last) r kind size body fine k in
-            goes-on r _ known (h .fine) inside t state (rw k (h .takes))
+            goes-on r _ known (h .fine) inside t state (h .takes)
         edge-step t′ (Refused n) h =
             let known = edge-known (c .at) (c .last) r kind size body fine k in
             stops-fault r n (known ∙ ap (λ (m : ℕ). numbered m (c .at)) (h .fault)) (h .refuses)
 
       -- another record: x is what the code found for 6
-      module _ (k : kind ≡ 5 → ⊥) {x : Bool} (x-is : (n : ℕ) → x ≡ outOfRange r kind n body) where
+      module _ (k : isEdge kind ≡ false) {x : Bool} (x-is : (n : ℕ) → x ≡ outOfRange r kind n body) where
         other-found : bodyRefusal (c .at) (c .last) r kind size body ≡ refuse x 6 (c .at)
         other-found =
             other-known (c .at) (c .last) r kind size body fine k

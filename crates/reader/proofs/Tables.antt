@@ -1,13 +1,14 @@
--- The table as far as it is read: the edges' numbers, then zeros. The next edge has 29 zeros for its places, and once
+-- The table as far as it is read: the edges' numbers, then zeros. The next edge has 86 zeros for its places, and once
 -- it stands there the table is that of the rule with one edge more.
 use mathlib.Core.Path.{_≡_, refl, sym, _∙_, ap, ap₂}
+use mathlib.Core.Bool.{true}
 use mathlib.Core.List.{List, _∷_, _++_, append-assoc}
 use Prim.Native.Nat.{ℕ, zero, suc, _+_, _-_, _*_, _≤_}
 use native.Mathlib.Omega.{arith}
 use lib.ListN.{length, take, drop, length-append}
 use lib.Seq.{take-at, drop-at}
 use Rattle.model.specs.Basics.{zeros, filled}
-use Rattle.model.specs.Rules.{Edge, Rule, mostAtoms}
+use Rattle.model.specs.Rules.{Edge, Rule, sized}
 use Rattle.model.specs.Files.{withEdge}
 use Rattle.model.specs.Layout.{edgeWidth, edgeNumbers, edgesNumbers, edgeTable}
 use Rattle.model.proofs.EdgesWritten.{edge-numbers-length, edges-numbers-last}
@@ -45,8 +46,8 @@ module _ (front t : List ℕ) (n : ℕ) (wide : length front ≡ edgeWidth * n) 
       ∙ ap (λ (k : ℕ). (front ++ new) ++ zeros k) left)
 
   pub edge-more :
-      (e : Edge) → length (e .atoms) ≤ mostAtoms → tableWith n e t ≡ filled (length t) (front ++ edgeNumbers e)
-  edge-more e few = with-more (edgeNumbers e) (edge-numbers-length e few)
+      (e : Edge) → sized e ≡ true → tableWith n e t ≡ filled (length t) (front ++ edgeNumbers e)
+  edge-more e fits = with-more (edgeNumbers e) (edge-numbers-length e fits)
 
 -- the table of a rule, and with one edge more
 module _ (r : Rule) (t : List ℕ) (n : ℕ) where
@@ -56,8 +57,8 @@ module _ (r : Rule) (t : List ℕ) (n : ℕ) where
     next-zero h = edge-zero (edgesNumbers (r .edges)) t n wide is h
 
     pub table-more :
-        (e : Edge) → length (e .atoms) ≤ mostAtoms → tableWith n e t ≡ edgeTable (length t) (withEdge r e)
+        (e : Edge) → sized e ≡ true → tableWith n e t ≡ edgeTable (length t) (withEdge r e)
     unfolding edgeTable
-    table-more e few =
-        edge-more (edgesNumbers (r .edges)) t n wide is e few
+    table-more e fits =
+        edge-more (edgesNumbers (r .edges)) t n wide is e fits
         ∙ ap (filled (length t)) (sym (edges-numbers-last (r .edges) e))

@@ -1,7 +1,8 @@
 -- A record taken: what the cursor holds afterwards, for each kind, and the table with one edge more.
 use mathlib.Core.Path.{_≡_, refl, sym, _∙_, ap}
+use mathlib.Core.Bool.{true}
 use mathlib.Core.List.{List, [], _∷_, _++_, append-nil}
-use Prim.Native.Nat.{ℕ, _+_, _-_, _*_, _^_, _≤_}
+use Prim.Native.Nat.{ℕ, _+_, _-_, _*_, _^_}
 use native.Mathlib.Omega.{arith}
 use native.Mathlib.Numerals.{add-one}
 use lib.ListN.{length, take, drop, length-append}
@@ -9,17 +10,20 @@ use lib.Seq.{length-take-le, take-at, drop-at}
 use borrow.Rule.Slice.PartMut.{putMid}
 use Rattle.model.specs.declared.Head.{Head}
 use Rattle.model.specs.Basics.{zeros, maskOf}
-use Rattle.model.specs.Rules.{Edge, Rule, mostAtoms}
-use Rattle.model.specs.Files.{numberAt, recordHead, edgeFrom, withSizes, withInitial, withFinal, withEdge}
+use Rattle.model.specs.Rules.{Edge, Rule, plainEdge, groupedEdge}
+use Rattle.model.specs.Files.{numberAt, recordHead, isEdge, edgeFrom, withSizes, withInitial, withFinal, withEdge}
 use Rattle.model.specs.Files.{withRecord}
-use Rattle.model.specs.Layout.{edgeWidth, edgeNumbers, edgeIn}
+use Rattle.model.specs.Layout.{edgeWidth, headOf, edgeNumbers, edgeIn}
+use Rattle.model.proofs.Logic.{in-within}
 use Rattle.model.proofs.ValidParts.{past-last}
 use Rattle.model.proofs.MaskSets.{mask-last}
 use Rattle.model.proofs.EdgesWritten.{edge-numbers-length, edge-written}
+use Rattle.model.proofs.FileSoFar.{with-edge}
+use Rattle.checks.specs.Checks.{edgeFault}
+use Rattle.checks.proofs.EdgeChecks.{fault-of-rule}
 use Rattle.reader.specs.declared.Cursor.{Cursor}
-use Rattle.reader.specs.State.{Holds, edgeFault, Stays, Places, Standing, EdgeRoom, Takes, Edge-taken}
-use Rattle.reader.specs.State.{Edge-refused}
-use Rattle.reader.proofs.Stored.{atoms-few}
+use Rattle.reader.specs.State.{Holds, faultOf, Stays, Places, EdgeRoom, Takes, Edge-taken, Edge-refused}
+use Rattle.reader.proofs.Stored.{edge-sized}
 
 abbrev pub cursor : ℕ → ℕ → ℕ → ℕ → Head → Cursor
 cursor at last start end head = record { at = at; last = last; start = start; end = end; head = head }
@@ -89,39 +93,40 @@ module _ (c : Cursor) (r : Rule) (h : Holds r c) where
     end-is = h .end-is;
   }
 
+-- the number that the checks answer for an edge of the table is the one that refuses it
+fault-known : (h : Head) (r : Rule) (t : List ℕ) → h ≡ headOf r → edgeFault h t ≡ faultOf r (edgeIn t)
+unfolding faultOf
+fault-known h r t e =
+    fault-of-rule h r t (ap (λ (x : Head). x .locations) e) (ap (λ (x : Head). x .symbols) e)
+    (ap (λ (x : Head). x .clocks) e)
+
 -- the places of an edge in the table: n is the edge count as it was read
-module _ {c : Cursor} {size : ℕ} {body t : List ℕ} (room : EdgeRoom c size body t) (n : ℕ) (n-is : n ≡ c .head .count)
+module _
+    {c : Cursor} {kind size : ℕ} {body t : List ℕ} (room : EdgeRoom c kind size body t) (n : ℕ)
+    (n-is : n ≡ c .head .count)
   where
     width-is : edgeWidth * n + edgeWidth - edgeWidth * n ≡ edgeWidth
     width-is = omega arith
 
-    pub edge-places : Places size body (take (edgeWidth * n + edgeWidth - edgeWidth * n) (drop (edgeWidth * n) t))
+    pub edge-places :
+        Places kind size body (take (edgeWidth * n + edgeWidth - edgeWidth * n) (drop (edgeWidth * n) t))
     edge-places =
         let zero-is : take (edgeWidth * n + edgeWidth - edgeWidth * n) (drop (edgeWidth * n) t) ≡ zeros edgeWidth =
         rw (width-is, n-is) (room .zero) in
-        record {
-          size-least = room .size-least;
-          size-most = room .size-most;
-          whole = room .whole;
-          wide = ap length zero-is;
-          zero = zero-is;
-        }
+        record { known = room .known; wide = ap length zero-is; zero = zero-is }
 
     -- the table with the edge, which stands at its place
-    module _ (stored : List ℕ) (stored-is : stored ≡ edgeNumbers (edgeFrom size body)) where
+    module _ (stored : List ℕ) (stored-is : stored ≡ edgeNumbers (edgeFrom kind size body)) where
       abbrev table : List ℕ
       table = putMid (edgeWidth * n) (edgeWidth * n + edgeWidth - edgeWidth * n) t stored
 
       abbrev place : List ℕ
       place = take (edgeWidth * n + edgeWidth - edgeWidth * n) (drop (edgeWidth * n) table)
 
-      few : length (edgeFrom size body .atoms) ≤ mostAtoms
-      few = atoms-few size body (room .size-most)
-
       stored-wide : length stored ≡ edgeWidth
-      stored-wide = ap length stored-is ∙ edge-numbers-length (edgeFrom size body) few
+      stored-wide = ap length stored-is ∙ edge-numbers-length (edgeFrom kind size body) (edge-sized (room .known))
 
-      stands : place ≡ edgeNumbers (edgeFrom size body)
+      stands : place ≡ edgeNumbers (edgeFrom kind size body)
       stands =
           let front : length (take (edgeWidth * n) t) ≡ edgeWidth * n =
           length-take-le (edgeWidth * n) t (omega (arith, room .few, room .long)) in
@@ -130,28 +135,22 @@ module _ {c : Cursor} {size : ℕ} {body t : List ℕ} (room : EdgeRoom c size b
           (ap (take edgeWidth) (drop-at (take (edgeWidth * n) t) (stored ++ after) (edgeWidth * n) front)
           ∙ (take-at stored after edgeWidth stored-wide ∙ stored-is))
 
-      pub edge-standing : Standing place
-      edge-standing = record {
-        wide = ap length stands ∙ edge-numbers-length (edgeFrom size body) few;
-        few = rw stands few;
-      }
-
-      fault-is : (r : Rule) (f : ℕ) → f ≡ edgeFault r (edgeIn place) → edgeFault r (edgeFrom size body) ≡ f
-      fault-is r f e =
-          let e-is : edgeIn place ≡ edgeFrom size body =
-          ap edgeIn (stands ∙ sym (append-nil (edgeNumbers (edgeFrom size body))))
-          ∙ edge-written (edgeFrom size body) [] in
-          sym (e ∙ ap (edgeFault r) e-is)
-
       -- refused there, or taken
-      module _ (r : Rule) (f : ℕ) (f-is : f ≡ edgeFault r (edgeIn place)) where
-        pub edge-refused : (f ≡ 0 → ⊥) → Edge-refused r (edgeFrom size body) f
-        edge-refused z = record { fault = fault-is r f f-is; refuses = z }
+      module _ (r : Rule) (h : Holds r c) (f : ℕ) (f-is : f ≡ edgeFault (c .head) place) where
+        fault-is : faultOf r (edgeFrom kind size body) ≡ f
+        fault-is =
+            let e : Edge = edgeFrom kind size body in
+            let e-is : edgeIn place ≡ e =
+            ap edgeIn (stands ∙ sym (append-nil (edgeNumbers e))) ∙ edge-written e [] (edge-sized (room .known)) in
+            sym (f-is ∙ (fault-known (c .head) r place (h .head-is) ∙ ap (faultOf r) e-is))
+
+        pub edge-refused : (f ≡ 0 → ⊥) → Edge-refused r (edgeFrom kind size body) f
+        edge-refused z = record { fault = fault-is; refuses = z }
 
         pub edge-taken :
             f ≡ 0
-            → Edge-taken r c size body t table
-            (cursor (c .at + recordHead + size) 5 (c .start) (c .end)
+            → Edge-taken r c kind size body t table
+            (cursor (c .at + recordHead + size) kind (c .start) (c .end)
             (record {
               locations = c .head .locations;
               symbols = c .head .symbols;
@@ -160,16 +159,19 @@ module _ {c : Cursor} {size : ℕ} {body t : List ℕ} (room : EdgeRoom c size b
               ends = c .head .ends;
               count = c .head .count + 1;
             }))
-        unfolding withRecord
-        edge-taken z = record {
-          fine = fault-is r f f-is ∙ z;
-          takes = record {
-            at-is = omega arith;
-            last-is = refl;
-            holds = λ s h. edge-held c s h (c .at + recordHead + size) 5 (edgeFrom size body);
-            table-is = rw (width-is, n-is, stored-is);
-          };
-        }
+        edge-taken z =
+            let low = room .known .kind-least in
+            let is-edge : isEdge kind ≡ true = in-within plainEdge groupedEdge kind low (room .known .kind-most) in
+            record {
+              fine = fault-is ∙ z;
+              takes = record {
+                at-is = omega arith;
+                last-is = refl;
+                holds = λ s q. rw (with-edge s kind size body low)
+                    (edge-held c s q (c .at + recordHead + size) kind (edgeFrom kind size body));
+                table-is = rw (is-edge, width-is, n-is, stored-is);
+              };
+            }
 
 -- the cursor past a record, with what it held
 abbrev pub past : Cursor → ℕ → ℕ → Cursor

@@ -1,20 +1,20 @@
 -- A reading under way, and what each step of the code answers.
 use mathlib.Core.Path.{_≡_}
-use mathlib.Core.Bool.{not}
+use mathlib.Core.Bool.{true, not}
 use mathlib.Core.List.{List, _++_}
 use Prim.Native.Nat.{ℕ, _+_, _*_, _^_, _≤_, _<_}
 use lib.Dec.{eqb}
-use lib.ListN.{length, getD, take, drop}
+use lib.ListN.{length, take, drop}
 use Rattle.model.specs.declared.Reading.{Reading}
 use Rattle.model.specs.Basics.{pick, zeros, Refusal, refusal, refuse, _⨾_}
-use Rattle.model.specs.Rules.{Edge, Rule, mostAtoms, mostEdges, mostLocations, edgeOk, integerReset}
-use Rattle.model.specs.Files.{numberAt, recordHead, kindOf, edgeFrom, noRule, pastLast, outOfOrder, oneTooMany}
-use Rattle.model.specs.Files.{badSizes, outOfRange, notPinned, recordRefusal, withRecord, atEnd, readRule}
+use Rattle.model.specs.Rules.{Edge, Rule, plainEdge, groupedEdge, mostEdges, mostLocations, edgeOk, integerReset}
+use Rattle.model.specs.Files.{numberAt, numberBytes, recordHead, sizesBody, fieldsBody, mostGroupedBody, kindOf}
+use Rattle.model.specs.Files.{isEdge, bodyOk, edgeFrom, noRule, pastLast, outOfOrder, oneTooMany, badSizes}
+use Rattle.model.specs.Files.{outOfRange, notPinned, recordRefusal, withRecord, atEnd, readRule}
 use Rattle.model.specs.Layout.{edgeNeed, edgeWidth, headOf, noHead, edgeNumbers, edgeTable}
 use Rattle.model.specs.Promises.{readingOf}
 use Rattle.model.proofs.FileSteps.{recordLength, ruleAfter}
 use Rattle.model.proofs.FileSoFar.{So-far}
-use Rattle.model.specs.Files.{numberBytes, sizesBody, fieldsBody, mostBody}
 use Rattle.reader.specs.declared.Cursor.{Cursor}
 use Rattle.reader.specs.declared.Step.{Step}
 use Rattle.reader.specs.declared.Step.the-variants.{Next, Refused}
@@ -41,8 +41,8 @@ unfoldable pub orderFault : ℕ → Rule → ℕ → List ℕ → ℕ
 orderFault last r kind body =
     pick (outOfOrder last r kind body) 3 (pick (oneTooMany r kind) 4 (pick (badSizes kind body) 5 0))
 
-unfoldable pub edgeFault : Rule → Edge → ℕ
-edgeFault r e = pick (edgeOk r e) (pick (integerReset e) 0 7) 6
+unfoldable pub faultOf : Rule → Edge → ℕ
+faultOf r e = pick (edgeOk r e) (pick (integerReset e) 0 7) 6
 
 -- a body as long as its kind asks
 pub record Body (kind : ℕ) (body : List ℕ) : Type 0 where
@@ -54,18 +54,20 @@ pub record Stays (c d : Cursor) : Type 0 where
   pub at-is : d .at ≡ c .at
   pub last-is : d .last ≡ c .last
 
--- an edge's body, and 29 places of zeros for it
-pub record Places (size : ℕ) (body edge : List ℕ) : Type 0 where
+-- an edge's kind, and a body of a length that the kind has
+pub record Edge-body (kind size : ℕ) (body : List ℕ) : Type 0 where
+  pub kind-least : plainEdge ≤ kind
+  pub kind-most : kind ≤ groupedEdge
+  pub size-ok : bodyOk kind size ≡ true
   pub size-least : fieldsBody ≤ size
-  pub size-most : size ≤ mostBody
+  pub size-most : size ≤ mostGroupedBody
   pub whole : size ≤ length body
+
+-- 86 places of zeros for an edge
+pub record Places (kind size : ℕ) (body edge : List ℕ) : Type 0 where
+  pub known : Edge-body kind size body
   pub wide : length edge ≡ edgeWidth
   pub zero : edge ≡ zeros edgeWidth
-
--- the numbers of one edge, of at most eight atoms
-pub record Standing (edge : List ℕ) : Type 0 where
-  pub wide : length edge ≡ edgeWidth
-  pub few : getD edge 4 0 ≤ mostAtoms
 
 -- the table with one edge more, where n edges stand
 abbrev pub tableWith : ℕ → Edge → List ℕ → List ℕ
@@ -85,30 +87,28 @@ pub record Takes (c : Cursor) (kind size : ℕ) (body t t′ : List ℕ) (d : Cu
   pub at-is : d .at ≡ c .at + (recordHead + size)
   pub last-is : d .last ≡ kind
   pub holds : (r : Rule) → Holds r c → Holds (withRecord r kind size body) d
-  pub table-is : t′ ≡ pick (eqb kind 5) (tableWith (c .head .count) (edgeFrom size body) t) t
+  pub table-is : t′ ≡ pick (isEdge kind) (tableWith (c .head .count) (edgeFrom kind size body) t) t
 
 -- room for an edge, whose places are zero
-pub record EdgeRoom (c : Cursor) (size : ℕ) (body t : List ℕ) : Type 0 where
-  pub size-least : fieldsBody ≤ size
-  pub size-most : size ≤ mostBody
-  pub whole : size ≤ length body
+pub record EdgeRoom (c : Cursor) (kind size : ℕ) (body t : List ℕ) : Type 0 where
+  pub known : Edge-body kind size body
   pub next : c .at + (recordHead + size) < 2 ^ 64
   pub few : c .head .count < mostEdges
   pub long : edgeNeed ≤ length t
   pub zero : take edgeWidth (drop (edgeWidth * c .head .count) t) ≡ zeros edgeWidth
 
 -- what an edge does: it stands in the table, or is refused with 6 or 7
-pub record Edge-taken (r : Rule) (c : Cursor) (size : ℕ) (body t t′ : List ℕ) (d : Cursor) : Type 0 where
-  pub fine : edgeFault r (edgeFrom size body) ≡ 0
-  pub takes : Takes c 5 size body t t′ d
+pub record Edge-taken (r : Rule) (c : Cursor) (kind size : ℕ) (body t t′ : List ℕ) (d : Cursor) : Type 0 where
+  pub fine : faultOf r (edgeFrom kind size body) ≡ 0
+  pub takes : Takes c kind size body t t′ d
 
 pub record Edge-refused (r : Rule) (e : Edge) (n : ℕ) : Type 0 where
-  pub fault : edgeFault r e ≡ n
+  pub fault : faultOf r e ≡ n
   pub refuses : n ≡ 0 → ⊥
 
-abbrev pub EdgeIs : Rule → Cursor → ℕ → List ℕ → List ℕ → List ℕ → Step → Type 0
-EdgeIs r c size body t t′ (Next d) = Edge-taken r c size body t t′ d
-EdgeIs r c size body t t′ (Refused n) = Edge-refused r (edgeFrom size body) n
+abbrev pub EdgeIs : Rule → Cursor → ℕ → ℕ → List ℕ → List ℕ → List ℕ → Step → Type 0
+EdgeIs r c kind size body t t′ (Next d) = Edge-taken r c kind size body t t′ d
+EdgeIs r c kind size body t t′ (Refused n) = Edge-refused r (edgeFrom kind size body) n
 
 -- the rule so far: nothing, or valid in all its parts
 pub data Stage (last : ℕ) (r : Rule) : Type 0 where

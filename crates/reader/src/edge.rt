@@ -1,51 +1,38 @@
-// An edge at its place in the table: stored from its body's bytes, and checked there.
+// An edge stored at its place in the table, from its body's bytes.
 ghost use mathlib.Core.Path.{_≡_};
-ghost use Rattle.model.specs.Rules.{Rule};
 ghost use Rattle.model.specs.Files.{edgeFrom};
-ghost use Rattle.model.specs.Layout.{headOf, edgeIn, edgeNumbers};
-ghost use Rattle.reader.specs.State.{Places, Standing, edgeFault};
+ghost use Rattle.model.specs.Layout.{textCount, edgeNumbers};
+ghost use Rattle.reader.specs.State.{Places};
 use crate::bytes::copy_numbers;
-use edges::checks::atoms_ok;
-use edges::checks::fields_ok;
-use edges::pins::integer_reset;
-use model::ATOM_BODY;
 use model::ATOM_WIDTH;
 use model::EDGE_COUNT;
 use model::EDGE_FIELDS;
-use model::EDGE_RESETS;
+use model::EDGE_KIND;
+use model::EDGE_SOURCE;
 use model::FIELDS_BODY;
-use model::Head;
+use model::NUMBER_BYTES;
+use model::PLAIN_EDGE;
 use numbers::narrow16;
-use numbers::wide16;
-use numbers::wide32;
 
-// Writes an edge over 29 zeros: its four fields, its atom count, its atoms.
-pub(crate) fn store_edge(size: usize, body: &[u8], edge: &mut [u16])
-    requires { ⌜ Places size (now body) (now edge) ⌝ }
-    ensures { λ _. ⌜ now (edge .exit) ≡ edgeNumbers (edgeFrom size (now (body .entry))) ⌝ }
+// The count of an edge whose text has `length` numbers: of atoms for kind 5, of these numbers for kind 6.
+pub(crate) fn text_count(kind: usize, length: usize) -> usize
+    ensures { λ r. ⌜ r ≡ textCount kind length ⌝ }
 {
-    let count = (size - FIELDS_BODY) / ATOM_BODY;
-    copy_numbers(body, &mut edge[0..EDGE_COUNT]);
-    edge[EDGE_COUNT] = narrow16(count);
-    let past = EDGE_FIELDS + ATOM_WIDTH * count;
-    copy_numbers(&body[FIELDS_BODY..], &mut edge[EDGE_FIELDS..past]);
+    if kind == PLAIN_EDGE {
+        return length / ATOM_WIDTH;
+    }
+    length
 }
 
-// 6 for a number outside its range, 7 for resets that are not pinned; 0 for none.
-pub(crate) fn edge_fault(head: Head, edge: &[u16]) -> u8
-    requires { ⌜ Standing (now edge) ⌝ }
-    ensures { λ n. ⌜ ((r : Rule) → head ≡ headOf r → n ≡ edgeFault r (edgeIn (now (edge .entry)))) ⌝ }
+// Writes an edge over 86 zeros: its kind, its four fields, its count, its text.
+pub(crate) fn store_edge(kind: usize, size: usize, body: &[u8], edge: &mut [u16])
+    requires { ⌜ Places kind size (now body) (now edge) ⌝ }
+    ensures { λ _. ⌜ now (edge .exit) ≡ edgeNumbers (edgeFrom kind size (now (body .entry))) ⌝ }
 {
-    if !fields_ok(head, edge) {
-        return 6;
-    }
-    let past = EDGE_FIELDS + ATOM_WIDTH * wide16(edge[EDGE_COUNT]);
-    let atoms = &edge[EDGE_FIELDS..past];
-    if !atoms_ok(atoms, wide32(head.clocks)) {
-        return 6;
-    }
-    if !integer_reset(wide16(edge[EDGE_RESETS]), atoms) {
-        return 7;
-    }
-    0
+    let length = (size - FIELDS_BODY) / NUMBER_BYTES;
+    edge[EDGE_KIND] = narrow16(kind);
+    copy_numbers(body, &mut edge[EDGE_SOURCE..EDGE_COUNT]);
+    edge[EDGE_COUNT] = narrow16(text_count(kind, length));
+    let past = EDGE_FIELDS + length;
+    copy_numbers(&body[FIELDS_BODY..], &mut edge[EDGE_FIELDS..past]);
 }

@@ -1,10 +1,12 @@
 // The faults of a record, each as its own test, and the order of 3 to 5. An edge's 6 and 7 are tested at its place in
 // the table.
 ghost use mathlib.Core.Path.{_≡_};
+ghost use mathlib.Core.Bool.{false};
 ghost use Prim.Native.Nat.{ℕ, _≤_};
 ghost use lib.ListN.{length};
 ghost use Rattle.model.specs.Rules.{Rule};
-ghost use Rattle.model.specs.Files.{edgeBody, bodyOk, cutShort, outOfOrder, oneTooMany, badSizes, outOfRange};
+ghost use Rattle.model.specs.Files.{isEdge, plainBody, groupedBody, bodyOk, cutShort, outOfOrder, oneTooMany, badSizes};
+ghost use Rattle.model.specs.Files.{outOfRange};
 ghost use Rattle.model.specs.Layout.{headOf};
 ghost use Rattle.model.specs.Files.{numberBytes, sizesBody};
 ghost use Rattle.reader.specs.State.{Holds, orderFault, Body};
@@ -13,11 +15,14 @@ use crate::bytes::number_at;
 use edges::sizes_ok;
 use model::ATOM_BODY;
 use model::FIELDS_BODY;
+use model::GROUPED_EDGE;
 use model::Head;
-use model::MOST_BODY;
 use model::MOST_CONSTANT;
 use model::MOST_EDGES;
+use model::MOST_GROUPED_BODY;
+use model::MOST_PLAIN_BODY;
 use model::NUMBER_BYTES;
+use model::PLAIN_EDGE;
 use model::RECORD_HEAD;
 use model::SIZES_BODY;
 use numbers::wide32;
@@ -32,16 +37,40 @@ pub(crate) fn cut_short(rest: &[u8]) -> bool
     rest.len() < RECORD_HEAD + number_at(rest, 0)
 }
 
-pub(crate) fn edge_body(size: usize) -> bool
-    ensures { λ r. ⌜ r ≡ edgeBody size ⌝ }
+// A record of an edge, plain or with groups.
+pub(crate) fn is_edge(kind: usize) -> bool
+    ensures { λ r. ⌜ r ≡ isEdge kind ⌝ }
+{
+    if kind < PLAIN_EDGE {
+        return false;
+    }
+    kind <= GROUPED_EDGE
+}
+
+// The body of a plain edge: its fields, then whole atoms.
+pub(crate) fn plain_body(size: usize) -> bool
+    ensures { λ r. ⌜ r ≡ plainBody size ⌝ }
 {
     if size < FIELDS_BODY {
         return false;
     }
-    if MOST_BODY < size {
+    if MOST_PLAIN_BODY < size {
         return false;
     }
     (size - FIELDS_BODY) % ATOM_BODY == 0
+}
+
+// The body of an edge with groups: its fields, then whole numbers.
+pub(crate) fn grouped_body(size: usize) -> bool
+    ensures { λ r. ⌜ r ≡ groupedBody size ⌝ }
+{
+    if size < FIELDS_BODY {
+        return false;
+    }
+    if MOST_GROUPED_BODY < size {
+        return false;
+    }
+    size % NUMBER_BYTES == 0
 }
 
 // 2 where not: a kind that there is, with a body length that it has.
@@ -51,7 +80,8 @@ pub(crate) fn body_ok(kind: usize, size: usize) -> bool
     match kind {
         1 => size == SIZES_BODY,
         2 | 3 | 4 => size == NUMBER_BYTES,
-        5 => edge_body(size),
+        5 => plain_body(size),
+        6 => grouped_body(size),
         _ => false,
     }
 }
@@ -83,7 +113,7 @@ pub(crate) fn out_of_order(cursor: Cursor, kind: usize, body: &[u8]) -> bool
 pub(crate) fn one_too_many(head: Head, kind: usize) -> bool
     ensures { λ x. ⌜ ((r : Rule) → head ≡ headOf r → x ≡ oneTooMany r kind) ⌝ }
 {
-    if kind != 5 {
+    if !is_edge(kind) {
         return false;
     }
     MOST_EDGES <= wide32(head.count)
@@ -104,7 +134,7 @@ pub(crate) fn bad_sizes(kind: usize, body: &[u8]) -> bool
 pub(crate) fn out_of_range(head: Head, kind: usize, body: &[u8]) -> bool
     requires { ⌜ numberBytes ≤ length (now body) ⌝ }
     ensures { λ x. ⌜
-        ((r : Rule) → head ≡ headOf r → (kind ≡ 5 → ⊥) → (n : ℕ) → x ≡ outOfRange r kind n (now (body .entry)))
+        ((r : Rule) → head ≡ headOf r → (isEdge kind ≡ false) → (n : ℕ) → x ≡ outOfRange r kind n (now (body .entry)))
         ⌝ }
 {
     match kind {

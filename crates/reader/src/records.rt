@@ -9,12 +9,13 @@ use crate::Cursor;
 use crate::Step;
 use crate::bytes::mask_of;
 use crate::bytes::number_at;
-use crate::edge::edge_fault;
 use crate::edge::store_edge;
 use crate::faults::body_ok;
 use crate::faults::cut_short;
+use crate::faults::is_edge;
 use crate::faults::order_fault;
 use crate::faults::out_of_range;
+use checks::edge_fault;
 use model::EDGE_WIDTH;
 use model::Head;
 use model::RECORD_HEAD;
@@ -91,24 +92,24 @@ impl Cursor {
     }
 
     // An edge, stored at its place in the table and checked there.
-    pub(crate) fn take_edge(self, size: usize, body: &[u8], edges: &mut [u16]) -> Step
-        requires { ⌜ EdgeRoom self size (now body) (now edges) ⌝ }
+    pub(crate) fn take_edge(self, kind: usize, size: usize, body: &[u8], edges: &mut [u16]) -> Step
+        requires { ⌜ EdgeRoom self kind size (now body) (now edges) ⌝ }
         ensures { λ x. ⌜
             ((r : Rule) → Holds r self
-            → EdgeIs r self size (now (body .entry)) (now (edges .entry)) (now (edges .exit)) x)
+            → EdgeIs r self kind size (now (body .entry)) (now (edges .entry)) (now (edges .exit)) x)
             ⌝ }
     {
         let head = self.head;
         let first = EDGE_WIDTH * wide32(head.count);
         let past = first + EDGE_WIDTH;
-        store_edge(size, body, &mut edges[first..past]);
+        store_edge(kind, size, body, &mut edges[first..past]);
         let fault = edge_fault(head, &edges[first..past]);
         if fault != 0 {
             return Step::Refused(fault);
         }
         Step::Next(Cursor {
             at: self.at + RECORD_HEAD + size,
-            last: 5,
+            last: kind,
             start: self.start,
             end: self.end,
             head: Head {
@@ -144,8 +145,8 @@ impl Cursor {
         if fault != 0 {
             return Step::Refused(fault);
         }
-        if kind == 5 {
-            return self.take_edge(size, body, edges);
+        if is_edge(kind) {
+            return self.take_edge(kind, size, body, edges);
         }
         if out_of_range(self.head, kind, body) {
             return Step::Refused(6);

@@ -9,8 +9,8 @@ use lib.ListN.{length}
 use borrow.Author.Tests.{le-leb, leb-true, ltb-true, eq-eqb, lt-ltb, le-ltb}
 use Rattle.model.specs.declared.Head.{Head}
 use Rattle.model.specs.Basics.{filled, same, maskOf}
-use Rattle.model.specs.Rules.{Edge, rule, Rule, cm, pairCount, mostPairs, mostEdges, sizesOk, rising}
-use Rattle.model.specs.Rules.{mostClocks, mostConstant, mostLocations, edgesOk, validRule}
+use Rattle.model.specs.Rules.{Edge, rule, Rule, plainEdge, cm, pairCount, mostPairs, mostEdges, sizesOk, rising}
+use Rattle.model.specs.Rules.{mostClocks, mostConstant, mostLocations, edgesOk, kindsRise, validRule}
 use Rattle.model.specs.Layout.{edgesNumbers, edgeNeed, edgeTable, edgesIn, locationsIn, ruleIn}
 use Rattle.model.specs.Layout.{isReadable, ruleRefusal}
 use Rattle.model.specs.Promises.{ChecksRule}
@@ -49,20 +49,21 @@ mask-rises l mask h =
     (λ b. bits-rise mostLocations 0 l mask (ltb-true mask (2 ^ l) b))
 
 -- the tests in the code's order and in the definition's
-reorder : (x f g m k : Bool) → (x ≡ true → (f && m) ≡ k) → (x && f && g && true && m) ≡ (x && k && g)
-reorder false f g m k e = refl
-reorder true f g m k e = rw (← e refl) (go f g m)
+reorder : (x f u g m k : Bool) → (x ≡ true → (f && u && m) ≡ k) → (x && f && u && g && true && m) ≡ (x && k && g)
+reorder false f u g m k e = refl
+reorder true f u g m k e = rw (← e refl) (go f u g m)
   where
-    go : (f g m : Bool) → (f && g && true && m) ≡ (f && m && g)
-    go false g m = refl
-    go true false false = refl
-    go true false true = refl
-    go true true false = refl
-    go true true true = refl
+    go : (f u g m : Bool) → (f && u && g && true && m) ≡ (f && u && m && g)
+    go false u g m = refl
+    go true false g m = refl
+    go true true false false = refl
+    go true true false true = refl
+    go true true true false = refl
+    go true true true true = refl
 
 pub readable-is :
     (h : Head) (t : List ℕ) → h .starts < 2 ^ 32 → h .ends < 2 ^ 32 → edgeNeed ≤ length t
-    → isReadable h t ≡ (headGood h && edgesGood h (h .count) t && pairsGood h t)
+    → isReadable h t ≡ (headGood h && edgesGood h plainEdge (h .count) t && pairsGood h t)
 unfolding headGood ruleIn validRule edgeTable isReadable
 readable-is h t p q long =
     let x : Bool =
@@ -76,15 +77,16 @@ readable-is h t p q long =
       eq-eqb (maskOf (locationsIn (h .ends))) (h .ends) (mask-again (h .ends) q),
     )
     (reorder (x && leb (h .count) mostEdges) (edgesOk (ruleIn h t) (edgesIn (h .count) t))
-    (leb (pairCount (ruleIn h t)) mostPairs) (same (edgeTable (length t) (ruleIn h t)) t)
-    (edgesGood h (h .count) t)
+    (kindsRise plainEdge (edgesIn (h .count) t)) (leb (pairCount (ruleIn h t)) mostPairs)
+    (same (edgeTable (length t) (ruleIn h t)) t)
+    (edgesGood h plainEdge (h .count) t)
     (λ e. let few : h .count ≤ mostEdges = leb-true (h .count) mostEdges (and-right x (leb (h .count) mostEdges) e) in
-    edges-same h (locationsIn (h .starts)) (locationsIn (h .ends)) (edgesIn (h .count) t) (h .count) t
+    edges-same h (locationsIn (h .starts)) (locationsIn (h .ends)) (edgesIn (h .count) t) plainEdge (h .count) t
     (omega arith)))
 
 -- N, where head record and edge table are good: sizes in range, and cm at most the largest constant
 good-top :
-    (h : Head) (t : List ℕ) → Good-head h → edgeNeed ≤ length t → edgesGood h (h .count) t ≡ true
+    (h : Head) (t : List ℕ) → Good-head h → edgeNeed ≤ length t → edgesGood h plainEdge (h .count) t ≡ true
     → cm (ruleIn h t) ≤ mostConstant
 unfolding cm ruleIn
 good-top h t good long q =
@@ -92,11 +94,15 @@ good-top h t good long q =
     let f : List ℕ = locationsIn (h .ends) in
     let es : List Edge = edgesIn (h .count) t in
     let r : Rule = rule (h .locations) (h .symbols) (h .clocks) i f es in
-    let both = edges-same h i f es (h .count) t (omega (arith, good .count-most)) ∙ q in
-    edges-top r es (and-left (edgesOk r es) (same (filled (length t) (edgesNumbers es)) t) both)
+    let all = edges-same h i f es plainEdge (h .count) t (omega (arith, good .count-most)) ∙ q in
+    let kinds : Bool = kindsRise plainEdge es in
+    edges-top r es
+    (and-left (edgesOk r es) kinds
+    (and-left (edgesOk r es && kinds) (same (filled (length t) (edgesNumbers es)) t) all))
 
 pub pairs-good :
-    (h : Head) (t : List ℕ) (p : ℕ) → headGood h ≡ true → edgeNeed ≤ length t → edgesGood h (h .count) t ≡ true
+    (h : Head) (t : List ℕ) (p : ℕ) → headGood h ≡ true → edgeNeed ≤ length t
+    → edgesGood h plainEdge (h .count) t ≡ true
     → p ≡ smallPairs h t
     → leb p mostPairs ≡ pairsGood h t
 pairs-good h t p q long edges e =

@@ -1,5 +1,5 @@
--- The edge table that its own rule becomes is the lent table exactly if every unused place is zero: the places of the
--- atoms that an edge does not have, and all places past the last edge.
+-- The edge table that its own rule becomes is the lent table exactly if every unused place is zero: the places of text
+-- that an edge does not have, and all places past the last edge.
 use mathlib.Core.Path.{_≡_, refl, sym, _∙_, ap}
 use mathlib.Core.Bool.{Bool, true, false, _&&_}
 use mathlib.Core.List.{List, [], _∷_, _++_, append-assoc}
@@ -7,21 +7,20 @@ use Prim.Native.Nat.{ℕ, zero, suc, _+_, _-_, _*_, _≤_}
 use native.Mathlib.Omega.{arith}
 use lib.Dec.{eqb, leb}
 use lib.ListN.{length, getD, take, drop, length-append, length-drop, take-append-drop}
-use lib.Seq.{length-take-le, take-add}
-use borrow.Author.Tests.{eq-eqb, leb-true}
-use Rattle.model.specs.Basics.{same, zeros, filled}
+use lib.Seq.{getD-take, length-take-le, take-add}
+use borrow.Author.Tests.{eq-eqb}
+use Rattle.model.specs.Basics.{pick, same, zeros, filled}
 use Rattle.model.specs.declared.Head.{Head}
-use Rattle.model.specs.Rules.{Edge, rule, mostAtoms, atomsOk, integerReset, edgesOk}
-use Rattle.model.specs.Files.{atomNumbers}
-use Rattle.model.specs.Layout.{edgeFields, atomWidth, edgeWidth, atomsIn, edgeIn, edgesIn, edgeNumbers, edgesNumbers}
-use Rattle.model.proofs.Logic.{same-self}
-use Rattle.model.proofs.EdgeTable.{atoms-length}
+use Rattle.model.specs.Rules.{Edge, Rule, rule, integerReset, sized, edgeOk, edgesOk, kindsRise}
+use Rattle.model.specs.Layout.{edgeFields, edgeWidth, textCount, textLength, edgeIn, edgesIn, edgeNumbers, edgesNumbers}
+use Rattle.model.proofs.Logic.{same-equal, same-self, same-truth, and-left, and-right, and-both}
 use Rattle.model.proofs.EdgesWritten.{edge-numbers-length}
 use Rattle.numbers.specs.Lent.{allZero}
 use Rattle.numbers.proofs.Zeros.{same-zeros}
-use Rattle.edges.specs.Checks.{fieldsOk}
-use Rattle.edges.proofs.EdgeChecks.{atom-numbers}
-use Rattle.rule.specs.Checks.{unusedZero, edgeGood, edgesGood}
+use Rattle.checks.specs.Checks.{edgeFault}
+use Rattle.checks.proofs.EdgeChecks.{fault-of-rule}
+use Rattle.rule.specs.Checks.{countOk, unusedZero, edgeGood, edgesGood}
+use Rattle.rule.proofs.Counts.{textPlaces, counted, sized-counted, text-long}
 
 -- two lists in two parts each
 same-parts :
@@ -37,59 +36,82 @@ same-parts (x ∷ a) (y ∷ c) b d h = go (eqb x y) (same-parts a c b d (omega a
     go true e = e
     go false e = refl
 
--- the places of an edge's atoms: those that it has, then zeros
-abbrev atomPlaces : ℕ
-atomPlaces = edgeWidth - edgeFields
-
-atoms-same :
-    (n : ℕ) (t : List ℕ) → atomPlaces ≤ length t → n ≤ mostAtoms
-    → same (filled atomPlaces (atomNumbers (atomsIn n t))) (take atomPlaces t)
-    ≡ allZero (take (atomPlaces - atomWidth * n) (drop (atomWidth * n) t))
-atoms-same n t h m =
-    let numbers : atomNumbers (atomsIn n t) ≡ take (atomWidth * n) t = atom-numbers n t (omega arith) in
-    let long : length (take (atomWidth * n) t) ≡ atomWidth * n = length-take-le (atomWidth * n) t (omega arith) in
-    let past : length (take (atomPlaces - atomWidth * n) (drop (atomWidth * n) t)) ≡ atomPlaces - atomWidth * n =
-    length-take-le (atomPlaces - atomWidth * n) (drop (atomWidth * n) t)
-    (rw (length-drop (atomWidth * n) t) (omega arith)) in
-    let e : atomPlaces ≡ atomWidth * n + (atomPlaces - atomWidth * n) = omega arith in
-    let split :
-    take atomPlaces t ≡ take (atomWidth * n) t ++ take (atomPlaces - atomWidth * n) (drop (atomWidth * n) t) =
-    ap (λ (k : ℕ). take k t) e ∙ take-add (atomWidth * n) (atomPlaces - atomWidth * n) t in
+-- the places of an edge's text: the n numbers that it has, then zeros
+text-same :
+    (n : ℕ) (t : List ℕ) → textPlaces ≤ length t → n ≤ textPlaces
+    → same (filled textPlaces (take n t)) (take textPlaces t) ≡ allZero (take (textPlaces - n) (drop n t))
+text-same n t h m =
+    let unused : List ℕ = take (textPlaces - n) (drop n t) in
+    let long : length (take n t) ≡ n = length-take-le n t (omega arith) in
+    let past : length unused ≡ textPlaces - n =
+    length-take-le (textPlaces - n) (drop n t) (rw (length-drop n t) (omega arith)) in
+    let e : textPlaces ≡ n + (textPlaces - n) = omega arith in
+    let split : take textPlaces t ≡ take n t ++ unused =
+    ap (λ (k : ℕ). take k t) e ∙ take-add n (textPlaces - n) t in
     rw (
-      numbers,
       long,
       split,
-      same-parts (take (atomWidth * n) t) (take (atomWidth * n) t) (zeros (atomPlaces - atomWidth * n))
-          (take (atomPlaces - atomWidth * n) (drop (atomWidth * n) t)) refl,
-      same-self (take (atomWidth * n) t),
+      same-parts (take n t) (take n t) (zeros (textPlaces - n)) unused refl,
+      same-self (take n t),
     )
-    (ap (λ (k : ℕ). same (zeros k) (take (atomPlaces - atomWidth * n) (drop (atomWidth * n) t))) (sym past)
-    ∙ same-zeros (take (atomPlaces - atomWidth * n) (drop (atomWidth * n) t)))
+    (ap (λ (k : ℕ). same (zeros k) unused) (sym past) ∙ same-zeros unused)
 
--- one edge
-pub edge-same :
-    (t : List ℕ) → edgeWidth ≤ length t → getD t 4 0 ≤ mostAtoms
-    → same (edgeNumbers (edgeIn t)) (take edgeWidth t)
-    ≡ unusedZero t
-edge-same [] h m = absurd (omega arith)
-edge-same (a ∷ []) h m = absurd (omega arith)
-edge-same (a ∷ b ∷ []) h m = absurd (omega arith)
-edge-same (a ∷ b ∷ c ∷ []) h m = absurd (omega arith)
-edge-same (a ∷ b ∷ c ∷ d ∷ []) h m = absurd (omega arith)
-edge-same (a ∷ b ∷ c ∷ d ∷ n ∷ t) h m =
-    let fields : edgeFields + atomWidth * n ≡ suc (suc (suc (suc (suc (atomWidth * n))))) = omega arith in
-    let past : edgeWidth - (edgeFields + atomWidth * n) ≡ atomPlaces - atomWidth * n = omega arith in
+-- one edge of a kind and a count in their ranges
+counted-same :
+    (t : List ℕ) → edgeWidth ≤ length t → countOk (getD t 0 0) (getD t 5 0) ≡ true
+    → same (edgeNumbers (edgeIn t)) (take edgeWidth t) ≡ unusedZero t
+counted-same [] h ok = absurd (omega arith)
+counted-same (k ∷ []) h ok = absurd (omega arith)
+counted-same (k ∷ a ∷ []) h ok = absurd (omega arith)
+counted-same (k ∷ a ∷ b ∷ []) h ok = absurd (omega arith)
+counted-same (k ∷ a ∷ b ∷ c ∷ []) h ok = absurd (omega arith)
+counted-same (k ∷ a ∷ b ∷ c ∷ d ∷ []) h ok = absurd (omega arith)
+counted-same (k ∷ a ∷ b ∷ c ∷ d ∷ n ∷ t) h ok =
+    let m : ℕ = textLength k n in
+    let fields : edgeFields + m ≡ suc (suc (suc (suc (suc (suc m))))) = omega arith in
+    let past : edgeWidth - (edgeFields + m) ≡ textPlaces - m = omega arith in
+    let long : length (take m t) ≡ m = text-long (k ∷ a ∷ b ∷ c ∷ d ∷ n ∷ t) h ok in
+    let again : textCount k (length (take m t)) ≡ n = ap (textCount k) long ∙ counted k n ok .count-again in
     rw (
       past,
       fields,
+      again,
+      eq-eqb k k refl,
       eq-eqb a a refl,
       eq-eqb b b refl,
       eq-eqb c c refl,
       eq-eqb d d refl,
-      atoms-length n t,
       eq-eqb n n refl,
     )
-    (atoms-same n t (omega arith) m)
+    (text-same m t (omega arith) (counted k n ok .length-most))
+
+-- an edge whose size is one of its kind: the count in the table is that of its text
+same-count :
+    (t : List ℕ) → sized (edgeIn t) ≡ true → same (edgeNumbers (edgeIn t)) (take edgeWidth t) ≡ true
+    → countOk (getD t 0 0) (getD t 5 0) ≡ true
+same-count t s q =
+    let e : textCount (getD t 0 0) (length (edgeIn t .text)) ≡ getD t 5 0 =
+    ap (λ (l : List ℕ). getD l 5 0) (same-equal (edgeNumbers (edgeIn t)) (take edgeWidth t) q)
+    ∙ getD-take edgeWidth t 5 0 (omega arith) in
+    rw e at (sized-counted (edgeIn t) s)
+
+-- one edge
+edge-same :
+    (t : List ℕ) → edgeWidth ≤ length t
+    → (sized (edgeIn t) && same (edgeNumbers (edgeIn t)) (take edgeWidth t))
+    ≡ (countOk (getD t 0 0) (getD t 5 0) && unusedZero t)
+edge-same t h =
+    let s : Bool = sized (edgeIn t) in
+    let y : Bool = same (edgeNumbers (edgeIn t)) (take edgeWidth t) in
+    let m : Bool = countOk (getD t 0 0) (getD t 5 0) in
+    same-truth (s && y) (m && unusedZero t)
+    (λ q.
+    let ok = same-count t (and-left s y q) (and-right s y q) in
+    and-both m (unusedZero t) ok (sym (counted-same t h ok) ∙ and-right s y q))
+    (λ q.
+    let ok = and-left m (unusedZero t) q in
+    and-both s y (counted (getD t 0 0) (getD t 5 0) ok .is-sized (edgeIn t) refl (text-long t h ok))
+    (counted-same t h ok ∙ and-right m (unusedZero t) q))
 
 -- the first edge, and the rest
 table-parts :
@@ -104,47 +126,75 @@ table-parts xs ys t e h =
     ∙ (rw (left, append-assoc xs ys (zeros (length (drop edgeWidth t) - length ys)))
     (same-parts xs (take edgeWidth t) (ys ++ zeros (length (drop edgeWidth t) - length ys)) (drop edgeWidth t) front))
 
-swapped : (q s w : Bool) → (q && (s && w)) ≡ (s && (q && w))
-swapped true s w = refl
-swapped false true w = refl
-swapped false false w = refl
+-- no fault is every number in range and the resets pinned
+fault-none : (a b : Bool) → (a && b) ≡ eqb (pick a (pick b 0 7) 6) 0
+fault-none true true = refl
+fault-none true false = refl
+fault-none false b = refl
 
 -- the tests in the code's order and in the definition's
 regroup :
-    (f a p m q s w g z : Bool) → (m ≡ true → z ≡ (s && w)) → (q && w) ≡ g
-    → ((f && a && p && m && q) && z) ≡ ((f && m && a && p && s) && g)
-regroup false a p m q s w g z split e = refl
-regroup true false p false q s w g z split e = refl
-regroup true true false false q s w g z split e = refl
-regroup true true true false q s w g z split e = refl
-regroup true false p true q s w g z split e = refl
-regroup true true false true q s w g z split e = refl
-regroup true true true true q s w g z split e = rw (split refl, ← e) (swapped q s w)
+    (v s q l u z y w m n g : Bool) → (s ≡ true → z ≡ (y && w)) → (s && y) ≡ (m && n) → (q && u && w) ≡ g
+    → (v && s && q && (l && u) && z) ≡ (l && (m && v && n) && g)
+regroup v s q l u z y w m n g split counts rest =
+    same-truth (v && s && q && (l && u) && z) (l && (m && v && n) && g) forth back
+  where
+    forth : (v && s && q && (l && u) && z) ≡ true → (l && (m && v && n) && g) ≡ true
+    forth h =
+        let h4 : (v && s && q && (l && u)) ≡ true = and-left (v && s && q && (l && u)) z h in
+        let h3 : (v && s && q) ≡ true = and-left (v && s && q) (l && u) h4 in
+        let h2 : (v && s) ≡ true = and-left (v && s) q h3 in
+        let k : (l && u) ≡ true = and-right (v && s && q) (l && u) h4 in
+        let yes-s : s ≡ true = and-right v s h2 in
+        let e : (y && w) ≡ true = sym (split yes-s) ∙ and-right (v && s && q && (l && u)) z h in
+        let c : (m && n) ≡ true = sym counts ∙ and-both s y yes-s (and-left y w e) in
+        let r : g ≡ true =
+        sym rest
+        ∙ and-both (q && u) w (and-both q u (and-right (v && s) q h3) (and-right l u k)) (and-right y w e) in
+        rw (and-left l u k, and-left m n c, and-left v s h2, and-right m n c, r)
 
--- all edges, then the places past them
+    back : (l && (m && v && n) && g) ≡ true → (v && s && q && (l && u) && z) ≡ true
+    back h =
+        let h2 : (l && (m && v && n)) ≡ true = and-left (l && (m && v && n)) g h in
+        let a : (m && v && n) ≡ true = and-right l (m && v && n) h2 in
+        let b : (m && v) ≡ true = and-left (m && v) n a in
+        let c : (s && y) ≡ true = counts ∙ and-both m n (and-left m v b) (and-right (m && v) n a) in
+        let r : (q && u && w) ≡ true = rest ∙ and-right (l && (m && v && n)) g h in
+        let r2 : (q && u) ≡ true = and-left (q && u) w r in
+        let yes-s : s ≡ true = and-left s y c in
+        let e : z ≡ true = split yes-s ∙ and-both y w (and-right s y c) (and-right (q && u) w r) in
+        rw (
+          and-right m v b,
+          yes-s,
+          and-left q u r2,
+          and-left l (m && v && n) h2,
+          and-right q u r2,
+          e,
+        )
+
+-- all edges, of kinds that never fall, then the places past them
 pub edges-same :
-    (h : Head) (i f : List ℕ) (es : List Edge) (n : ℕ) (t : List ℕ) → edgeWidth * n ≤ length t
-    → (edgesOk (rule (h .locations) (h .symbols) (h .clocks) i f es) (edgesIn n t)
+    (h : Head) (i f : List ℕ) (es : List Edge) (least n : ℕ) (t : List ℕ) → edgeWidth * n ≤ length t
+    → (edgesOk (rule (h .locations) (h .symbols) (h .clocks) i f es) (edgesIn n t) && kindsRise least (edgesIn n t)
     && same (filled (length t) (edgesNumbers (edgesIn n t))) t)
-    ≡ edgesGood h n t
+    ≡ edgesGood h least n t
 unfolding edgesNumbers edgeGood edgesGood
-edges-same h i f es zero t b = let z : length t - 0 ≡ length t = omega arith in rw z (same-zeros t)
-edges-same h i f es (suc n) t b =
+edges-same h i f es least zero t b = let z : length t - 0 ≡ length t = omega arith in rw z (same-zeros t)
+edges-same h i f es least (suc n) t b =
+    let r : Rule = rule (h .locations) (h .symbols) (h .clocks) i f es in
     let e : Edge = edgeIn t in
-    let few : leb (length (e .atoms)) mostAtoms ≡ leb (getD t 4 0) mostAtoms =
-    ap (λ (k : ℕ). leb k mostAtoms) (atoms-length (getD t 4 0) (drop edgeFields t)) in
-    let fields : Bool = fieldsOk h t in
-    let atoms : Bool = atomsOk (h .clocks) (e .atoms) in
-    let unused : Bool = unusedZero t in
     let rest : List Edge = edgesIn n (drop edgeWidth t) in
-    let rest-good : Bool = edgesOk (rule (h .locations) (h .symbols) (h .clocks) i f es) rest in
     let rest-same : Bool = same (filled (length (drop edgeWidth t)) (edgesNumbers rest)) (drop edgeWidth t) in
-    regroup fields atoms (integerReset e) (leb (length (e .atoms)) mostAtoms) rest-good unused rest-same
-    (edgesGood h n (drop edgeWidth t)) (same (filled (length t) (edgeNumbers e ++ edgesNumbers rest)) t)
-    (λ q.
-    let m : length (e .atoms) ≤ mostAtoms = leb-true (length (e .atoms)) mostAtoms q in
-    table-parts (edgeNumbers e) (edgesNumbers rest) t (edge-numbers-length e m) (omega arith)
-    ∙ ap (λ (x : Bool). x && rest-same) (edge-same t (omega arith) (leb-true (getD t 4 0) mostAtoms (sym few ∙ q))))
-    (edges-same h i f es n (drop edgeWidth t) (rw (length-drop edgeWidth t) (omega arith)))
-    ∙ ap (λ (x : Bool). (fields && x && atoms && integerReset e && unused) && edgesGood h n (drop edgeWidth t))
-    few
+    let fault : (edgeOk r e && integerReset e) ≡ eqb (edgeFault h t) 0 =
+    fault-none (edgeOk r e) (integerReset e) ∙ ap (λ (k : ℕ). eqb k 0) (sym (fault-of-rule h r t refl refl refl)) in
+    ap
+    (λ (x : Bool).
+    x && sized e && edgesOk r rest && (leb least (e .kind) && kindsRise (e .kind) rest)
+    && same (filled (length t) (edgeNumbers e ++ edgesNumbers rest)) t)
+    fault
+    ∙ regroup (eqb (edgeFault h t) 0) (sized e) (edgesOk r rest) (leb least (e .kind)) (kindsRise (e .kind) rest)
+    (same (filled (length t) (edgeNumbers e ++ edgesNumbers rest)) t) (same (edgeNumbers e) (take edgeWidth t))
+    rest-same (countOk (getD t 0 0) (getD t 5 0)) (unusedZero t) (edgesGood h (getD t 0 0) n (drop edgeWidth t))
+    (λ s. table-parts (edgeNumbers e) (edgesNumbers rest) t (edge-numbers-length e s) (omega arith))
+    (edge-same t (omega arith))
+    (edges-same h i f es (getD t 0 0) n (drop edgeWidth t) (rw (length-drop edgeWidth t) (omega arith)))

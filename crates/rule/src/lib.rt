@@ -3,28 +3,29 @@
 ghost use mathlib.Core.Path.{_≡_};
 ghost use Prim.Native.Nat.{_≤_};
 ghost use lib.ListN.{length};
-ghost use Rattle.model.specs.Rules.{mostEdges};
+ghost use Rattle.model.specs.Rules.{plainEdge, mostEdges};
 ghost use Rattle.model.specs.Layout.{edgeNeed, edgeWidth, isReadable};
 ghost use Rattle.model.specs.Promises.{ChecksRule};
 ghost use Rattle.numbers.specs.Lent.{allZero};
-ghost use Rattle.rule.specs.Checks.{headGood, edgeGood, edgesGood};
-use edges::checks::atoms_ok;
-use edges::checks::fields_ok;
+ghost use Rattle.rule.specs.Checks.{headGood, countOk, edgeGood, edgesGood};
+use checks::edge_fault;
 use edges::fields::count_of;
-use edges::fields::resets_of;
+use edges::fields::kind_of;
+use edges::fields::text_of;
 use edges::mask_ok;
 use edges::pairs_of;
-use edges::pins::integer_reset;
 use edges::sizes_ok;
-use model::ATOM_WIDTH;
 use model::Answer;
 use model::EDGE_FIELDS;
 use model::EDGE_NEED;
 use model::EDGE_WIDTH;
+use model::GROUPED_EDGE;
 use model::Head;
 use model::MOST_ATOMS;
 use model::MOST_EDGES;
 use model::MOST_PAIRS;
+use model::MOST_TEXT;
+use model::PLAIN_EDGE;
 use numbers::wide32;
 
 // Refusal 20 or 21, or none.
@@ -81,24 +82,44 @@ pub(crate) fn head_ok(head: Head) -> bool
     wide32(head.count) <= MOST_EDGES
 }
 
-// Every edge, then zeros up to the end of the table. An edge is handed on at its fixed length, so that reading it
-// needs no tests of that.
+// Every edge, of a kind not below the one before, then zeros up to the end of the table. An edge is handed on at its
+// fixed length.
 pub(crate) fn edges_ok(head: Head, edges: &[u16]) -> bool
     requires { ⌜ (head .count ≤ mostEdges) × (edgeNeed ≤ length (now edges)) ⌝ }
-    ensures { λ r. ⌜ r ≡ edgesGood head (head .count) (now (edges .entry)) ⌝ }
+    ensures { λ r. ⌜ r ≡ edgesGood head plainEdge (head .count) (now (edges .entry)) ⌝ }
 {
     let count = wide32(head.count);
+    let mut last = PLAIN_EDGE;
     let mut e: usize = 0;
     while e < count {
         let at = EDGE_WIDTH * e;
         let end = at + EDGE_WIDTH;
-        if !edge_ok(head, &edges[at..end]) {
+        let edge = &edges[at..end];
+        let kind = kind_of(edge, 0);
+        if kind < last {
             return false;
         }
+        if !edge_ok(head, edge) {
+            return false;
+        }
+        last = kind;
         e += 1;
     }
     let past = EDGE_WIDTH * count;
     all_zero(&edges[past..])
+}
+
+// A kind that edges have, and a count that the kind has.
+pub(crate) fn count_ok(kind: usize, count: usize) -> bool
+    ensures { λ r. ⌜ r ≡ countOk kind count ⌝ }
+{
+    if kind == PLAIN_EDGE {
+        return count <= MOST_ATOMS;
+    }
+    if kind != GROUPED_EDGE {
+        return false;
+    }
+    count <= MOST_TEXT
 }
 
 // The edge at the front of a table.
@@ -106,21 +127,14 @@ pub(crate) fn edge_ok(head: Head, edge: &[u16]) -> bool
     requires { ⌜ edgeWidth ≤ length (now edge) ⌝ }
     ensures { λ r. ⌜ r ≡ edgeGood head (now (edge .entry)) ⌝ }
 {
-    if !fields_ok(head, edge) {
+    if !count_ok(kind_of(edge, 0), count_of(edge, 0)) {
         return false;
     }
-    let count = count_of(edge, 0);
-    if MOST_ATOMS < count {
+    if edge_fault(head, edge) != 0 {
         return false;
     }
-    let past = EDGE_FIELDS + ATOM_WIDTH * count;
-    let atoms = &edge[EDGE_FIELDS..past];
-    if !atoms_ok(atoms, wide32(head.clocks)) {
-        return false;
-    }
-    if !integer_reset(resets_of(edge, 0), atoms) {
-        return false;
-    }
+    let text = text_of(edge, 0);
+    let past = EDGE_FIELDS + text.len();
     all_zero(&edge[past..EDGE_WIDTH])
 }
 

@@ -7,13 +7,13 @@ use lib.ListN.{length, drop, length-append}
 use borrow.Author.Tests.{eqb-true, eqb-false}
 use Rattle.model.specs.declared.Head.{Head}
 use Rattle.model.specs.Basics.{pick, bit, bitsFrom}
-use Rattle.model.specs.Rules.{mostAtoms, mostLocations}
+use Rattle.model.specs.Rules.{mostLocations, mostText}
 use Rattle.model.specs.Files.{edgeRecord, edgeRecords, ruleBytes}
 use Rattle.model.specs.Layout.{edgeWidth, edgeAt, edgesIn, locationsIn, ruleIn}
 use Rattle.model.proofs.Logic.{by-test}
 use Rattle.model.proofs.FileLengths.{file-length}
 use Rattle.model.proofs.FileRead.{edge-record-length}
-use Rattle.model.specs.Files.{atomBody}
+use Rattle.model.specs.Files.{numberBytes}
 use Rattle.writer.specs.Writing.{sizesLength, singleLength, edgeLength, Table}
 use Rattle.writer.proofs.Records.{bits-rest, bits-none, edge-records-rest, edge-records-none}
 
@@ -49,7 +49,7 @@ module _ {mask i count : ℕ} (inv : Counted mask i count) where
 -- the lengths of the edges so far, and of those still to come
 pub record Summed (count : ℕ) (t : List ℕ) (e sum : ℕ) : Type 0 where
   pub turns : e ≤ count
-  pub few : sum ≤ (edgeLength + atomBody * mostAtoms) * e
+  pub few : sum ≤ (edgeLength + numberBytes * mostText) * e
   pub rest-is :
       sum + length (edgeRecords (edgesIn (count - e) (drop (edgeWidth * e) t)))
       ≡ length (edgeRecords (edgesIn count t))
@@ -61,9 +61,10 @@ summed-start count t =
 
 module _ {count e sum : ℕ} {t : List ℕ} (inv : Summed count t e sum) where
   pub summed-next :
-      (atoms : ℕ) → e < count → length (edgeAt e t .atoms) ≤ mostAtoms → atoms ≡ length (edgeAt e t .atoms)
-      → Summed count t (e + 1) (sum + (edgeLength + atomBody * atoms))
-  summed-next atoms h few a =
+      {text : List ℕ} → e < count → length (edgeAt e t .text) ≤ mostText → text ≡ edgeAt e t .text
+      → Summed count t (e + 1) (sum + (edgeLength + numberBytes * length text))
+  summed-next {text} h few is =
+      let long : length text ≡ length (edgeAt e t .text) = ap length is in
       let one : List ℕ = edgeRecord (edgeAt e t) in
       let later : List ℕ = edgeRecords (edgesIn (count - (e + 1)) (drop (edgeWidth * (e + 1)) t)) in
       record {

@@ -7,18 +7,16 @@ use Prim.Native.Nat.{ℕ, suc, _+_, _-_, _*_, _≤_, _<_}
 use native.Mathlib.Omega.{arith}
 use native.Mathlib.Numerals.{add-one}
 use lib.ListN.{length, getD, take, drop, length-drop, drop-of-length-le}
-use lib.Seq.{drop-cons, length-take-le}
+use lib.Seq.{drop-cons}
 use Rattle.model.specs.Basics.{pick, bit, bitsFrom}
-use Rattle.model.specs.Rules.{Edge, mostAtoms, mostLocations}
-use Rattle.model.specs.Files.{two, numbers, locationRecords, atomNumbers, edgeRecord, edgeRecords}
-use Rattle.model.specs.Layout.{edgeFields, atomWidth, edgeWidth, edgeIn, edgesIn}
+use Rattle.model.specs.Rules.{mostLocations, mostText}
+use Rattle.model.specs.Files.{two, numbers, locationRecords, edgeRecord, edgeRecords}
+use Rattle.model.specs.Layout.{edgeWidth, edgeIn, edgesIn}
 use Rattle.model.proofs.Bytes.{numbers-length}
-use Rattle.model.proofs.EdgeTable.{edges-rest, atoms-length}
+use Rattle.model.proofs.EdgeTable.{edges-rest}
 use Rattle.model.proofs.FileRead.{edge-record-length}
-use Rattle.numbers.proofs.Parts.{part-whole}
-use Rattle.edges.proofs.EdgeChecks.{fields-taken, atom-numbers}
-use Rattle.rule.proofs.Laws.{edge-front}
-use Rattle.model.specs.Files.{numberBytes, fieldsBody, atomBody}
+use Rattle.numbers.proofs.Parts.{part-rest}
+use Rattle.model.specs.Files.{numberBytes, fieldsBody}
 use Rattle.writer.specs.Writing.{Puts, Table}
 use Rattle.writer.proofs.Putting.{Putting, then-put, put-wide, putting-start, putting-room, putting-next}
 
@@ -120,60 +118,48 @@ pub edge-records-none : (n e : ℕ) (t : List ℕ) → n ≤ e → edgeRecords (
 unfolding edgeRecords
 edge-records-none n e t h = let z : n - e ≡ 0 = omega arith in rw z
 
--- an edge's places: four numbers, the atom count, three numbers per atom
+-- an edge's places: its kind, four numbers, its text
+four-taken :
+    (t : List ℕ) → 5 ≤ length t → take 4 (drop 1 t) ≡ getD t 1 0 ∷ getD t 2 0 ∷ getD t 3 0 ∷ getD t 4 0 ∷ []
+four-taken [] h = absurd (omega arith)
+four-taken (k ∷ []) h = absurd (omega arith)
+four-taken (k ∷ a ∷ []) h = absurd (omega arith)
+four-taken (k ∷ a ∷ b ∷ []) h = absurd (omega arith)
+four-taken (k ∷ a ∷ b ∷ c ∷ []) h = absurd (omega arith)
+four-taken (k ∷ a ∷ b ∷ c ∷ d ∷ t) h = refl
+
 module _
-    (t : List ℕ) (count : ℕ) (long : edgeWidth ≤ length t) (few : length (edgeIn t .atoms) ≤ mostAtoms)
-    (count-read : count ≡ length (edgeIn t .atoms))
+    (t : List ℕ) {text : List ℕ} {kind : ℕ} (long : edgeWidth ≤ length t) (text-read : text ≡ edgeIn t .text)
+    (kind-read : kind ≡ edgeIn t .kind)
   where
-    count-is : count ≡ getD t 4 0
-    count-is = count-read ∙ atoms-length (getD t 4 0) (drop edgeFields t)
-
-    past-is : edgeFields + atomWidth * count - edgeFields ≡ atomWidth * count
-    past-is = omega arith
-
-    atoms-are : take (atomWidth * count) (drop edgeFields t) ≡ atomNumbers (edgeIn t .atoms)
-    atoms-are =
-        rw count-is
-        (sym (atom-numbers (getD t 4 0) (drop edgeFields t) (omega (arith, length-drop edgeFields t, count-is))))
-
     record-is :
-        numbers ((fieldsBody + atomBody * count) ∷ 5 ∷ [])
-        ++ (numbers (take 4 t) ++ numbers (take (edgeFields + atomWidth * count - edgeFields) (drop edgeFields t)))
+        numbers ((fieldsBody + numberBytes * length text) ∷ kind ∷ []) ++ (numbers (take 4 (drop 1 t)) ++ numbers text)
         ≡ edgeRecord (edgeIn t)
-    record-is = rw (past-is, atoms-are, fields-taken t (omega arith), count-read)
+    record-is = rw (text-read, kind-read, four-taken t (omega arith))
 
-    pub edge-put :
-        {out out₁ out₂ out₃ : List ℕ} {at n₁ n₂ n₃ : ℕ}
-        → Puts (numbers ((fieldsBody + atomBody * count) ∷ 5 ∷ [])) out at out₁ n₁
-        → Puts (numbers (take 4 t)) out₁ n₁ out₂ n₂
-        → Puts (numbers (take (edgeFields + atomWidth * count - edgeFields) (drop edgeFields t))) out₂ n₂ out₃ n₃
-        → Puts (edgeRecord (edgeIn t)) out at out₃ n₃
-    edge-put p q r = rw (← record-is) (then-put p (then-put q r))
-
-    pub atoms-room :
+    module _
         {out out₁ out₂ : List ℕ} {at n₁ n₂ : ℕ}
-        → Puts (numbers ((fieldsBody + atomBody * count) ∷ 5 ∷ [])) out at out₁ n₁
-        → Puts (numbers (take 4 t)) out₁ n₁ out₂ n₂
-        → at + length (edgeRecord (edgeIn t)) ≤ length out
-        → n₂ + numberBytes * length (take (edgeFields + atomWidth * count - edgeFields) (drop edgeFields t))
-        ≤ length out₂
-    atoms-room p q room =
-        let fields : length (take 4 t) ≡ 4 = length-take-le 4 t (omega arith) in
-        let fields-written = numbers-length (take 4 t) in
-        let atoms : length (take (atomWidth * count) (drop edgeFields t)) ≡ atomWidth * count =
-        length-take-le (atomWidth * count) (drop edgeFields t) (omega (arith, length-drop edgeFields t)) in
-        rw past-is
-        (omega (
-          arith,
-          atoms,
-          fields,
-          p .next-is,
-          q .next-is,
-          put-wide p,
-          put-wide q,
-          edge-record-length (edgeIn t),
-          count-read,
-        ))
+        (p : Puts (numbers ((fieldsBody + numberBytes * length text) ∷ kind ∷ [])) out at out₁ n₁)
+        (q : Puts (numbers (take 4 (drop 1 t))) out₁ n₁ out₂ n₂)
+      where
+        pub edge-put :
+            {out₃ : List ℕ} {n₃ : ℕ} → Puts (numbers text) out₂ n₂ out₃ n₃ → Puts (edgeRecord (edgeIn t)) out at out₃ n₃
+        edge-put r = rw (← record-is) (then-put p (then-put q r))
+
+        pub text-room :
+            at + length (edgeRecord (edgeIn t)) ≤ length out → n₂ + numberBytes * length text ≤ length out₂
+        text-room room =
+            omega (
+              arith,
+              ap length (four-taken t (omega arith)),
+              numbers-length (take 4 (drop 1 t)),
+              ap length text-read,
+              p .next-is,
+              q .next-is,
+              put-wide p,
+              put-wide q,
+              edge-record-length (edgeIn t),
+            )
 
 -- the edges of a table, one by one
 pub edges-begin :
@@ -183,47 +169,32 @@ edges-begin count t out at room =
     let z : count - 0 ≡ count = omega arith in
     rw z (putting-start (edgeRecords (edgesIn count t)) out at room)
 
--- the part of the table that is lent for edge e
-abbrev part : List ℕ → ℕ → List ℕ
-part t e = take (edgeWidth * e + edgeWidth - edgeWidth * e) (drop (edgeWidth * e) t)
-
 module _
     (t : List ℕ) (count e : ℕ) {all was out : List ℕ} {at next : ℕ}
     (inv : Putting all (edgeRecords (edgesIn (count - e) (drop (edgeWidth * e) t))) was at out next) (h : e < count)
     (table : Table count t)
   where
-    long : edgeWidth ≤ length (drop (edgeWidth * e) t)
-    long = omega (arith, length-drop (edgeWidth * e) t, table .long, table .count-most)
+    -- the part of the table that is lent for edge e
+    abbrev part : List ℕ
+    part = take (length t - edgeWidth * e) (drop (edgeWidth * e) t)
 
-    edge-is : edgeIn (part t e) ≡ edgeIn (drop (edgeWidth * e) t)
-    edge-is =
-        ap edgeIn (part-whole t (edgeWidth * e) edgeWidth)
-        ∙ edge-front (drop (edgeWidth * e) t) long
-        (omega (
-          arith,
-          table .few e h,
-          atoms-length (getD (drop (edgeWidth * e) t) 4 0) (drop edgeFields (drop (edgeWidth * e) t)),
-        ))
-
-    wide : edgeWidth ≤ length (part t e)
-    wide =
-        rw (part-whole t (edgeWidth * e) edgeWidth)
-        (omega (arith, length-take-le edgeWidth (drop (edgeWidth * e) t) long))
+    part-is : part ≡ drop (edgeWidth * e) t
+    part-is = part-rest (edgeWidth * e) t
 
     pub edge-fits :
-        (edgeWidth ≤ length (part t e)) × (length (edgeIn (part t e) .atoms) ≤ mostAtoms)
-        × (next + length (edgeRecord (edgeIn (part t e))) ≤ length out)
-    edge-fits = (
-      wide,
-      subst (λ (x : Edge). length (x .atoms) ≤ mostAtoms) (sym edge-is) (table .few e h),
-      subst (λ (x : Edge). next + length (edgeRecord x) ≤ length out) (sym edge-is)
-          (putting-room inv (edgeRecord (edgeIn (drop (edgeWidth * e) t)))
-          (edgeRecords (edgesIn (count - (e + 1)) (drop (edgeWidth * (e + 1)) t))) (edge-records-rest count e t h)),
-    )
+        (edgeWidth ≤ length part) × (length (edgeIn part .text) ≤ mostText)
+        × (next + length (edgeRecord (edgeIn part)) ≤ length out)
+    edge-fits =
+        rw part-is (
+          omega (arith, length-drop (edgeWidth * e) t, table .long, table .count-most),
+          table .few e h,
+          putting-room inv (edgeRecord (edgeIn (drop (edgeWidth * e) t)))
+              (edgeRecords (edgesIn (count - (e + 1)) (drop (edgeWidth * (e + 1)) t))) (edge-records-rest count e t h),
+        )
 
     pub edge-next :
-        {next′ : ℕ} {out′ : List ℕ} → Puts (edgeRecord (edgeIn (part t e))) out next out′ next′
+        {next′ : ℕ} {out′ : List ℕ} → Puts (edgeRecord (edgeIn part)) out next out′ next′
         → Putting all (edgeRecords (edgesIn (count - (e + 1)) (drop (edgeWidth * (e + 1)) t))) was at out′ next′
     edge-next {next′} {out′} p =
         putting-next inv (edge-records-rest count e t h)
-        (subst (λ (x : Edge). Puts (edgeRecord x) out next out′ next′) edge-is p)
+        (subst (λ (l : List ℕ). Puts (edgeRecord (edgeIn l)) out next out′ next′) part-is p)

@@ -11,7 +11,7 @@ use borrow.Author.Tests.{ltb-false, lt-ltb, le-ltb, ne-eqb}
 use Rattle.model.specs.declared.Head.{Head}
 use Rattle.model.specs.declared.Answer.{Answer}
 use Rattle.model.specs.Basics.{Refusal, refusal, fine, refuse, _⨾_}
-use Rattle.model.specs.Rules.{Edge, mostAtoms}
+use Rattle.model.specs.Rules.{Edge, mostText}
 use Rattle.model.specs.Runs.{noEdge}
 use Rattle.model.specs.Files.{ruleBytes}
 use Rattle.model.specs.Layout.{edgeNeed, edgeAt, edgesIn, ruleIn, isReadable, ruleRefusal}
@@ -21,19 +21,21 @@ use Rattle.model.proofs.Refusals.{refused-false, first-passes, on-pass, both-fi
 use Rattle.model.proofs.Answers.{number-is, first-refuses, answers}
 use Rattle.model.proofs.Inputs.{passed-valid}
 use Rattle.model.proofs.Valid.{Valid}
+use Rattle.model.proofs.ValidParts.{sized-of}
 use Rattle.model.proofs.EdgeTable.{edges-length, edge-at}
 use Rattle.writer.specs.Writing.{Puts, Writable}
 
 module _ (h : Head) (t : List ℕ) where
-  -- an edge of a valid rule has at most 8 atoms
-  atoms-few :
-      Valid (ruleIn h t) → (e : ℕ) → e < h .count → length (edgeAt e t .atoms) ≤ mostAtoms
+  -- an edge of a valid rule has a text of at most 80 numbers
+  text-few :
+      Valid (ruleIn h t) → (e : ℕ) → e < h .count → length (edgeAt e t .text) ≤ mostText
   unfolding ruleIn
-  atoms-few v e q =
+  text-few v e q =
       let es : List Edge = edgesIn (h .count) t in
       let inside : In (getD es e noEdge) es = in-at noEdge es e (omega (arith, edges-length (h .count) t)) in
       let is-one : getD es e noEdge ≡ edgeAt e t = edge-at (h .count) e t q in
-      subst (λ (x : Edge). length (x .atoms) ≤ mostAtoms) is-one (v .edges-in (getD es e noEdge) inside .atoms-most)
+      subst (λ (x : Edge). length (x .text) ≤ mostText) is-one
+      (sized-of (getD es e noEdge) (v .edges-in (getD es e noEdge) inside .is-sized) .length-most)
 
   long-table : ruleRefusal h t .number ≡ 0 → edgeNeed ≤ length t
   unfolding ruleRefusal
@@ -51,7 +53,7 @@ module _ (h : Head) (t : List ℕ) where
     table = record {
       count-most = omega (arith, v .edges-most, edges-length (h .count) t);
       long = long;
-      few = atoms-few v;
+      few = text-few v;
     };
   }
 

@@ -5,11 +5,11 @@ use Prim.Native.Nat.{ℕ, _+_, _≤_, _<_}
 use lib.ListN.{length}
 use lib.Seq.{sets}
 use Rattle.model.specs.declared.Head.{Head}
-use Rattle.model.specs.Rules.{mostAtoms, mostClocks, mostEdges, mostLocations, mostSymbols}
+use Rattle.model.specs.Rules.{mostClocks, mostEdges, mostLocations, mostSymbols, mostText}
 use Rattle.model.specs.Files.{recordHead, numberBytes, sizesBody, fieldsBody, ruleBytes}
 use Rattle.model.specs.Layout.{edgeNeed, edgeAt, ruleIn}
 
--- bytes of whole records: of the sizes, of one number, of an edge without atoms
+-- bytes of whole records: of the sizes, of one number, of an edge without text
 abbrev pub sizesLength : ℕ
 sizesLength = recordHead + sizesBody
 
@@ -24,11 +24,11 @@ pub record Puts (bytes out : List ℕ) (at : ℕ) (out′ : List ℕ) (next : �
   pub next-is : next ≡ at + length bytes
   pub out-is : out′ ≡ sets out at bytes
 
--- at most 256 edges of at most 8 atoms
+-- at most 256 edges, each with a text of at most 80 numbers
 pub record Table (count : ℕ) (edges : List ℕ) : Type 0 where
   pub count-most : count ≤ mostEdges
   pub long : edgeNeed ≤ length edges
-  pub few : (e : ℕ) → e < count → length (edgeAt e edges .atoms) ≤ mostAtoms
+  pub few : (e : ℕ) → e < count → length (edgeAt e edges .text) ≤ mostText
 
 -- a head record whose numbers take two bytes, with such a table
 pub record Writable (head : Head) (edges : List ℕ) : Type 0 where

@@ -4,19 +4,18 @@ ghost use mathlib.Core.List.{[], _∷_};
 ghost use Prim.Native.Nat.{_+_, _*_, _^_, _≤_, _<_};
 ghost use lib.ListN.{length};
 ghost use Rattle.model.specs.Basics.{pick, bit};
-ghost use Rattle.model.specs.Rules.{mostAtoms, mostEdges, mostLocations};
+ghost use Rattle.model.specs.Rules.{mostEdges, mostLocations, mostText};
 ghost use Rattle.model.specs.Files.{recordHead, two, numbers, locationRecords, edgeRecord, edgeRecords, ruleBytes};
 ghost use Rattle.model.specs.Layout.{edgeWidth, edgeIn, edgesIn, locationsIn, ruleIn};
 ghost use Rattle.model.specs.Promises.{WritesRule};
-ghost use Rattle.model.specs.Files.{numberBytes, sizesBody, atomBody};
+ghost use Rattle.model.specs.Files.{numberBytes, sizesBody};
 ghost use Rattle.writer.specs.Writing.{sizesLength, singleLength, edgeLength};
 ghost use Rattle.writer.specs.Writing.{Puts, Table, Writable, Fits};
-use edges::fields::count_of;
-use model::ATOM_BODY;
-use model::ATOM_WIDTH;
+use edges::fields::kind_of;
+use edges::fields::text_of;
 use model::Answer;
 use model::EDGE_COUNT;
-use model::EDGE_FIELDS;
+use model::EDGE_SOURCE;
 use model::EDGE_WIDTH;
 use model::FIELDS_BODY;
 use model::Head;
@@ -29,7 +28,7 @@ use numbers::wide16;
 use numbers::wide32;
 use rule::check_rule;
 
-// Bytes of whole records: of the sizes, of one number, of an edge without atoms.
+// Bytes of whole records: of the sizes, of one number, of an edge without text.
 const SIZES_LENGTH: usize = 10;
 
 const SINGLE_LENGTH: usize = 6;
@@ -127,22 +126,22 @@ pub(crate) fn put_locations(out: &mut [u8], at: usize, kind: usize, mask: usize)
     next
 }
 
-// The edge at the front of a table: its four numbers, then three numbers per atom.
+// The edge at the front of a table, of either kind: its four numbers, then its text.
 pub(crate) fn put_edge(out: &mut [u8], at: usize, edge: &[u16]) -> usize
     requires { ⌜
-        (edgeWidth ≤ length (now edge)) × (length (edgeIn (now edge) .atoms) ≤ mostAtoms)
+        (edgeWidth ≤ length (now edge)) × (length (edgeIn (now edge) .text) ≤ mostText)
         × (at + length (edgeRecord (edgeIn (now edge))) ≤ length (now out))
         ⌝ }
     ensures { λ r. ⌜ Puts (edgeRecord (edgeIn (now (edge .entry)))) (now (out .entry)) at (now (out .exit)) r ⌝ }
 {
-    let count = count_of(edge, 0);
-    let past = EDGE_FIELDS + ATOM_WIDTH * count;
-    let fields = put_start(out, at, FIELDS_BODY + ATOM_BODY * count, 5);
-    let atoms = put_numbers(out, fields, &edge[0..EDGE_COUNT]);
-    put_numbers(out, atoms, &edge[EDGE_FIELDS..past])
+    let text = text_of(edge, 0);
+    let kind = kind_of(edge, 0);
+    let size = FIELDS_BODY + NUMBER_BYTES * text.len();
+    let fields = put_start(out, at, size, kind);
+    let after = put_numbers(out, fields, &edge[EDGE_SOURCE..EDGE_COUNT]);
+    put_numbers(out, after, text)
 }
 
-// An edge is handed on at its fixed length, so that reading it needs no test of that.
 pub(crate) fn put_edges(out: &mut [u8], at: usize, edges: &[u16], count: usize) -> usize
     requires { ⌜
         Table count (now edges) × (at + length (edgeRecords (edgesIn count (now edges))) ≤ length (now out))
@@ -155,8 +154,7 @@ pub(crate) fn put_edges(out: &mut [u8], at: usize, edges: &[u16], count: usize) 
     let mut e: usize = 0;
     while e < count {
         let first = EDGE_WIDTH * e;
-        let end = first + EDGE_WIDTH;
-        next = put_edge(out, next, &edges[first..end]);
+        next = put_edge(out, next, &edges[first..]);
         e += 1;
     }
     next
@@ -197,13 +195,13 @@ pub(crate) fn edges_length(edges: &[u16], count: u32) -> usize
     requires { ⌜ Table count (now edges) ⌝ }
     ensures { λ r. ⌜
         (r ≡ length (edgeRecords (edgesIn count (now (edges .entry)))))
-        × (r ≤ (edgeLength + atomBody * mostAtoms) * mostEdges)
+        × (r ≤ (edgeLength + numberBytes * mostText) * mostEdges)
         ⌝ }
 {
     let mut length: usize = 0;
     let mut e: u32 = 0;
     while e < count {
-        length += EDGE_LENGTH + ATOM_BODY * count_of(edges, e);
+        length += EDGE_LENGTH + NUMBER_BYTES * text_of(edges, e).len();
         e += 1;
     }
     length

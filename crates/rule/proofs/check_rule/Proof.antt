@@ -6,7 +6,7 @@ use Rattle.rule.proofs.check_rule.Statement.{statement}
 use Rattle.rule.proofs.check_rule.Tie as tie
 
 returns : tie.Need-returns
-returns c = answers-short _ _ (c .if1 .taken)
+returns c = answers-short _ _ (search needs)
 
 readable-requires : tie.Need-readable-requires
 readable-requires c κs = search needs

@@ -1,171 +1,98 @@
 -- `rule::edge_ok` meets its contract: its tests in the definition's order.
-use mathlib.Core.Path.{_≡_, sym, _∙_}
-use mathlib.Core.Bool.{_&&_}
+use mathlib.Core.Path.{_≡_, _∙_, ap₂}
+use Prim.Native.Nat.{_+_, _≤_}
+use native.Mathlib.Omega.{arith}
+use lib.ListN.{length, getD}
 use borrow.Author.Needs.{needs}
-use Rattle.model.specs.Rules.{atomsOk, integerReset}
-use Rattle.model.specs.Layout.{edgeIn}
+use Rattle.model.specs.Layout.{edgeFields, edgeWidth}
 use Rattle.numbers.proofs.Answers.{failed, passed}
-use Rattle.rule.specs.Checks.{unusedZero, edgeGood}
-use Rattle.rule.proofs.Laws.{count-high, count-low, edge-atoms, edge-reset, edge-unused}
+use Rattle.rule.specs.Checks.{countOk}
+use Rattle.rule.proofs.Laws.{miscounted, faulty, text-inside, unused-last}
 use Rattle.rule.proofs.edge_ok.Statement.{statement}
 use Rattle.rule.proofs.edge_ok.Tie as tie
 
--- fields in range and at most 8 atoms: the rest decides
-few-at :
-    (c : tie.Else2)
-    → let a = c .before .before .before .before .before .args in
-    edgeGood (a .head) (a .edge .now)
-    ≡ (atomsOk (a .head .clocks) (edgeIn (a .edge .now) .atoms) && integerReset (edgeIn (a .edge .now))
-    && unusedZero (a .edge .now))
-unfolding edgeGood
-few-at c =
-    let counted = c .before in
-    let fields = counted .before .before in
-    let start = fields .before .before in
-    rw (
-      passed (fields .fields-ok .ensures) (counted .before .if1 .left),
-      count-low (start .args .head) (start .args .edge .now) (start .pre) _ (counted .count-of .ensures .0)
-          (c .if2 .left),
-    )
+-- what the test of kind and count found, of the edge's own numbers
+count-at :
+    (c : tie.After-count-ok)
+    → let edge = c .before .before .before .before .args .edge .now in
+    c .count-ok .result ≡ countOk (getD edge 0 0) (getD edge 5 0)
+count-at c =
+    c .count-ok .ensures ∙ ap₂ countOk (c .before .before .kind-of .ensures .0) (c .before .count-of .ensures .0)
 
--- what the tests of the atoms found
-atoms-at :
-    (c : tie.After-atoms-ok)
-    → let a = c .before .before .before .before .before .before .before .before .args in
-    c .atoms-ok .result ≡ atomsOk (a .head .clocks) (edgeIn (a .edge .now) .atoms)
-atoms-at c =
-    let counted = c .before .before .before .before in
-    let start = counted .before .before .before .before in
-    edge-atoms (start .args .head) (start .args .edge .now) (start .pre) _ (counted .count-of .ensures .0)
-    (c .before .before .before .if2 .left) _ (c .before .wide32 .ensures .0) (c .atoms-ok .ensures)
+-- the text ends inside the edge's places
+text-at : (c : tie.After-text-of) → edgeFields + length (c .text-of .result .now) ≤ edgeWidth
+text-at c =
+    let right = c .before .before .before in
+    let count = right .before in
+    let start = count .before .before .before .before in
+    text-inside (start .args .edge .now) (passed (count-at count) (right .if1 .left)) (start .pre) _
+    (c .text-of .ensures)
 
--- each atom in range: the resets and the unused places decide
-ranged-at :
-    (c : tie.Else3)
-    → let a = c .before .before .before .before .before .before .before .before .before .args in
-    edgeGood (a .head) (a .edge .now) ≡ (integerReset (edgeIn (a .edge .now)) && unusedZero (a .edge .now))
-ranged-at c =
-    let atoms = c .before in
-    few-at (atoms .before .before .before) ∙ rw (passed (atoms-at atoms) (c .if3 .left))
-
--- what the test of the resets found
-reset-at :
-    (c : tie.After-integer-reset)
-    → let a = c .before .before .before .before .before .before .before .before .before .before .before .args in
-    c .integer-reset .result ≡ integerReset (edgeIn (a .edge .now))
-reset-at c =
-    let few = c .before .before .before .before .before .before in
-    let counted = few .before in
-    let start = counted .before .before .before .before in
-    edge-reset (start .args .head) (start .args .edge .now) (start .pre) _ (counted .count-of .ensures .0)
-    (few .if2 .left) _ (c .before .resets-of .ensures .0) (c .integer-reset .ensures)
-
-fields-ok-requires : tie.Need-fields-ok-requires
-fields-ok-requires c κs = search needs
-
-returns : tie.Need-returns
-unfolding edgeGood
-returns c = rw (failed (c .before .fields-ok .ensures) (c .if1 .taken))
+kind-of-requires : tie.Need-kind-of-requires
+kind-of-requires c κs = search needs
 
 count-of-requires : tie.Need-count-of-requires
 count-of-requires c κs = search needs
 
-returns-2 : tie.Need-returns-2
-unfolding edgeGood
-returns-2 c =
-    let counted = c .before in
-    let fields = counted .before .before in
-    let start = fields .before .before in
-    rw (
-      passed (fields .fields-ok .ensures) (counted .before .if1 .left),
-      count-high (start .args .head) (start .args .edge .now) (start .pre) _ (counted .count-of .ensures .0)
-          (c .if2 .taken),
-    )
+count-ok-requires : tie.Need-count-ok-requires
+count-ok-requires c κs = search needs
 
-mul-past : tie.Need-mul-past
-mul-past c = search needs
+returns : tie.Need-returns
+returns c = miscounted _ _ (failed (count-at (c .before)) (c .if1 .taken))
+
+edge-fault-requires : tie.Need-edge-fault-requires
+edge-fault-requires c κs = search needs
+
+returns-2 : tie.Need-returns-2
+returns-2 c =
+    let right = c .before .before in
+    faulty _ _ (passed (count-at (right .before)) (right .if1 .left)) _ (c .before .edge-fault .ensures) (omega arith)
+
+text-of-requires : tie.Need-text-of-requires
+text-of-requires c κs = search needs
 
 add-past : tie.Need-add-past
 add-past c = search needs
-
-sub-atoms : tie.Need-sub-atoms
-sub-atoms c = search needs
-
-part-atoms-start : tie.Need-part-atoms-start
-part-atoms-start c = search needs
-
-part-atoms-end : tie.Need-part-atoms-end
-part-atoms-end c = search needs
-
-wide32-requires : tie.Need-wide32-requires
-wide32-requires c κs = search needs
-
-atoms-ok-requires : tie.Need-atoms-ok-requires
-atoms-ok-requires c κs = search needs
-
-returns-3 : tie.Need-returns-3
-returns-3 c =
-    let atoms = c .before in
-    sym (few-at (atoms .before .before .before) ∙ rw (failed (atoms-at atoms) (c .if3 .taken)))
-
-resets-of-requires : tie.Need-resets-of-requires
-resets-of-requires c κs = search needs
-
-integer-reset-requires : tie.Need-integer-reset-requires
-integer-reset-requires c κs = search needs
-
-returns-4 : tie.Need-returns-4
-returns-4 c =
-    let reset = c .before in
-    sym (ranged-at (reset .before .before) ∙ rw (failed (reset-at reset) (c .if4 .taken)))
 
 mul-all-zero : tie.Need-mul-all-zero
 mul-all-zero c = search needs
 
 sub-all-zero : tie.Need-sub-all-zero
-sub-all-zero c = search needs
+sub-all-zero c = omega (arith, text-at c)
 
 part-all-zero-start : tie.Need-part-all-zero-start
-part-all-zero-start c = search needs
+part-all-zero-start c = omega (arith, text-at c)
 
 part-all-zero-end : tie.Need-part-all-zero-end
-part-all-zero-end c = search needs
+part-all-zero-end c = omega (arith, text-at c)
 
 all-zero-requires : tie.Need-all-zero-requires
 all-zero-requires c κs = search needs
 
-returns-5 : tie.Need-returns-5
-returns-5 c =
-    let reset = c .before .before .before in
-    let few = reset .before .before .before .before .before .before in
-    let counted = few .before in
-    let start = counted .before .before .before .before in
-    edge-unused (start .args .head) (start .args .edge .now) (start .pre) _ (counted .count-of .ensures .0)
-    (few .if2 .left) (c .all-zero .ensures)
-    ∙ sym (ranged-at (reset .before .before) ∙ rw (passed (reset-at reset) (c .before .before .if4 .left)))
+returns-3 : tie.Need-returns-3
+returns-3 c =
+    let text = c .before .before in
+    let right = text .before .before .before in
+    let count = right .before in
+    unused-last _ (passed (count-at count) (right .if1 .left)) (count .before .before .before .before .pre) _
+    (text .text-of .ensures) _ _ (text .before .before .edge-fault .ensures) (text .before .if2 .left)
+    (c .all-zero .ensures)
 
 pub edge-ok-spec : {M : Type 1} → statement M
 edge-ok-spec =
     tie.close
     (tie.spec
-    fields-ok-requires
-    returns
+    kind-of-requires
     count-of-requires
+    count-ok-requires
+    returns
+    edge-fault-requires
     returns-2
-    mul-past
+    text-of-requires
     add-past
-    sub-atoms
-    part-atoms-start
-    part-atoms-end
-    wide32-requires
-    atoms-ok-requires
-    returns-3
-    resets-of-requires
-    integer-reset-requires
-    returns-4
     mul-all-zero
     sub-all-zero
     part-all-zero-start
     part-all-zero-end
     all-zero-requires
-    returns-5)
+    returns-3)

@@ -1,15 +1,15 @@
--- `rule::edges_ok` meets its contract: the edges passed are good, so that the rest decides.
+-- `rule::edges_ok` meets its contract: the edges passed are good, of kinds that never fall, so that the rest decides.
 use Prim.Native.Nat.{_-_}
 use borrow.Author.Needs.{needs}
-use Rattle.rule.proofs.Laws.{Edges, edges-start, edges-fail, edges-next, edges-end}
+use Rattle.rule.proofs.Laws.{Edges, edges-start, edges-fall, edges-fail, edges-next, edges-end}
 use Rattle.rule.proofs.edges_ok.Statement.{statement}
 use Rattle.rule.proofs.edges_ok.Tie as tie
 
 abbrev Inv-loop : tie.InvT-loop
-Inv-loop head edges count e₀ e = Edges head count e edges
+Inv-loop head edges count last₀ e₀ last e = Edges head count e last edges
 
 abbrev μ-loop : tie.MeasureT-loop
-μ-loop head edges count e₀ e = count - e
+μ-loop head edges count last₀ e₀ last e = count - e
 
 wide32-requires : tie.Need-wide32-requires Inv-loop μ-loop
 wide32-requires c κs = search needs
@@ -23,26 +23,37 @@ mul-at c = search needs
 add-end : tie.Need-add-end Inv-loop μ-loop
 add-end c = search needs
 
-mul-edge-ok : tie.Need-mul-edge-ok Inv-loop μ-loop
-mul-edge-ok c = search needs
+mul-edge : tie.Need-mul-edge Inv-loop μ-loop
+mul-edge c = search needs
 
-sub-edge-ok : tie.Need-sub-edge-ok Inv-loop μ-loop
-sub-edge-ok c = search needs
+sub-edge : tie.Need-sub-edge Inv-loop μ-loop
+sub-edge c = search needs
 
-part-edge-ok-start : tie.Need-part-edge-ok-start Inv-loop μ-loop
-part-edge-ok-start c = search needs
+part-edge-start : tie.Need-part-edge-start Inv-loop μ-loop
+part-edge-start c = search needs
 
-part-edge-ok-end : tie.Need-part-edge-ok-end Inv-loop μ-loop
-part-edge-ok-end c = search needs
+part-edge-end : tie.Need-part-edge-end Inv-loop μ-loop
+part-edge-end c = search needs
+
+kind-of-requires : tie.Need-kind-of-requires Inv-loop μ-loop
+kind-of-requires c κs = search needs
+
+returns : tie.Need-returns Inv-loop μ-loop
+returns c =
+    let kind = c .before in
+    let at-loop = kind .before .before .before in
+    edges-fall (at-loop .loop .inv) (search needs) (search needs) _ (kind .kind-of .ensures .0) (c .if1 .taken)
+    (at-loop .before .wide32 .ensures .0)
 
 edge-ok-requires : tie.Need-edge-ok-requires Inv-loop μ-loop
 edge-ok-requires c κs = search needs
 
-returns : tie.Need-returns Inv-loop μ-loop
-returns c =
-    let at-loop = c .before .before .before .before in
-    edges-fail (at-loop .loop .inv) (search needs) (search needs) (c .before .edge-ok .ensures) (c .if1 .taken)
-    (at-loop .before .wide32 .ensures .0)
+returns-2 : tie.Need-returns-2 Inv-loop μ-loop
+returns-2 c =
+    let high = c .before .before in
+    let at-loop = high .before .before .before .before in
+    edges-fail (at-loop .loop .inv) (search needs) (search needs) _ (high .before .kind-of .ensures .0)
+    (high .if1 .left) (c .before .edge-ok .ensures) (c .if2 .taken) (at-loop .before .wide32 .ensures .0)
 
 add-e : tie.Need-add-e Inv-loop μ-loop
 add-e c = search needs
@@ -52,9 +63,10 @@ loop-less c = search needs
 
 loop-again : tie.Need-loop-again Inv-loop μ-loop
 loop-again c =
-    let edge-ok = c .before .edge-ok in
-    let l = c .before .before .before .before .loop in
-    edges-next (l .inv) (search needs) (search needs) (edge-ok .ensures) (c .if1 .left)
+    let high = c .before .before in
+    let at-loop = high .before .before .before .before in
+    edges-next (at-loop .loop .inv) (search needs) (search needs) _ (high .before .kind-of .ensures .0)
+    (high .if1 .left) (c .before .edge-ok .ensures) (c .if2 .left)
 
 mul-past : tie.Need-mul-past Inv-loop μ-loop
 mul-past c = search needs
@@ -74,11 +86,10 @@ part-all-zero-end c = search needs
 all-zero-requires : tie.Need-all-zero-requires Inv-loop μ-loop
 all-zero-requires c κs = search needs
 
-returns-2 : tie.Need-returns-2 Inv-loop μ-loop
-returns-2 c =
-    let l = c .before .before .before .loop in
-    let wide32 = c .before .before .before .before .wide32 in
-    edges-end (l .inv) (search needs) (c .all-zero .ensures) (wide32 .ensures .0)
+returns-3 : tie.Need-returns-3 Inv-loop μ-loop
+returns-3 c =
+    let at-loop = c .before .before .before in
+    edges-end (at-loop .loop .inv) (search needs) (c .all-zero .ensures) (at-loop .before .wide32 .ensures .0)
 
 pub edges-ok-spec : {M : Type 1} → statement M
 edges-ok-spec =
@@ -90,12 +101,14 @@ edges-ok-spec =
     loop-holds
     mul-at
     add-end
-    mul-edge-ok
-    sub-edge-ok
-    part-edge-ok-start
-    part-edge-ok-end
-    edge-ok-requires
+    mul-edge
+    sub-edge
+    part-edge-start
+    part-edge-end
+    kind-of-requires
     returns
+    edge-ok-requires
+    returns-2
     add-e
     loop-less
     loop-again
@@ -105,4 +118,4 @@ edges-ok-spec =
     part-all-zero-start
     part-all-zero-end
     all-zero-requires
-    returns-2)
+    returns-3)

@@ -1,26 +1,33 @@
--- `writer::put_edge` meets its contract: body length and kind, the four numbers, the atoms.
-use Rattle.writer.proofs.Records.{edge-put, atoms-room}
+-- `writer::put_edge` meets its contract: body length and kind, the four numbers, the text.
+use mathlib.Core.Path.{ap}
+use native.Mathlib.Omega.{arith}
+use lib.ListN.{length}
+use Rattle.model.specs.Layout.{edgeIn}
+use Rattle.model.proofs.FileRead.{edge-record-length}
+use Rattle.writer.proofs.Records.{edge-put, text-room}
 use borrow.Author.Needs.{needs}
 use Rattle.writer.proofs.put_edge.Statement.{statement}
 use Rattle.writer.proofs.put_edge.Tie as tie
 
-count-of-requires : tie.Need-count-of-requires
-count-of-requires c κs = search needs
+text-of-requires : tie.Need-text-of-requires
+text-of-requires c κs = search needs
 
-mul-past : tie.Need-mul-past
-mul-past c = search needs
+kind-of-requires : tie.Need-kind-of-requires
+kind-of-requires c κs = search needs
 
-add-past : tie.Need-add-past
-add-past c = search needs
+mul-size : tie.Need-mul-size
+mul-size c = search needs
 
-mul-put-start : tie.Need-mul-put-start
-mul-put-start c = search needs
-
-add-put-start : tie.Need-add-put-start
-add-put-start c = search needs
+add-size : tie.Need-add-size
+add-size c = search needs
 
 put-start-requires : tie.Need-put-start-requires
-put-start-requires c κs = search needs
+put-start-requires c κs =
+    let text = c .before .before in
+    let start = text .before .before .before in
+    let long = ap length (text .text-of .ensures) in
+    let bytes = edge-record-length (edgeIn (start .args .edge .now)) in
+    (omega (arith, start .pre .1, long), search needs, omega (arith, start .pre .2, bytes))
 
 sub-put-numbers : tie.Need-sub-put-numbers
 sub-put-numbers c = search needs
@@ -34,22 +41,14 @@ part-put-numbers-end c = search needs
 put-numbers-requires : tie.Need-put-numbers-requires
 put-numbers-requires c κs = search needs
 
-sub-put-numbers-2 : tie.Need-sub-put-numbers-2
-sub-put-numbers-2 c = search needs
-
-part-put-numbers-start-2 : tie.Need-part-put-numbers-start-2
-part-put-numbers-start-2 c = search needs
-
-part-put-numbers-end-2 : tie.Need-part-put-numbers-end-2
-part-put-numbers-end-2 c = search needs
-
 put-numbers-requires-2 : tie.Need-put-numbers-requires-2
 put-numbers-requires-2 c κs =
-    let fields = c .before .before .before .before in
+    let fields = c .before .before .before in
     let head = fields .before .before .before .before .before in
-    let count = head .before .before in
-    let start = count .before .before .before in
-    atoms-room (start .args .edge .now) _ (start .pre .0) (start .pre .1) (count .count-of .ensures .0)
+    let kind = head .before .before in
+    let text = kind .before in
+    let start = text .before .before .before in
+    text-room (start .args .edge .now) (start .pre .0) (text .text-of .ensures) (kind .kind-of .ensures .0)
     (head .put-start .ensures) (fields .put-numbers .ensures) (start .pre .2)
 
 same-length : tie.Need-same-length
@@ -57,31 +56,28 @@ same-length c = search needs
 
 returns : tie.Need-returns
 returns c =
-    let atoms = c .before .before in
-    let fields = atoms .before .before .before .before .before in
+    let put = c .before .before in
+    let fields = put .before .before .before .before in
     let head = fields .before .before .before .before .before in
-    let count = head .before .before in
-    let start = count .before .before .before in
-    edge-put (start .args .edge .now) _ (start .pre .0) (start .pre .1) (count .count-of .ensures .0)
-    (head .put-start .ensures) (fields .put-numbers .ensures) (atoms .put-numbers2 .ensures)
+    let kind = head .before .before in
+    let text = kind .before in
+    let start = text .before .before .before in
+    edge-put (start .args .edge .now) (start .pre .0) (text .text-of .ensures) (kind .kind-of .ensures .0)
+    (head .put-start .ensures) (fields .put-numbers .ensures) (put .put-numbers2 .ensures)
 
 pub put-edge-spec : {M : Type 1} → statement M
 put-edge-spec =
     tie.close
     (tie.spec
-    count-of-requires
-    mul-past
-    add-past
-    mul-put-start
-    add-put-start
+    text-of-requires
+    kind-of-requires
+    mul-size
+    add-size
     put-start-requires
     sub-put-numbers
     part-put-numbers-start
     part-put-numbers-end
     put-numbers-requires
-    sub-put-numbers-2
-    part-put-numbers-start-2
-    part-put-numbers-end-2
     put-numbers-requires-2
     same-length
     returns)

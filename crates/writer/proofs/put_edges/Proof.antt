@@ -27,9 +27,6 @@ loop-holds c =
 mul-first : tie.Need-mul-first Inv-loop μ-loop
 mul-first c = search needs
 
-add-end : tie.Need-add-end Inv-loop μ-loop
-add-end c = search needs
-
 mul-put-edge : tie.Need-mul-put-edge Inv-loop μ-loop
 mul-put-edge c = search needs
 
@@ -81,7 +78,6 @@ put-edges-spec =
     μ-loop
     loop-holds
     mul-first
-    add-end
     mul-put-edge
     sub-put-edge
     part-put-edge-start

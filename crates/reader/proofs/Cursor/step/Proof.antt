@@ -1,4 +1,5 @@
 -- `reader::Cursor::step` meets its contract: the faults in their order, then the record is taken.
+use mathlib.Core.Path.{sym, _∙_}
 use native.Mathlib.Omega.{arith}
 use borrow.Author.Needs.{needs}
 use Rattle.reader.proofs.Steps.{restOf, rest-whole, Whole, stops-cut, stops-body, whole-read, body-known}
@@ -85,16 +86,20 @@ returns-3 c =
     let whole = whole-at (order .before .before) in
     λ r state. stops-order whole r _ (order .order-fault .ensures r (state .holds)) (c .if3 .taken)
 
+is-edge-requires : tie.Need-is-edge-requires
+is-edge-requires c κs = search needs
+
 take-edge-requires : tie.Need-take-edge-requires
 take-edge-requires c κs =
-    let fine = c .before .before in
+    let kind = c .before .before in
+    let fine = kind .before in
     let order = fine .before in
     let whole = order .before .before in
     let start = whole .before .before .before .before .before .before .before .before .before in
     let r = start .pre .1 .rule in
     let state = start .pre .1 .state in
     edge-room (whole-at whole) r _ (order .order-fault .ensures r (state .holds)) (fine .if3 .left) (start .pre .0) _
-    state (c .before .if4 .taken) (search needs)
+    state (sym (kind .is-edge .ensures) ∙ c .before .if4 .taken) (search needs)
 
 same-length : tie.Need-same-length
 same-length c = search needs
@@ -103,51 +108,58 @@ returns-4 : tie.Need-returns-4
 returns-4 c =
     let took = c .before .before in
     let edge = took .before .before in
-    let order = edge .before .before in
+    let kind = edge .before in
+    let order = kind .before .before in
     let whole = order .before .before in
     let start = whole .before .before .before .before .before .before .before .before .before in
-    λ r state. edge-step (whole-at whole) r _ (order .order-fault .ensures r (state .holds)) (edge .before .if3 .left)
-    (start .pre .0) _ state (edge .if4 .taken) (took .take-edge .last .1 .1 .1 .0) (took .take-edge .result)
-    (took .take-edge .ensures r (state .holds))
+    λ r state. edge-step (whole-at whole) r _ (order .order-fault .ensures r (state .holds)) (kind .before .if3 .left)
+    (start .pre .0) _ state (sym (kind .is-edge .ensures) ∙ edge .if4 .taken) (took .take-edge .last .1 .1 .1 .1 .0)
+    (took .take-edge .result) (took .take-edge .ensures r (state .holds))
 
 out-of-range-requires : tie.Need-out-of-range-requires
-out-of-range-requires c κs = body-known (whole-at (c .before .before .before .before)) .number
+out-of-range-requires c κs = body-known (whole-at (c .before .before .before .before .before)) .number
 
 returns-5 : tie.Need-returns-5
 returns-5 c =
     let range = c .before in
     let other = range .before in
-    let order = other .before .before in
+    let kind = other .before in
+    let order = kind .before .before in
     let whole = order .before .before in
     let start = whole .before .before .before .before .before .before .before .before .before in
+    let not-edge = sym (kind .is-edge .ensures) ∙ other .if4 .left in
     λ r state. stops-range (whole-at whole) r _ (order .order-fault .ensures r (state .holds))
-    (other .before .if3 .left) (start .pre .0) _ state (other .if4 .left)
-    (range .out-of-range .ensures r (state .holds .head-is) (other .if4 .left)) (c .if5 .taken)
+    (kind .before .if3 .left) (start .pre .0) _ state not-edge
+    (range .out-of-range .ensures r (state .holds .head-is) not-edge) (c .if5 .taken)
 
 taken-requires : tie.Need-taken-requires
 taken-requires c κs =
     let range = c .before in
     let other = range .before in
-    let order = other .before .before in
+    let kind = other .before in
+    let order = kind .before .before in
     let whole = order .before .before in
     let start = whole .before .before .before .before .before .before .before .before .before in
     let r = start .pre .1 .rule in
     let state = start .pre .1 .state in
+    let not-edge = sym (kind .is-edge .ensures) ∙ other .if4 .left in
     taken-room (whole-at whole) r _ (order .order-fault .ensures r (state .holds))
-    (other .before .if3 .left) (start .pre .0) _ state (other .if4 .left)
-    (range .out-of-range .ensures r (state .holds .head-is) (other .if4 .left)) (c .if5 .left) (search needs)
+    (kind .before .if3 .left) (start .pre .0) _ state not-edge
+    (range .out-of-range .ensures r (state .holds .head-is) not-edge) (c .if5 .left) (search needs)
 
 returns-6 : tie.Need-returns-6
 returns-6 c =
     let fine = c .before in
     let range = fine .before in
     let other = range .before in
-    let order = other .before .before in
+    let kind = other .before in
+    let order = kind .before .before in
     let whole = order .before .before in
     let start = whole .before .before .before .before .before .before .before .before .before in
+    let not-edge = sym (kind .is-edge .ensures) ∙ other .if4 .left in
     λ r state. taken-on (whole-at whole) r _ (order .order-fault .ensures r (state .holds))
-    (other .before .if3 .left) (start .pre .0) _ state (other .if4 .left)
-    (range .out-of-range .ensures r (state .holds .head-is) (other .if4 .left)) (fine .if5 .left)
+    (kind .before .if3 .left) (start .pre .0) _ state not-edge
+    (range .out-of-range .ensures r (state .holds .head-is) not-edge) (fine .if5 .left)
     (c .taken .ensures _)
 
 pub step-spec : {M : Type 1} → statement M
@@ -168,6 +180,7 @@ step-spec =
     part-body-end
     order-fault-requires
     returns-3
+    is-edge-requires
     take-edge-requires
     same-length
     returns-4

@@ -1,6 +1,6 @@
 -- `reader::Cursor::take_edge` meets its contract: the edge is stored, then refused at its place or taken.
 use borrow.Author.Needs.{needs}
-use Rattle.reader.proofs.Taken.{edge-places, edge-standing, edge-refused, edge-taken}
+use Rattle.reader.proofs.Taken.{edge-places, edge-refused, edge-taken}
 use Rattle.reader.proofs.Cursor.take_edge.Statement.{statement}
 use Rattle.reader.proofs.Cursor.take_edge.Tie as tie
 
@@ -42,11 +42,7 @@ part-edge-fault-end : tie.Need-part-edge-fault-end
 part-edge-fault-end c = search needs
 
 edge-fault-requires : tie.Need-edge-fault-requires
-edge-fault-requires c κs =
-    let stored = c .before .before .before .before in
-    let count = stored .before .before in
-    let start = count .before .before .before .before in
-    edge-standing (start .pre) _ (count .wide32 .ensures .0) _ (stored .store-edge .ensures)
+edge-fault-requires c κs = search needs
 
 same-length : tie.Need-same-length
 same-length c = search needs
@@ -57,17 +53,17 @@ returns c =
     let stored = fault .before .before .before .before .before in
     let count = stored .before .before in
     let start = count .before .before .before .before in
-    λ r h. edge-refused (start .pre) _ (count .wide32 .ensures .0) _ (stored .store-edge .ensures) r _
-    (fault .edge-fault .ensures r (h .head-is)) (c .if1 .taken)
+    λ r h. edge-refused (start .pre) _ (count .wide32 .ensures .0) _ (stored .store-edge .ensures) r h _
+    (fault .edge-fault .ensures) (c .if1 .taken)
 
-add-t9 : tie.Need-add-t9
-add-t9 c = search needs
+add-t10 : tie.Need-add-t10
+add-t10 c = search needs
 
-add-t12 : tie.Need-add-t12
-add-t12 c = search needs
+add-t13 : tie.Need-add-t13
+add-t13 c = search needs
 
-add-t19 : tie.Need-add-t19
-add-t19 c = search needs
+add-t20 : tie.Need-add-t20
+add-t20 c = search needs
 
 same-length-2 : tie.Need-same-length-2
 same-length-2 c = search needs
@@ -78,8 +74,8 @@ returns-2 c =
     let stored = fine .before .before .before .before .before .before in
     let count = stored .before .before in
     let start = count .before .before .before .before in
-    λ r h. edge-taken (start .pre) _ (count .wide32 .ensures .0) _ (stored .store-edge .ensures) r _
-    (fine .before .edge-fault .ensures r (h .head-is)) (fine .if1 .left)
+    λ r h. edge-taken (start .pre) _ (count .wide32 .ensures .0) _ (stored .store-edge .ensures) r h _
+    (fine .before .edge-fault .ensures) (fine .if1 .left)
 
 pub take-edge-spec : {M : Type 1} → statement M
 take-edge-spec =
@@ -100,8 +96,8 @@ take-edge-spec =
     edge-fault-requires
     same-length
     returns
-    add-t9
-    add-t12
-    add-t19
+    add-t10
+    add-t13
+    add-t20
     same-length-2
     returns-2)
