@@ -10,6 +10,9 @@ use tables::row_length;
 use tables::row_start;
 use tables::row_verdict;
 
+// The bytes of a file that are read; the longest legal file has 44,432.
+const LISTED_FILE: usize = 49152;
+
 // Where the next byte of a line goes, after `used` others. A full buffer is written and begun anew, so that a line of
 // any length comes out whole.
 fn place_in(line: &[u8], used: usize) -> usize {
@@ -142,7 +145,7 @@ fn print_table(line: &mut [u8], built: Built, cells: &[u32], rows: &[u32], pool:
 
 fn main() {
     let mut line = [0u8; 4096];
-    let mut file = [0u8; 16384];
+    let mut file = [0u8; LISTED_FILE];
     let size = io::read_full(0, &mut file);
     let mut edges = [0u16; EDGE_NEED];
     let reading = read_rule(&file[..size], &mut edges);

@@ -1,5 +1,6 @@
 // P1 to P8 through all four runners: exact, by branch, table, follower. Then a case for each of 26, also at place 0,
-// and 30 to 34: number and place.
+// and 30 to 34: number and place. Then words over a rule with groups, through all four: the verdicts, and for one event
+// whether the branch runner says that the word was held back, and by which member.
 ghost use Prim.Native.Nat.{_-_};
 use branch::run_branches;
 use construct::build_table;
@@ -154,7 +155,7 @@ fn print_times(head: Head, edges: &[u16], built: Built, cells: &[u32], rows: &[u
 
 fn print_refusals(file: &[u8], built: Built, cells: &[u32], rows: &[u32], pool: &[u32]) {
     let either =
-        b"\x06\x00\x01\x00\x02\x00\x01\x00\x01\x00\x02\x00\x02\x00\x00\x00\x08\x00\x05\x00\x00\x00\x00\x00\x00\x00\x00\x00\x08\x00\x05\x00\x00\x00\x01\x00\x00\x00\x00\x00";
+        b"\x06\0\x01\0\x02\0\x01\0\x01\0\x02\0\x02\0\0\0\x08\0\x05\0\0\0\0\0\0\0\0\0\x08\0\x05\0\0\0\x01\0\0\0\0\0";
     print_exact(file, &mut [7u32; 3], &[0u16], &[2u32]);
     print_exact(either, &mut [7u32; 4], &[0u16], &[2u32]);
     print_table(built, cells, rows, pool, 0, &[0u16], &[2u32]);
@@ -164,9 +165,108 @@ fn print_refusals(file: &[u8], built: Built, cells: &[u32], rows: &[u32], pool: 
     print_stray(built, cells, rows, pool);
 }
 
+// Whether a word is held back, and the member of the outermost level that does not hold.
+fn print_held(head: Head, edges: &[u16], symbols: &[u16], stamps: &[u32]) {
+    let branch = run_branches(head, edges, 2, symbols, stamps);
+    print_number(branch.held as usize);
+    print_blank();
+    print_number(branch.position);
+    end_line();
+}
+
+// A word of one event, on symbol 0 at so many half seconds.
+fn print_once(
+    head: Head,
+    edges: &[u16],
+    built: Built,
+    cells: &[u32],
+    rows: &[u32],
+    pool: &[u32],
+    stamp: u32,
+) {
+    print_word(head, edges, built, cells, rows, pool, 2, &[0u16], &[stamp]);
+    print_held(head, edges, &[0u16], &[stamp]);
+}
+
+// Above 0, and below 2 or both at least 3 and not 4: at 0, 1, 2, 2.5, 3, 4 and 4.5 s.
+fn print_either(
+    head: Head,
+    edges: &[u16],
+    built: Built,
+    cells: &[u32],
+    rows: &[u32],
+    pool: &[u32],
+) {
+    print_once(head, edges, built, cells, rows, pool, 0);
+    print_once(head, edges, built, cells, rows, pool, 2);
+    print_once(head, edges, built, cells, rows, pool, 4);
+    print_once(head, edges, built, cells, rows, pool, 5);
+    print_once(head, edges, built, cells, rows, pool, 6);
+    print_once(head, edges, built, cells, rows, pool, 8);
+    print_once(head, edges, built, cells, rows, pool, 9);
+}
+
+// Forth at 1 s, reset at 4 s, back at 5 s, and forth again, at 7 s or too early at 6 s. Back at 4 s: stuck.
+fn print_again(head: Head, edges: &[u16], built: Built, cells: &[u32], rows: &[u32], pool: &[u32]) {
+    let forth = [0u16, 0, 1, 0];
+    print_word(
+        head,
+        edges,
+        built,
+        cells,
+        rows,
+        pool,
+        2,
+        &forth,
+        &[2u32, 8, 10, 14],
+    );
+    print_word(
+        head,
+        edges,
+        built,
+        cells,
+        rows,
+        pool,
+        2,
+        &forth,
+        &[2u32, 8, 10, 12],
+    );
+    print_word(
+        head,
+        edges,
+        built,
+        cells,
+        rows,
+        pool,
+        2,
+        &[0u16, 1, 0],
+        &[2u32, 8, 8],
+    );
+}
+
+// A plain edge back, not equal 4; forth with groups; and one that resets at 4, pinned outside its group.
+fn print_groups() {
+    let file = b"\x06\0\x01\0\x02\0\x02\0\x01\0\x02\0\x02\0\0\0\x02\0\x03\0\x01\0\
+        \x0e\0\x05\0\x01\0\0\0\x01\0\0\0\0\0\x05\0\x04\0\
+        \x30\0\x06\0\0\0\x01\0\0\0\0\0\x03\0\0\0\x04\0\0\0\x02\0\x03\0\0\0\0\0\x02\0\x01\0\x03\0\0\0\x03\0\x03\0\
+        \x03\0\0\0\x05\0\x04\0\x04\0\x04\0\
+        \x1c\0\x06\0\x01\0\x01\0\0\0\x01\0\x03\0\0\0\x02\0\x04\0\x02\0\x03\0\0\0\x05\0\x03\0\x04\0";
+    let mut edges = [7u16; EDGE_NEED];
+    let reading = read_rule(file, &mut edges);
+    let head = reading.head;
+    let mut scratch = [7u32; 12];
+    let mut cells = [7u32; 60];
+    let mut rows = [7u32; 9];
+    let mut pool = [7u32; 2];
+    let building = build_table(head, &edges, &mut scratch, &mut cells, &mut rows, &mut pool);
+    let built = building.built;
+    print_either(head, &edges, built, &cells, &rows, &pool);
+    print_again(head, &edges, built, &cells, &rows, &pool);
+}
+
 fn main() {
-    let worked =
-        b"\x06\x00\x01\x00\x02\x00\x02\x00\x01\x00\x02\x00\x02\x00\x00\x00\x02\x00\x03\x00\x00\x00\x0e\x00\x05\x00\x00\x00\x01\x00\x00\x00\x01\x00\x00\x00\x02\x00\x01\x00\x0e\x00\x05\x00\x01\x00\x00\x00\x01\x00\x00\x00\x00\x00\x03\x00\x01\x00";
+    let worked = b"\x06\0\x01\0\x02\0\x02\0\x01\0\x02\0\x02\0\0\0\x02\0\x03\0\0\0\
+        \x0e\0\x05\0\0\0\x01\0\0\0\x01\0\0\0\x02\0\x01\0\x0e\0\x05\0\x01\0\0\0\x01\0\0\0\0\0\x03\0\x01\0";
     let mut edges = [7u16; EDGE_NEED];
     let reading = read_rule(worked, &mut edges);
     let head = reading.head;
@@ -179,4 +279,5 @@ fn main() {
     print_starts(head, &edges, built, &cells, &rows, &pool);
     print_times(head, &edges, built, &cells, &rows, &pool);
     print_refusals(worked, built, &cells, &rows, &pool);
+    print_groups();
 }
