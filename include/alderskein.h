@@ -13,17 +13,18 @@
  *
  *   THE RULE'S AUTHOR; place: first byte of the record. Per record in this order, then 8 at the end.
  *    1  fewer than 4 bytes left, or the body passes the end
- *    2  unknown kind, or a body length its kind does not have
+ *    2  unknown kind, or a body length its kind does not have; kind 6 has 8 to 168 bytes, an even number
  *    3  sizes missing or repeated, a kind that falls, second ceiling, locations not rising;
  *       an empty file is 3 at place 0
- *    4  edge 257
+ *    4  edge 257, of either kind
  *    5  L, S or K outside its range
- *    6  location, symbol, clock, mask bit, relation, constant or ceiling outside its range
+ *    6  location, symbol, clock, mask bit, relation, constant or ceiling outside its range; text of kind 6 that
+ *       breaks the group rules
  *    7  resets that are not pinned
  *    8  N over 65,536; place: the file's length
  *
  *   THE CALLER; place 0, save for 26.
- *   20  edge table shorter than 7,424 numbers
+ *   20  edge table shorter than 22,016 numbers
  *   21  head record and edge table are not what reading some accepted file leaves
  *   22  build scratch shorter than N / 32 numbers, rounded up
  *   23  the first row, by number, that does not fit: its number is not below the least of 4,096, a third of
@@ -53,8 +54,20 @@
  *
  * Here L, S, K are the counts of locations, symbols and clocks; cm is the largest constant in any atom, 0 if
  * there is none; N = L * (cm + 2)^K; W = 2 * cm + 2; R and P count the rows and their codes. A ceiling record
- * (kind 4) is read, checked and dropped. An edge's resets are pinned if it has an equality (relation 2), or an
- * at-least (3) and an at-most (1) on one clock with one constant, in any order and anywhere among its atoms.
+ * (kind 4) is read, checked and dropped.
+ *
+ * An atom is a clock, a relation and a constant 0 to 30. Relations: 0 less, 1 at most, 2 equal, 3 at least,
+ * 4 greater, 5 not equal. An edge of kind 5 has 0 to 8 atoms, all of which must hold. An edge of kind 6 has a
+ * text of marks: 1 opens an all-of group, 2 opens an any-of group, 3 is an atom with its three numbers, 4 closes.
+ * The outermost level is an all-of that no mark opens.
+ *
+ * The group rules: the outermost level and an all-of group hold atoms and any-of groups, an any-of group holds
+ * atoms and all-of groups; every group is closed, and every mark 4 closes one; at most 4 levels, the outermost
+ * included, 8 groups and 16 atoms. An empty all-of holds, an empty any-of does not. Edges of kind 5 come before
+ * those of kind 6 (3 in a file, 21 in a table).
+ *
+ * An edge's resets are pinned if it has an equality (2), or an at-least (3) and an at-most (1) on one clock with
+ * one constant, in any order and anywhere among its atoms; of kind 6, among the atoms of the outermost level.
  */
 #ifndef ALDERSKEIN_H
 #define ALDERSKEIN_H
@@ -67,10 +80,12 @@
 extern "C" {
 #endif
 
-/* The least length of an edge table: 256 edges of 29 numbers. */
-#define ALDERSKEIN_EDGE_TABLE 7424
+/* The most edges of a rule, the numbers of one in the edge table, and the least length of an edge table. */
+#define ALDERSKEIN_EDGES 256
+#define ALDERSKEIN_EDGE_NUMBERS 86
+#define ALDERSKEIN_EDGE_TABLE 22016
 /* The longest legal file, in bytes, 6 of them for a ceiling record; a file that is written has none. */
-#define ALDERSKEIN_LONGEST_FILE 15760
+#define ALDERSKEIN_LONGEST_FILE 44432
 /* The most events of a word, and of a word run by branch. */
 #define ALDERSKEIN_EVENTS 4096
 #define ALDERSKEIN_BRANCH_EVENTS 12
@@ -148,7 +163,7 @@ typedef struct {
     bool found;      /* some run accepts */
     uint16_t start;  /* its start location; 0 where none accepts */
     bool held;       /* none accepts, and a guard held the rule back at the first event */
-    size_t position; /* of that guard's first atom that does not hold, from 0; 0 where `held` is false */
+    size_t position; /* of that guard's first member that does not hold, from 0; 0 where `held` is false */
 } alderskein_branch;
 
 typedef struct {
@@ -206,8 +221,14 @@ typedef struct {
 alderskein_answer alderskein_check_rule(alderskein_head head, const uint16_t *edges, size_t edges_length);
 
 /*
- * Reads a rule file. The edge table has 29 numbers per edge: source, target, symbol, mask of clocks to reset,
- * atom count, eight atoms of clock, relation, constant; unused places, also those past 7,424, are zero.
+ * Reads a rule file. The edge table has 86 numbers per edge:
+ *
+ *   0  kind, 5 or 6          3  symbol
+ *   1  source                4  mask of clocks to reset, bit 0 for clock 0
+ *   2  target                5  count: of atoms (kind 5), of numbers of text (kind 6)
+ *   6 to 85  kind 5: the atoms, clock, relation, constant each; kind 6: the text
+ *
+ * Unused places, also those past 22,016, are zero.
  * Refuses: 20, then 1 to 8. After 20 the edge table is untouched, after 1 to 8 it is all zero.
  */
 alderskein_reading alderskein_read_rule(const uint8_t *file, size_t file_length,
@@ -215,7 +236,7 @@ alderskein_reading alderskein_read_rule(const uint8_t *file, size_t file_length,
 
 /*
  * Writes the rule as a file, the same bytes that it was read from, less a ceiling record; the value is the
- * length of what is written.
+ * length of what is written, at most 44,426.
  * Refuses: 20, 21, 27, and then `out` is untouched. The bytes past the file are not touched.
  */
 alderskein_answer alderskein_write_rule(alderskein_head head, const uint16_t *edges, size_t edges_length,
@@ -277,9 +298,10 @@ alderskein_answer alderskein_run_exact(alderskein_head head, const uint16_t *edg
  * Looks for the accepting run of a word of at most 12 events that is least by start, then edge by edge. Edges
  * are numbered from 0 in file order; places of `taken` past the word's events are zero.
  *
- * With at least one event and no accepting run, `held` and `position` name the first failing atom of the
+ * With at least one event and no accepting run, `held` and `position` name the first failing member of the
  * lowest edge, by number, leaving an initial location on the first symbol, by the first event's ages; none if
- * there is no such edge or its guard holds, and in every other case.
+ * there is no such edge or its guard holds, and in every other case. Members are those of the outermost level,
+ * from 0: an atom is one, and so is a whole any-of group, whatever it holds. Of kind 5 they are the atoms.
  * Refuses: 20, 21, 30, 31, 32, 33. Where it refuses, and where no run accepts, all of `taken` is zero.
  *
  * It follows every branch and keeps no scratch, so that it can take edges to the power of events: a legal file

@@ -55,6 +55,7 @@ PLACE(alderskein_inclusion, number, 0);
 PLACE(alderskein_inclusion, place, 8);
 PLACE(alderskein_inclusion, included, 16);
 PLACE(alderskein_inclusion, events, 24);
+_Static_assert(ALDERSKEIN_EDGE_TABLE == ALDERSKEIN_EDGE_NUMBERS * ALDERSKEIN_EDGES, "edge table");
 _Static_assert(ALDERSKEIN_ROW_TABLE == ALDERSKEIN_ROW_NUMBERS * ALDERSKEIN_ROWS, "row table");
 _Static_assert(32 * ALDERSKEIN_BUILD_SCRATCH == 65536, "build scratch");
 
@@ -212,8 +213,57 @@ static int inclusions(void)
     return status;
 }
 
+/* Nothing is final; on symbol 0 location 0 stays if x >= 0, any(x = 1, all(x != 2, x < 4)). */
+static const uint8_t grouped_file[] = {
+    6, 0, 1, 0, 1, 0, 1, 0, 1, 0, 2, 0, 2, 0, 0, 0, 48, 0, 6, 0, 0, 0, 0, 0, 0, 0, 0, 0, 3, 0, 0, 0, 3, 0, 0, 0,
+    2, 0, 3, 0, 0, 0, 2, 0, 1, 0, 1, 0, 3, 0, 0, 0, 5, 0, 2, 0, 3, 0, 0, 0, 0, 0, 4, 0, 4, 0, 4, 0,
+};
+/* Its edge in the edge table: kind, source, target, symbol, mask, count of numbers, the text. */
+static const uint16_t grouped_edge[ALDERSKEIN_EDGE_NUMBERS] = {
+    6, 0, 0, 0, 0, 20, 3, 0, 3, 0, 2, 3, 0, 2, 1, 1, 3, 0, 5, 2, 3, 0, 0, 4, 4, 4,
+};
+
+/* Whether the edge table has this edge alone, and the rule written is the file. */
+static bool kept(alderskein_head head, const uint16_t *edges)
+{
+    static const uint16_t unused[ALDERSKEIN_EDGE_TABLE - ALDERSKEIN_EDGE_NUMBERS];
+    uint8_t out[sizeof grouped_file];
+    alderskein_answer written = alderskein_write_rule(head, edges, ALDERSKEIN_EDGE_TABLE, out, sizeof out);
+    return memcmp(edges, grouped_edge, sizeof grouped_edge) == 0 &&
+           memcmp(edges + ALDERSKEIN_EDGE_NUMBERS, unused, sizeof unused) == 0 && written.number == 0 &&
+           written.value == sizeof out && memcmp(out, grouped_file, sizeof out) == 0;
+}
+
+/* Whether a word of symbol 0 at so many seconds is held back at this position, or by nothing. */
+static bool held_at(alderskein_head head, const uint16_t *edges, uint32_t seconds, bool held, size_t position)
+{
+    uint16_t symbol = 0, taken[ALDERSKEIN_BRANCH_EVENTS];
+    alderskein_branch branch =
+        alderskein_run_branches(head, edges, ALDERSKEIN_EDGE_TABLE, 1, &symbol, 1, &seconds, 1, taken);
+    return branch.number == 0 && !branch.found && branch.held == held && branch.position == position;
+}
+
+/* The calls over an edge of kind 6; 1 if one fails. */
+static int groups(void)
+{
+    static uint16_t edges[ALDERSKEIN_EDGE_TABLE];
+    memset(edges, 7, sizeof edges);
+    alderskein_reading reading =
+        alderskein_read_rule(grouped_file, sizeof grouped_file, edges, ALDERSKEIN_EDGE_TABLE - 1);
+    bool fits = reading.number == 20 && edges[0] == 0x0707;
+    reading = alderskein_read_rule(grouped_file, sizeof grouped_file, edges, ALDERSKEIN_EDGE_TABLE);
+    if (fits && reading.number == 0 && reading.head.count == 1 && kept(reading.head, edges) &&
+        held_at(reading.head, edges, 1, false, 0) && held_at(reading.head, edges, 2, true, 1) &&
+        held_at(reading.head, edges, 3, false, 0) && held_at(reading.head, edges, 4, true, 1))
+        return 0;
+    printf("an edge of kind 6: number %u, place %zu, edges %u\n", reading.number, reading.place,
+           (unsigned)reading.head.count);
+    return 1;
+}
+
 int main(void)
 {
     int failed = next_words();
-    return inclusions() | failed;
+    failed |= inclusions();
+    return groups() | failed;
 }

@@ -57,6 +57,6 @@ pub use follower::Follower;
 pub use lists::{Words, LIST_GRAIN};
 pub use raw::{Listed, Size, Stamp};
 pub use refusal::{Cause, Refusal};
-pub use rule::{LeastRun, Rule, Run, EDGE_TABLE, LONGEST_FILE};
+pub use rule::{LeastRun, Rule, Run, EDGE_NUMBERS, EDGE_TABLE, LONGEST_FILE};
 pub use table::{decide, Allows, Cell, Room, Table, BUILD_SCRATCH, JOINT_STATES, ROW_NUMBERS, ROW_TABLE};
 pub use word::{Word, EVENTS};

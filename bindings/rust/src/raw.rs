@@ -122,7 +122,8 @@ pub struct BranchAnswer {
     pub start: u16,
     /// Whether no run accepts and a guard held the rule back at the first event, false on a refusal.
     pub held: bool,
-    /// The position, from 0, of that guard's first atom that does not hold; 0 where `held` is false.
+    /// The position, from 0, of that guard's first member that does not hold, an atom or a whole group of the
+    /// outermost level; 0 where `held` is false.
     pub position: usize,
 }
 
@@ -294,7 +295,8 @@ pub fn check_rule(head: Head, edges: &[u16]) -> Answer {
     unsafe { c::alderskein_check_rule(head, edges.as_ptr(), edges.len()) }
 }
 
-/// Reads a rule file, of which a ceiling is checked and dropped: 20, then 1 to 8.
+/// Reads a rule file, of which a ceiling is checked and dropped, into an edge table of [`crate::EDGE_NUMBERS`] per
+/// edge: 20, then 1 to 8.
 #[inline]
 pub fn read_rule(file: &[u8], edges: &mut [u16]) -> Reading {
     unsafe { c::alderskein_read_rule(file.as_ptr(), file.len(), edges.as_mut_ptr(), edges.len()) }

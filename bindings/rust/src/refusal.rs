@@ -48,10 +48,11 @@ impl Refusal {
             3 => "sizes missing or repeated, a kind that falls, second ceiling, or locations not rising",
             4 => "edge 257",
             5 => "locations, symbols or clocks outside their range",
-            6 => "location, symbol, clock, mask bit, relation, constant or ceiling outside its range",
+            6 => "location, symbol, clock, mask bit, relation, constant or ceiling outside its range, or text that \
+                  breaks the group rules",
             7 => "resets that are not pinned",
             8 => "the rule has more than 65,536 codes",
-            20 => "edge table shorter than 7,424 numbers",
+            20 => "edge table shorter than 22,016 numbers",
             21 => "head record and edge table are not what reading some accepted file leaves",
             22 => "build scratch with fewer bits than the rule has codes",
             23 => "more rows than the tables have room for",

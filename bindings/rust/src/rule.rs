@@ -3,10 +3,16 @@
 use crate::raw::{self, Head, BRANCH_EVENTS};
 use crate::{Refusal, Room, Table, Word};
 
-/// The least length of an edge table: 256 edges of 29 numbers.
-pub const EDGE_TABLE: usize = 7_424;
+/// The most edges of a rule.
+const EDGES: usize = 256;
+/// The numbers of an edge in the edge table: kind (5 or 6), source, target, symbol, mask of clocks to reset, count,
+/// and 80 places. The count is that of the atoms, which then stand there with clock, relation and constant each
+/// (kind 5), or of the numbers of the text of marks (kind 6). Unused places are zero.
+pub const EDGE_NUMBERS: usize = 86;
+/// The least length of an edge table.
+pub const EDGE_TABLE: usize = EDGES * EDGE_NUMBERS;
 /// The longest legal file, in bytes, 6 of them for a ceiling record; a file that is written has none.
-pub const LONGEST_FILE: usize = 15_760;
+pub const LONGEST_FILE: usize = 44_432;
 
 /// For how many configurations `Rule::accepts` first takes memory.
 const FIRST_ROOM: usize = 64;
@@ -34,9 +40,10 @@ pub enum LeastRun {
     Found(Run),
     /// No run accepts.
     NoRun {
-        /// What held the rule back at the first event: the position, from 0, of the first failing atom of
-        /// the lowest edge leaving an initial location on the first symbol. None without events, and if
-        /// there is no such edge or its guard holds.
+        /// What held the rule back at the first event: the position, from 0, of the first failing member of
+        /// the lowest edge leaving an initial location on the first symbol. Members are those of the outermost
+        /// level: an atom, or a whole any-of group. None without events, and if there is no such edge or its
+        /// guard holds.
         held: Option<usize>,
     },
 }
@@ -60,7 +67,7 @@ impl Rule {
         self.head
     }
 
-    /// The edge table, 29 numbers per edge.
+    /// The edge table, [`EDGE_NUMBERS`] per edge.
     pub fn edges(&self) -> &[u16] {
         &self.edges
     }

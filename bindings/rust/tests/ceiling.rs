@@ -134,7 +134,8 @@ fn writing_asks_for_the_room_of_what_it_writes() {
 fn the_longest_file_is_written_without_its_ceiling() {
     let locations = |kind| (0..32).flat_map(move |location| record(kind, &[location])).collect();
     let front = [record(1, &[32, 16, 1]), locations(2), locations(3)].concat();
-    let edges = record(5, &[vec![31, 31, 15, 0], [0, 4, 30].repeat(8)].concat()).repeat(256);
+    let text = [[3, 0, 4, 30].repeat(16), [2, 4].repeat(8)].concat();
+    let edges = record(6, &[vec![31, 31, 15, 0], text].concat()).repeat(256);
     let file = [&front[..], &record(4, &[30]), &edges].concat();
     assert_eq!(file.len(), LONGEST_FILE);
     assert_eq!(Rule::read(&file).unwrap().write(), Ok([front, edges].concat()));

@@ -20,7 +20,7 @@ const GREATER: u16 = 4;
 
 /// Where the edge begins in a file with one edge, and its mask in the edge table.
 const EDGE_AT: usize = 22;
-const MASK: usize = 3;
+const MASK: usize = 4;
 
 const PINNED: [&[Atom]; 9] = [
     &[[X, EQUAL, 3]],

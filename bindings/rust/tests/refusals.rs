@@ -2,7 +2,7 @@
 
 mod common;
 
-use alderskein::{decide, raw, Cause, LeastRun, Refusal, Room, Rule, Stamp, Table, Word};
+use alderskein::{decide, raw, Cause, LeastRun, Refusal, Room, Rule, Stamp, Table, Word, EDGE_TABLE};
 use common::{record, refused, repeated, word, worked, worked_rule, worked_table};
 
 fn read(records: &[Vec<u8>]) -> Result<Rule, Refusal> {
@@ -18,7 +18,7 @@ fn sizes() -> Vec<u8> {
 fn the_author_1_to_8() {
     assert_eq!(Rule::read(&[]), refused(3, 0));
     assert_eq!(Rule::read(&worked()[..57]), refused(1, 40));
-    assert_eq!(read(&[sizes(), record(6, &[0])]), refused(2, 10));
+    assert_eq!(read(&[sizes(), record(7, &[0])]), refused(2, 10));
     assert_eq!(read(&[sizes(), record(5, &[0; 31])]), refused(2, 10), "nine atoms");
     assert_eq!(read(&[sizes(), record(3, &[0]), record(2, &[0])]), refused(3, 16));
     let many: Vec<Vec<u8>> = (0..257).map(|_| record(5, &[0; 4])).collect();
@@ -36,7 +36,7 @@ fn the_author_1_to_8() {
 #[test]
 fn the_caller_20_21_27() {
     let rule = worked_rule();
-    assert_eq!(Rule::from_parts(rule.head(), rule.edges()[..7423].to_vec()), refused(20, 0));
+    assert_eq!(Rule::from_parts(rule.head(), rule.edges()[..EDGE_TABLE - 1].to_vec()), refused(20, 0));
     let head = raw::Head { count: 3, starts: 4, ..rule.head() };
     assert_eq!(Rule::from_parts(head, rule.edges().to_vec()), refused(21, 0));
     assert_eq!(Rule::from_parts(rule.head(), rule.edges().to_vec()), Ok(rule.clone()));
@@ -145,11 +145,11 @@ fn a_refused_event_leaves_the_follower_unchanged() {
 
 #[test]
 fn what_a_refused_call_leaves_in_lent_tables() {
-    let mut edges = [9; 7424];
+    let mut edges = [9; EDGE_TABLE];
     assert_eq!(raw::read_rule(&worked(), &mut edges[1..]).number, 20);
-    assert_eq!(edges, [9; 7424], "20 touches nothing");
+    assert_eq!(edges, [9; EDGE_TABLE], "20 touches nothing");
     assert_eq!(raw::read_rule(&[1], &mut edges).number, 1);
-    assert_eq!(edges, [0; 7424], "1 to 8 leave zeros");
+    assert_eq!(edges, [0; EDGE_TABLE], "1 to 8 leave zeros");
     let rule = worked_rule();
     let [mut scratch, mut cells, mut rows, mut pool] = [[7; 24]; 4];
     let mut build = |n: usize| {

@@ -88,7 +88,7 @@ fn the_file_is_read_and_written_back() {
     let head = rule.head();
     assert_eq!((head.locations, head.symbols, head.clocks, head.count), (2, 2, 1, 2));
     assert_eq!((head.starts, head.ends), (1, 1));
-    assert_eq!(rule.edges()[..9], [0, 1, 0, 1, 1, 0, 2, 1, 0]);
+    assert_eq!(rule.edges()[..10], [5, 0, 1, 0, 1, 1, 0, 2, 1, 0]);
     assert_eq!(rule.write().unwrap(), worked());
     let mut out = [9; 60];
     assert_eq!(rule.write_into(&mut out), Ok(58));
