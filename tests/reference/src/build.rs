@@ -1,6 +1,7 @@
 //! The construction of the one-timer table.
 
-use crate::rule::{check_rule, edges_in_use, initial_locations, largest_constant, Edge, Head};
+use crate::edge::Edge;
+use crate::rule::{initial_locations, largest_constant, take_edges, Head};
 use crate::table::{row_codes, row_numbers, Built, Finals, MOST_ROWS, ROW_NUMBERS};
 use crate::time::Interval;
 use crate::Refusal;
@@ -25,8 +26,8 @@ pub fn build_table(
     rows: &mut [u32],
     pool: &mut [u32],
 ) -> Result<Built, Refusal> {
-    check_rule(head, edges)?;
-    let largest = largest_constant(head, edges);
+    let edges = take_edges(head, edges)?;
+    let largest = largest_constant(&edges);
     let codes = Codes::new(head.clocks, largest);
     let code_count = head.locations * codes.per_location();
     let mark_numbers = code_count.div_ceil(CODES_PER_NUMBER) as usize;
@@ -34,7 +35,7 @@ pub fn build_table(
     clear([scratch, cells, rows, pool]);
     let mut builder = Builder {
         head,
-        edges,
+        edges: &edges,
         codes,
         finals: Finals::new(head.finals, codes.per_location()),
         marks: Marks::over(&mut scratch[..mark_numbers]),
@@ -102,21 +103,21 @@ impl Codes {
     }
 
     /// Whether the edge's guard holds for a pair when the timer is in this interval.
-    fn allow(&self, code: u32, edge: Edge, interval: Interval) -> bool {
+    fn allow(&self, code: u32, edge: &Edge, interval: Interval) -> bool {
         let region = |clock| interval.plus_base(self.base(code, clock), self.largest);
-        edge.first_failing(region, Interval::of_constant).is_none()
+        edge.guard.first_failing(region, Interval::of_constant).is_none()
     }
 
     /// The edge's target with all bases as they are.
-    fn kept(&self, code: u32, edge: Edge) -> u32 {
-        edge.target() * self.per_location() + code % self.per_location()
+    fn kept(&self, code: u32, edge: &Edge) -> u32 {
+        edge.target * self.per_location() + code % self.per_location()
     }
 
     /// The edge's target with the bases moved on by a whole number and the edge's clocks zeroed.
-    fn moved(&self, code: u32, edge: Edge, by: u32) -> u32 {
+    fn moved(&self, code: u32, edge: &Edge, by: u32) -> u32 {
         let running = (0..self.clocks).filter(|&clock| !edge.resets_clock(clock));
         let base = |clock| (self.base(code, clock) + by).min(self.largest + 1);
-        self.code(edge.target(), running.map(|clock| (clock, base(clock))))
+        self.code(edge.target, running.map(|clock| (clock, base(clock))))
     }
 }
 
@@ -173,7 +174,7 @@ impl<'a> Marks<'a> {
 /// The work under way.
 struct Builder<'a> {
     head: &'a Head,
-    edges: &'a [u16],
+    edges: &'a [Edge<'a>],
     codes: Codes,
     finals: Finals,
     marks: Marks<'a>,
@@ -233,18 +234,18 @@ impl Builder<'_> {
     /// Whether some edge that a pair of the row allows resets a clock.
     fn some_edge_resets(&self, row: usize, symbol: u16, interval: Interval) -> bool {
         let pairs = row_codes(row_numbers(self.rows, row), self.pool);
-        edges_on(self.head, self.edges, symbol).filter(|edge| edge.resets() != 0).any(|edge| {
-            let mut sources = codes_at(pairs, edge.source(), self.codes.per_location()).iter();
+        edges_on(self.edges, symbol).filter(|edge| edge.resets != 0).any(|edge| {
+            let mut sources = codes_at(pairs, edge.source, self.codes.per_location()).iter();
             sources.any(|&code| self.codes.allow(code, edge, interval))
         })
     }
 
     /// Marks the target of every edge that a pair of the row allows; a timer reset at [c] moves the bases.
     fn mark_targets(&mut self, row: usize, symbol: u16, interval: Interval, reset_at: Option<u32>) {
-        let Builder { head, edges, codes, marks, rows, pool, .. } = self;
+        let Builder { edges, codes, marks, rows, pool, .. } = self;
         let pairs = row_codes(row_numbers(rows, row), pool);
-        for edge in edges_on(head, edges, symbol) {
-            for &code in codes_at(pairs, edge.source(), codes.per_location()) {
+        for edge in edges_on(edges, symbol) {
+            for &code in codes_at(pairs, edge.source, codes.per_location()) {
                 if codes.allow(code, edge, interval) {
                     marks.set(match reset_at {
                         Some(constant) => codes.moved(code, edge, constant),
@@ -297,8 +298,8 @@ impl Builder<'_> {
 }
 
 /// The edges with this symbol.
-fn edges_on<'a>(head: &Head, edges: &'a [u16], symbol: u16) -> impl Iterator<Item = Edge<'a>> {
-    edges_in_use(head, edges).filter(move |edge| edge.symbol() == symbol)
+fn edges_on<'a>(edges: &'a [Edge<'a>], symbol: u16) -> impl Iterator<Item = &'a Edge<'a>> {
+    edges.iter().filter(move |edge| edge.symbol == symbol)
 }
 
 /// The codes of a row that stand for pairs with this location.

@@ -1,6 +1,7 @@
 //! The exact runner: all distinct configurations, event by event.
 
-use crate::rule::{check_rule, initial_locations, Edge, Head, Rule, MOST_CLOCKS};
+use crate::edge::Edge;
+use crate::rule::{initial_locations, take_edges, Head, Rule, MOST_CLOCKS};
 use crate::time::{Age, Stamp};
 use crate::word::{check_word, MOST_EVENTS};
 use crate::Refusal;
@@ -20,9 +21,9 @@ pub fn run_exact(
     stamps: &[u32],
     scratch: &mut [u32],
 ) -> Result<bool, Refusal> {
-    check_rule(head, edges)?;
+    let edges = take_edges(head, edges)?;
     check_word(head.symbols, grain, MOST_EVENTS, symbols, stamps)?;
-    let outcome = run_word(Rule { head, edges, grain }, symbols, stamps, scratch);
+    let outcome = run_word(Rule { head, edges: &edges, grain }, symbols, stamps, scratch);
     scratch.fill(0);
     outcome
 }
@@ -90,7 +91,7 @@ fn enter_event(rule: Rule, symbol: u16, delay: Age, now: &Bank, next: &mut Bank)
         let mut aged = [0; MOST_NUMBERS];
         age_by(delay, configuration, &mut aged);
         let aged = &aged[..now.size];
-        for edge in rule.edges() {
+        for edge in rule.edges {
             if takes(edge, symbol, aged, rule.grain) && !next.enter(&moved(edge, aged)[..now.size]) {
                 return false;
             }
@@ -108,17 +109,17 @@ fn age_by(delay: Age, configuration: &[u32], aged: &mut [u32; MOST_NUMBERS]) {
 }
 
 /// Whether the edge can be taken on the symbol in the configuration.
-fn takes(edge: Edge, symbol: u16, configuration: &[u32], grain: u32) -> bool {
+fn takes(edge: &Edge, symbol: u16, configuration: &[u32], grain: u32) -> bool {
     let age = |clock| Age(configuration[1 + clock]);
-    edge.source() == configuration[0]
-        && edge.symbol() == symbol
-        && edge.first_failing(age, |constant| Age::of_constant(constant, grain)).is_none()
+    edge.source == configuration[0]
+        && edge.symbol == symbol
+        && edge.guard.first_failing(age, |constant| Age::of_constant(constant, grain)).is_none()
 }
 
 /// The configuration after the edge: its target, its clocks zeroed.
-fn moved(edge: Edge, configuration: &[u32]) -> [u32; MOST_NUMBERS] {
+fn moved(edge: &Edge, configuration: &[u32]) -> [u32; MOST_NUMBERS] {
     let mut moved = [0; MOST_NUMBERS];
-    moved[0] = edge.target();
+    moved[0] = edge.target;
     for (clock, &age) in configuration[1..].iter().enumerate() {
         if !edge.resets_clock(clock) {
             moved[1 + clock] = age;

@@ -1,8 +1,9 @@
 //! Rule files: reading and writing.
 
+use crate::edge::{spell_edge, spelling_fits, Edge, Places, EDGE_NUMBERS, RECORD_NUMBERS};
+use crate::guard::MOST_CONSTANT;
 use crate::rule::{
-    check_rule, codes_fit, edge_flaw, edges_in_use, sizes_in_range, Edge, Head, EDGE_FRONT, EDGE_NUMBERS,
-    EDGE_TABLE_NUMBERS, MOST_CONSTANT, MOST_EDGES,
+    check_rule, codes_fit, places_in_use, sizes_in_range, Head, EDGE_TABLE_NUMBERS, MOST_EDGES,
 };
 use crate::Refusal;
 
@@ -10,7 +11,6 @@ const SIZES: u16 = 1;
 const INITIAL: u16 = 2;
 const FINAL: u16 = 3;
 const CEILING: u16 = 4;
-const EDGE: u16 = 5;
 
 /// Bytes of length and kind before a body.
 const RECORD_FRONT: usize = 4;
@@ -32,7 +32,7 @@ pub fn read_rule(file: &[u8], edges: &mut [u16]) -> Result<Head, Refusal> {
 
 fn read_records(file: &[u8], edges: &mut [u16]) -> Result<Head, Refusal> {
     Refusal::unless(!file.is_empty(), 3)?;
-    let mut reader = Reader { head: Head::default(), edges, last: None };
+    let mut reader = Reader { head: Head::default(), edges, largest: 0, last: None };
     let mut place = 0;
     while place < file.len() {
         let refuse = |number| Refusal::at(number, place);
@@ -40,7 +40,7 @@ fn read_records(file: &[u8], edges: &mut [u16]) -> Result<Head, Refusal> {
         reader.take(record).map_err(refuse)?;
         place += RECORD_FRONT + record.body.len();
     }
-    Refusal::unless_at(codes_fit(&reader.head, reader.edges), 8, file.len())?;
+    Refusal::unless_at(codes_fit(&reader.head, reader.largest), 8, file.len())?;
     Ok(reader.head)
 }
 
@@ -69,13 +69,19 @@ impl<'a> Record<'a> {
         match self.kind {
             SIZES => length == 6,
             INITIAL | FINAL | CEILING => length == 2,
-            EDGE => (8..=56).contains(&length) && (length - 8) % 6 == 0,
-            _ => false,
+            kind => {
+                let spelling = (length / 2).checked_sub(RECORD_NUMBERS);
+                length % 2 == 0 && spelling.is_some_and(|numbers| spelling_fits(kind, numbers))
+            }
         }
     }
 
     fn number(self, index: usize) -> u16 {
         number_at(self.body, index)
+    }
+
+    fn numbers(self) -> impl ExactSizeIterator<Item = u16> + 'a {
+        self.body.chunks_exact(2).map(|pair| number_at(pair, 0))
     }
 }
 
@@ -88,6 +94,8 @@ fn number_at(bytes: &[u8], index: usize) -> u16 {
 struct Reader<'a> {
     head: Head,
     edges: &'a mut [u16],
+    /// The largest constant in any atom.
+    largest: u32,
     /// Kind and first number of the last record.
     last: Option<(u16, u16)>,
 }
@@ -146,12 +154,11 @@ impl Reader<'_> {
             return Err(4);
         }
         let places = &mut self.edges[count * EDGE_NUMBERS..][..EDGE_NUMBERS];
-        spell_edge(record, places);
+        spell_edge(record.kind, record.numbers(), places);
+        let edge = Edge::take(&self.head, Places(places))?;
+        self.largest = self.largest.max(edge.guard.largest_constant());
         self.head.edge_count += 1;
-        match edge_flaw(&self.head, Edge(places)) {
-            Some(number) => Err(number),
-            None => Ok(()),
-        }
+        Ok(())
     }
 }
 
@@ -161,20 +168,6 @@ fn check_ceiling(record: Record) -> Result<(), u8> {
         Ok(())
     } else {
         Err(6)
-    }
-}
-
-/// Writes an edge record's numbers to the edge's places, which are zero.
-fn spell_edge(record: Record, places: &mut [u16]) {
-    let (front, atoms) = record.body.split_at(8);
-    spell_numbers(front, places);
-    places[4] = (atoms.len() / 6) as u16;
-    spell_numbers(atoms, &mut places[EDGE_FRONT..]);
-}
-
-fn spell_numbers(bytes: &[u8], places: &mut [u16]) {
-    for (place, pair) in places.iter_mut().zip(bytes.chunks_exact(2)) {
-        *place = number_at(pair, 0);
     }
 }
 
@@ -190,7 +183,7 @@ pub fn write_rule(head: &Head, edges: &[u16], out: &mut [u8]) -> Result<usize, R
     writer.record(SIZES, &[head.locations as u16, head.symbols as u16, head.clocks as u16]);
     writer.locations(INITIAL, head.initial);
     writer.locations(FINAL, head.finals);
-    for edge in edges_in_use(head, edges) {
+    for edge in places_in_use(head, edges) {
         writer.edge(edge);
     }
     Ok(length)
@@ -199,12 +192,13 @@ pub fn write_rule(head: &Head, edges: &[u16], out: &mut [u8]) -> Result<usize, R
 fn file_length(head: &Head, edges: &[u16]) -> usize {
     let sizes = RECORD_FRONT + 6;
     let location_records = head.initial.count_ones() + head.finals.count_ones();
-    let edge_bytes: usize = edges_in_use(head, edges).map(|edge| RECORD_FRONT + edge_body_length(edge)).sum();
+    let edge_bytes: usize = places_in_use(head, edges).map(|edge| RECORD_FRONT + body_length(edge)).sum();
     sizes + (RECORD_FRONT + 2) * location_records as usize + edge_bytes
 }
 
-fn edge_body_length(edge: Edge) -> usize {
-    8 + 6 * edge.atom_count()
+/// Bytes of an edge's record behind length and kind.
+fn body_length(edge: Places) -> usize {
+    2 * (RECORD_NUMBERS + edge.spelling().len())
 }
 
 /// Puts numbers into bytes known to be enough.
@@ -238,11 +232,10 @@ impl Writer<'_> {
         }
     }
 
-    /// An edge's record: its numbers without the atom count.
-    fn edge(&mut self, edge: Edge) {
-        let end = EDGE_FRONT + 3 * edge.atom_count();
-        self.numbers(&[edge_body_length(edge) as u16, EDGE]);
-        self.numbers(&edge.0[..4]);
-        self.numbers(&edge.0[EDGE_FRONT..end]);
+    /// An edge's record: its numbers without the count.
+    fn edge(&mut self, edge: Places) {
+        self.numbers(&[body_length(edge) as u16, edge.kind()]);
+        self.numbers(edge.record());
+        self.numbers(edge.spelling());
     }
 }

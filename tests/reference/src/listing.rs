@@ -4,14 +4,14 @@ use crate::table::{Built, Table};
 use crate::{build_table, read_rule, Refusal, EDGE_TABLE_NUMBERS};
 
 /// The most bytes of a file that the listing program reads.
-pub const LISTING_BYTES: usize = 16_384;
+pub const LISTING_BYTES: usize = 49_152;
 
 const SCRATCH_ROOM: usize = 16_384;
 const CELL_ROOM: usize = 16_384;
 const ROW_ROOM: usize = 2_048;
 const POOL_ROOM: usize = 8_192;
 
-/// The listing program: what it prints for a rule file, of which it reads at most 16,384 bytes.
+/// The listing program: what it prints for a rule file, of which it reads at most 49,152 bytes.
 pub fn list_table(file: &[u8]) -> Vec<u8> {
     let file = &file[..file.len().min(LISTING_BYTES)];
     let text = listing(file).unwrap_or_else(|refusal| format!("no {} {}\n", refusal.number, refusal.place));

@@ -20,7 +20,7 @@ fn run_script() -> io::Result<()> {
     reference::script::run_script(io::stdin().lock(), BufWriter::new(io::stdout().lock()))
 }
 
-/// Lists the table of the rule file on standard input, of which at most 16,384 bytes are read.
+/// Lists the table of the rule file on standard input, of which at most 49,152 bytes are read.
 fn list() -> io::Result<()> {
     let mut file = Vec::new();
     io::stdin().lock().take(reference::LISTING_BYTES as u64).read_to_end(&mut file)?;

@@ -1,6 +1,7 @@
 //! The built table: its record, its shape and the runner that walks its cells.
 
-use crate::rule::{code_count, sizes_in_range, MOST_CODES, MOST_CONSTANT};
+use crate::guard::MOST_CONSTANT;
+use crate::rule::{code_count, sizes_in_range, MOST_CODES};
 use crate::time::{Interval, Stamp};
 use crate::word::{check_word, MOST_EVENTS};
 use crate::Refusal;

@@ -3,7 +3,7 @@
 
 mod common;
 
-use common::{construct, refusal, PlainEdge, PlainRule, PlainTable, Room};
+use common::{construct, plain_marks, refusal, PlainEdge, PlainRule, PlainTable, Room, EDGE_TABLE};
 use reference::{list_table, Built, Refusal};
 
 /// L, K and cm, and with them N and how many numbers its bits take.
@@ -43,7 +43,7 @@ fn sizes() -> impl Iterator<Item = Size> {
 
 /// An edge on symbol 0 that is always open.
 fn edge(source: u16, target: u16) -> PlainEdge {
-    PlainEdge { source, target, symbol: 0, resets: vec![], atoms: vec![] }
+    PlainEdge::plain(source, target, 0, &[], &[])
 }
 
 /// A rule with one symbol, one clock and these edges, location 0 final.
@@ -56,9 +56,9 @@ fn rule(locations: u16, initial: &[u16], edges: Vec<PlainEdge>) -> PlainRule {
 /// that is at the constant.
 fn spread(size: Size, constant: u16) -> PlainRule {
     let open = (0..size.locations).map(|target| edge(0, target));
-    let reset = |edge| PlainEdge { resets: vec![0], atoms: vec![(0, 2, constant)], ..edge };
+    let reset = |edge| PlainEdge { resets: vec![0], marks: plain_marks(&[(0, 2, constant)]), ..edge };
     let mut edges: Vec<PlainEdge> = open.clone().chain(open.map(reset)).collect();
-    edges.push(PlainEdge { atoms: vec![(0, 4, size.largest)], ..edge(0, 0) });
+    edges.push(PlainEdge { marks: plain_marks(&[(0, 4, size.largest)]), ..edge(0, 0) });
     let rule = PlainRule { clocks: size.clocks, ..rule(size.locations, &[0], edges) };
     assert_eq!(rule.code_count(), size.codes.into());
     rule
@@ -84,7 +84,7 @@ impl Case {
     fn room(&self, scratch: usize) -> Room {
         let ones = |length| vec![u32::MAX; length];
         Room {
-            edges: vec![u16::MAX; 7424],
+            edges: vec![u16::MAX; EDGE_TABLE],
             scratch: ones(scratch),
             cells: ones(self.table.cells.len()),
             rows: ones(3 * self.table.rows.len()),
@@ -251,7 +251,7 @@ fn chain(first: u16, last: u16) -> Vec<PlainEdge> {
 #[test]
 fn the_same_bit_of_another_number_is_another_code() {
     let mut edges = chain(0, 31);
-    edges.push(PlainEdge { atoms: vec![(0, 4, 30)], ..edge(0, 1) });
+    edges.push(PlainEdge { marks: plain_marks(&[(0, 4, 30)]), ..edge(0, 1) });
     let case = Case::new(rule(32, &[0], edges));
     let rows = case.build_and_compare(case.room(32));
     let expected: Vec<Vec<u32>> = (0..32).map(|location| vec![32 * location]).chain([vec![]]).collect();

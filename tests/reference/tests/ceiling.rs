@@ -4,6 +4,7 @@ mod common;
 
 use common::{
     enumerate, random_word, record, refusal, whole_case, PlainEdge, PlainRule, PlainWord, Random, Room,
+    EDGE_TABLE,
 };
 use reference::{
     check_rule, decide, follow_event, list_table, start_follower, write_rule, Branch, Built, Head,
@@ -25,7 +26,7 @@ fn whole_case_under(ceiling: u16) -> Vec<u8> {
 }
 
 fn edge(source: u16, target: u16, symbol: u16, resets: &[u16], atoms: &[(u16, u16, u16)]) -> PlainEdge {
-    PlainEdge { source, target, symbol, resets: resets.to_vec(), atoms: atoms.to_vec() }
+    PlainEdge::plain(source, target, symbol, resets, atoms)
 }
 
 /// A rule that starts in location 0 and ends in its last, without a ceiling.
@@ -224,7 +225,7 @@ fn a_file_that_an_atom_makes_too_large_is_8_with_it_too() {
     for ceiling in CEILINGS {
         assert_eq!(file(17, ceiling, 14).len(), 34);
         assert_eq!(room.read(&file(17, ceiling, 14)), refusal(8, 34), "under {ceiling}");
-        assert_eq!(room.edges, [0; 7424]);
+        assert_eq!(room.edges, [0; EDGE_TABLE]);
         assert!(room.read(&file(17, ceiling, 13)).is_ok(), "under {ceiling}");
         assert!(room.read(&file(16, ceiling, 14)).is_ok(), "under {ceiling}");
     }

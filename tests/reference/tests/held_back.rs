@@ -1,4 +1,4 @@
-//! What held a rule back: the first failing atom that the branch runner names.
+//! What held a rule back: the first failing member that the branch runner names.
 
 mod common;
 
@@ -92,7 +92,8 @@ fn the_last_of_eight_atoms_is_named() {
 #[test]
 fn every_relation_can_fail() {
     // Relation, a stamp at which it fails for 2 seconds, and one at which it holds.
-    for (relation, fails, holds) in [(0, 4, 3), (1, 5, 4), (2, 3, 4), (2, 5, 4), (3, 3, 4), (4, 4, 5)] {
+    let relations = [(0, 4, 3), (1, 5, 4), (2, 3, 4), (2, 5, 4), (3, 3, 4), (4, 4, 5), (5, 4, 3), (5, 4, 5)];
+    for (relation, fails, holds) in relations {
         let rule = rule_of(&[&[0, 1, 0, 0, 0, 3, 0, 1, relation, 2]]);
         expect_held(&rule, 2, &[(0, fails)], Some(1));
         expect_accepted(&rule, 2, &[(0, holds)]);

@@ -519,7 +519,7 @@ fn timers_apart() {
             let any_later = first.built.largest == 1;
             assert!(word.stamps[1] == late || any_later && word.stamps[1] > late, "{word:?}");
         }
-        for relation in 0..=4 {
+        for relation in 0..=5 {
             included(&reset(relation), &kept(relation));
             included(&kept(relation), &reset(relation));
         }
@@ -724,6 +724,7 @@ fn changed_rule(random: &mut Random, rule: &PlainRule, bounds: &Bounds) -> Plain
         2 => changed.edges.truncate(random.below(rule.edges.len() as u64 + 1) as usize),
         _ => changed.edges.extend(other.edges.into_iter().take(2)),
     }
+    changed.edges.sort_by_key(|edge| edge.kind);
     changed
 }
 

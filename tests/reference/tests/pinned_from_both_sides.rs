@@ -4,8 +4,8 @@
 mod common;
 
 use common::{
-    enumerate, held_back, pinned, random_rule, random_word, record, refusal, whole_case, Bounds, PlainAtom,
-    PlainEdge, PlainRule, PlainWord, Random, Room,
+    enumerate, held_back, pinned, random_rule, random_word, record, refusal, whole_case, Bounds, Mark,
+    PlainAtom, PlainEdge, PlainRule, PlainWord, Random, Room, EDGE, EDGE_TABLE,
 };
 use reference::{
     check_rule, decide, follow_event, follow_event_in_place, list_table, read_rule, start_follower,
@@ -17,6 +17,7 @@ const AT_MOST: u16 = 1;
 const EQUAL: u16 = 2;
 const AT_LEAST: u16 = 3;
 const GREATER: u16 = 4;
+const NOT_EQUAL: u16 = 5;
 
 /// Where the edge that is asked about starts in its file.
 const PLACE: usize = 22;
@@ -37,16 +38,18 @@ fn file_around(clocks: u16, numbers: &[u16]) -> Vec<u8> {
 fn by_hand(clocks: u16, numbers: &[u16]) -> (Head, Vec<u16>) {
     let head = Head { locations: 1, symbols: 1, clocks: clocks.into(), edge_count: 3, ..Head::default() };
     let (front, atoms) = numbers.split_at(4);
-    let mut edges = vec![0; 7424];
-    edges[29..33].copy_from_slice(front);
-    edges[33] = (atoms.len() / 3) as u16;
-    edges[34..34 + atoms.len()].copy_from_slice(atoms);
+    let mut edges = vec![0; EDGE_TABLE];
+    let places = [0, 1, 2].map(|edge| edge * EDGE);
+    places.into_iter().for_each(|place| edges[place] = 5);
+    edges[EDGE + 1..EDGE + 5].copy_from_slice(front);
+    edges[EDGE + 5] = (atoms.len() / 3) as u16;
+    edges[EDGE + 6..][..atoms.len()].copy_from_slice(atoms);
     (head, edges)
 }
 
 /// The outcome of reading that file; by hand it must be 21 exactly where the file is refused.
 fn read_numbers(clocks: u16, numbers: &[u16]) -> Result<(), Refusal> {
-    let mut edges = vec![5; 7424];
+    let mut edges = vec![5; EDGE_TABLE];
     let outcome = read_rule(&file_around(clocks, numbers), &mut edges);
     let (head, spelled) = by_hand(clocks, numbers);
     if outcome.is_ok() {
@@ -54,7 +57,7 @@ fn read_numbers(clocks: u16, numbers: &[u16]) -> Result<(), Refusal> {
         assert_eq!(edges, spelled);
         assert_eq!(check_rule(&head, &spelled), Ok(()));
     } else {
-        assert_eq!(edges, [0; 7424]);
+        assert_eq!(edges, [0; EDGE_TABLE]);
         assert_eq!(check_rule(&head, &spelled), refusal(21, 0), "{numbers:?} by hand");
     }
     outcome.map(|_| ())
@@ -177,10 +180,10 @@ fn sides_that_cross_are_7() {
 }
 
 #[test]
-fn strict_relations_are_no_sides() {
+fn strict_relations_and_not_equal_are_no_sides() {
     for (clocks, clock, constant) in clocks_and_constants() {
-        for strict in [LESS, GREATER] {
-            for side in [LESS, AT_MOST, AT_LEAST, GREATER] {
+        for strict in [LESS, GREATER, NOT_EQUAL] {
+            for side in [LESS, AT_MOST, AT_LEAST, GREATER, NOT_EQUAL] {
                 expect_7_in_both_orders(clocks, (clock, strict, constant), (clock, side, constant));
             }
         }
@@ -219,7 +222,7 @@ fn at_most_0_alone_is_7() {
 #[test]
 fn an_equality_needs_no_sides() {
     for (clocks, clock, constant) in clocks_and_constants() {
-        for other in [LESS, AT_MOST, EQUAL, AT_LEAST, GREATER] {
+        for other in [LESS, AT_MOST, EQUAL, AT_LEAST, GREATER, NOT_EQUAL] {
             let (equal, other) = ((clock, EQUAL, constant), (0, other, constant));
             expect_accepted(clocks, 1, &[equal, other]);
             expect_accepted(clocks, 1, &[other, equal]);
@@ -231,7 +234,7 @@ fn an_equality_needs_no_sides() {
 /// All lists of up to three atoms over two clocks and the constants 0 and 1.
 #[test]
 fn every_short_list() {
-    let atom = |number: u16| (number % 2, number / 2 % 5, number / 10);
+    let atom = |number: u16| (number % 2, number / 2 % 6, number / 12);
     let mut lists = vec![vec![]];
     let mut counts = [0, 0];
     for length in 0..=3 {
@@ -242,11 +245,11 @@ fn every_short_list() {
             counts[usize::from(outcome.is_ok())] += 1;
         }
         if length < 3 {
-            let longer = |list: &Vec<_>| (0..20).map(|last| [&list[..], &[atom(last)]].concat()).collect();
+            let longer = |list: &Vec<_>| (0..24).map(|last| [&list[..], &[atom(last)]].concat()).collect();
             lists = lists.iter().flat_map(|list| -> Vec<_> { longer(list) }).collect();
         }
     }
-    assert_eq!(counts, [1 + 16 + 248 + 3736, 4 + 152 + 4264]);
+    assert_eq!(counts, [1 + 20 + 392 + 7544, 4 + 184 + 6280]);
 }
 
 #[test]
@@ -254,7 +257,7 @@ fn the_sides_stand_on_one_edge() {
     let edge = |atoms: &[PlainAtom]| record(5, &edge_numbers(1, atoms));
     let (least, most) = ((0, AT_LEAST, 3), (0, AT_MOST, 3));
     let sizes = record(1, &[1, 1, 1]);
-    let mut edges = vec![5; 7424];
+    let mut edges = vec![5; EDGE_TABLE];
     let file = [sizes.clone(), edge(&[least]), edge(&[most])].concat();
     assert_eq!(read_rule(&file, &mut edges), refusal(7, 10));
     let file = [sizes.clone(), edge(&[least, most]), edge(&[most])].concat();
@@ -271,12 +274,12 @@ fn the_first_edge_without_a_pin_is_named() {
         let edges: Vec<u8> = (0..256).flat_map(|edge| pair(3 + u16::from(loose.contains(&edge)))).collect();
         [&front[..], &edges].concat()
     };
-    let mut edges = vec![5; 7424];
+    let mut edges = vec![5; EDGE_TABLE];
     assert_eq!(read_rule(&file(&[]), &mut edges).unwrap().edge_count, 256);
     assert_eq!(front.len(), 28);
     for (loose, first) in [(vec![0], 0), (vec![1], 1), (vec![100, 255], 100), (vec![255], 255)] {
         assert_eq!(read_rule(&file(&loose), &mut edges), refusal(7, 28 + 24 * first));
-        assert_eq!(edges, [0; 7424]);
+        assert_eq!(edges, [0; EDGE_TABLE]);
     }
 }
 
@@ -286,7 +289,7 @@ fn number_6_comes_before_7() {
         let numbers = edge_numbers(3, &[(0, AT_LEAST, 3), (0, AT_MOST, most)]);
         assert_eq!(read_numbers(2, &numbers), if most == 3 { Ok(()) } else { refusal(7, PLACE) });
         let bad_numbers =
-            [(0, 1), (1, 1), (2, 1), (3, 4), (3, 7), (4, 2), (5, 5), (6, 31), (7, 2), (8, 5), (9, 31)];
+            [(0, 1), (1, 1), (2, 1), (3, 4), (3, 7), (4, 2), (5, 6), (6, 31), (7, 2), (8, 6), (9, 31)];
         for (place, number) in bad_numbers {
             let mut numbers = numbers.clone();
             numbers[place] = number;
@@ -304,7 +307,7 @@ fn number_6_comes_before_7() {
 fn numbers_2_and_4_come_before_7_and_8_after() {
     let (pair, loose) = ([(0, AT_LEAST, 14), (0, AT_MOST, 14)], [(0, AT_LEAST, 14), (0, AT_MOST, 13)]);
     let edge = |atoms: &[PlainAtom]| record(5, &edge_numbers(1, atoms));
-    let mut edges = vec![5; 7424];
+    let mut edges = vec![5; EDGE_TABLE];
     let mut read = |locations, records: &[Vec<u8>]| {
         let outcome = read_rule(&[record(1, &[locations, 1, 3]), records.concat()].concat(), &mut edges);
         outcome.map(|_| ())
@@ -326,27 +329,27 @@ fn a_pair_that_is_loosened_by_hand_is_21() {
     let check = |changes: &[(usize, u16)]| {
         let mut edges = edges.clone();
         for &(place, number) in changes {
-            edges[place] = number;
+            edges[EDGE + place] = number;
         }
         check_rule(&head, &edges)
     };
     assert_eq!(check(&[]), Ok(()));
     // Each number of the two atoms, and what it may be.
     let places: [(usize, &[u16]); 6] =
-        [(34, &[1]), (35, &[AT_LEAST, EQUAL]), (36, &[3]), (37, &[1]), (38, &[AT_MOST, EQUAL]), (39, &[3])];
+        [(6, &[1]), (7, &[AT_LEAST, EQUAL]), (8, &[3]), (9, &[1]), (10, &[AT_MOST, EQUAL]), (11, &[3])];
     for (place, allowed) in places {
         for number in 0..40 {
             let expected = if allowed.contains(&number) { Ok(()) } else { refusal(21, 0) };
             assert_eq!(check(&[(place, number)]), expected, "{number} at {place}");
         }
     }
-    assert_eq!(check(&[(36, 9), (39, 9)]), Ok(()), "another constant");
-    assert_eq!(check(&[(34, 0), (37, 0)]), Ok(()), "the other clock");
-    assert_eq!(check(&[(35, AT_MOST), (38, AT_LEAST)]), Ok(()), "the other order");
-    assert_eq!(check(&[(33, 1)]), refusal(21, 0), "a side past the atoms");
-    assert_eq!(check(&[(33, 1), (37, 0), (38, 0), (39, 0)]), refusal(21, 0), "one side");
-    assert_eq!(check(&[(39, 4)]), refusal(21, 0), "a constant more");
-    assert_eq!(check(&[(39, 4), (32, 0)]), Ok(()), "a constant more without resets");
+    assert_eq!(check(&[(8, 9), (11, 9)]), Ok(()), "another constant");
+    assert_eq!(check(&[(6, 0), (9, 0)]), Ok(()), "the other clock");
+    assert_eq!(check(&[(7, AT_MOST), (10, AT_LEAST)]), Ok(()), "the other order");
+    assert_eq!(check(&[(5, 1)]), refusal(21, 0), "a side past the atoms");
+    assert_eq!(check(&[(5, 1), (9, 0), (10, 0), (11, 0)]), refusal(21, 0), "one side");
+    assert_eq!(check(&[(11, 4)]), refusal(21, 0), "a constant more");
+    assert_eq!(check(&[(11, 4), (4, 0)]), Ok(()), "a constant more without resets");
     let fewer_clocks = Head { clocks: 1, ..head };
     assert_eq!(check_rule(&fewer_clocks, &edges), refusal(21, 0));
 }
@@ -395,7 +398,7 @@ const BOTH_SIDES: [Pin; 3] = [
 ];
 
 fn edge(source: u16, target: u16, symbol: u16, resets: &[u16], atoms: Vec<PlainAtom>) -> PlainEdge {
-    PlainEdge { source, target, symbol, resets: resets.to_vec(), atoms }
+    PlainEdge::plain(source, target, symbol, resets, &atoms)
 }
 
 /// A rule of two symbols that starts and ends in location 0.
@@ -495,7 +498,7 @@ fn the_rules_here_are_spelled_as_meant() {
     assert_eq!(rules(EQUALITY).map(|rule| rule.largest()), [1, 2, 1, 30, 3, 2]);
     for rule in BOTH_SIDES.map(rules).iter().flatten() {
         let mut resetting = rule.edges.iter().filter(|edge| !edge.resets.is_empty());
-        assert!(resetting.all(|edge| edge.resets_between_sides() && pinned(&edge.atoms)));
+        assert!(resetting.all(|edge| edge.resets_between_sides() && pinned(&edge.own_atoms())));
     }
 }
 
@@ -519,17 +522,23 @@ fn the_file_is_written_with_both_sides() {
     }
 }
 
+/// Where the edge has an atom that stands in no group.
+fn own_place(edge: &PlainEdge, atom: PlainAtom) -> usize {
+    edge.outermost().into_iter().find(|&place| edge.marks.get(place) == Some(&Mark::Atom(atom))).unwrap()
+}
+
 /// The rule with an equality in place of the sides of each edge that needs them.
 fn with_equalities(rule: &PlainRule) -> PlainRule {
     let mut rule = rule.clone();
     for edge in rule.edges.iter_mut().filter(|edge| edge.resets_between_sides()) {
-        let atoms = &mut edge.atoms;
-        let least = atoms.iter().position(|&(clock, relation, constant)| {
+        let atoms = edge.own_atoms();
+        let least = atoms.iter().find(|&&(clock, relation, constant)| {
             relation == AT_LEAST && atoms.contains(&(clock, AT_MOST, constant))
         });
-        let (clock, _, constant) = atoms.remove(least.unwrap());
-        let most = atoms.iter().position(|&atom| atom == (clock, AT_MOST, constant)).unwrap();
-        atoms[most].1 = EQUAL;
+        let &(clock, _, constant) = least.unwrap();
+        edge.marks.remove(own_place(edge, (clock, AT_LEAST, constant)));
+        let most = own_place(edge, (clock, AT_MOST, constant));
+        edge.marks[most] = Mark::Atom((clock, EQUAL, constant));
     }
     rule
 }

@@ -2,7 +2,7 @@
 
 mod common;
 
-use common::{random_rule, Bounds, Random};
+use common::{random_rule, record, Bounds, Random};
 use reference::script::run_script;
 
 const FILE: &str = "0600010002000200010002000200000002000300000\
@@ -16,7 +16,7 @@ fn answers(script: &str) -> Vec<String> {
 
 /// The answers after the whole case is read and built.
 fn after_build(script: &str) -> Vec<String> {
-    answers(&format!("read {FILE} 7424 9\nbuild 16384 16384 2048 8192 5\n{script}"))[2..].to_vec()
+    answers(&format!("read {FILE} 22016 9\nbuild 16384 16384 2048 8192 5\n{script}"))[2..].to_vec()
 }
 
 #[test]
@@ -50,7 +50,7 @@ fn hashes_are_fnv_1a_over_eight_bytes_a_number() {
 #[test]
 fn refusals_and_the_state_after_them() {
     let script =
-        "state\nread - 2 3\nread - 7424 3\nwrite 2 255\nbuild 1 1 1 1 7\ntable 1 - -\nstart 0\nfollow 0 0";
+        "state\nread - 2 3\nread - 22016 3\nwrite 2 255\nbuild 1 1 1 1 7\ntable 1 - -\nstart 0\nfollow 0 0";
     let empty = "0:cbf29ce484222325";
     let answers = answers(script);
     assert_eq!(
@@ -61,7 +61,7 @@ fn refusals_and_the_state_after_them() {
         )
     );
     assert!(answers[1].starts_with("read no 20 0 head=0,0,0,0,0,0 edges=2:"));
-    assert!(answers[2].starts_with("read no 3 0 head=0,0,0,0,0,0 edges=7424:"));
+    assert!(answers[2].starts_with("read no 3 0 head=0,0,0,0,0,0 edges=22016:"));
     assert!(answers[3].starts_with("write no 21 0 out=2:"));
     assert!(answers[4].starts_with("build no 21 0 built=0,0,0,0,0,0,0 scratch=1:"));
     assert_eq!(answers[5], "table no 25 0");
@@ -74,18 +74,18 @@ fn a_ceiling_leaves_no_field() {
     let with_ceiling = [&FILE[..44], "020004001e00", &FILE[44..]].concat();
     let script = |file: &str| {
         format!(
-            "read {file} 7424 9\ncheck_rule\nwrite 64 3\nwrite 58 3\nwrite 57 3\nbuild 1 24 9 2 5\n\
+            "read {file} 22016 9\ncheck_rule\nwrite 64 3\nwrite 58 3\nwrite 57 3\nbuild 1 24 9 2 5\n\
              list {file}\npoke head 5 1\ncheck_rule\npoke head 6 0\nstate"
         )
     };
     let with = answers(&script(&with_ceiling));
     assert_eq!(with, answers(&script(FILE)));
-    assert!(with[0].starts_with("read ok head=2,2,1,1,1,2 edges=7424:"));
+    assert!(with[0].starts_with("read ok head=2,2,1,1,1,2 edges=22016:"));
     assert!(with[3].starts_with("write ok 58 out=58:"));
     assert!(with[4].starts_with("write no 27 0 out=57:"));
     assert!(with[5].starts_with("build ok built=2,2,1,1,1,3,2 scratch=1:"));
     assert_eq!(with[7..10], ["poke 2", "check_rule no 21 0", "bad"]);
-    assert!(with[10].starts_with("state head=2,2,1,1,1,1 edges=7424:"));
+    assert!(with[10].starts_with("state head=2,2,1,1,1,1 edges=22016:"));
 }
 
 #[test]
@@ -121,7 +121,7 @@ fn the_calls_answer_in_their_form() {
 #[test]
 fn the_state_can_be_changed_and_brought_back() {
     let script = "restore\nsave\npoke head 0 1\ncheck_rule\npoke edges 0 65536\npoke edges 0 7\n\
-        poke edges 7424 0\npoke follower 4 9\npoke built 6 5\npoke cells 0 3\nresize rows 10 0\n\
+        poke edges 22016 0\npoke follower 4 9\npoke built 6 5\npoke cells 0 3\nresize rows 10 0\n\
         dump rows\ndump follower\nrestore\ncheck_rule\ncheck_table\nresize pool 0 0\ndump pool\n\
         dump head\npoke head 5 1\npoke head 6 0\npoke place 0 0\ndump place";
     let expected = [
@@ -130,7 +130,7 @@ fn the_state_can_be_changed_and_brought_back() {
         "poke 2",
         "check_rule no 21 0",
         "bad",
-        "poke 0",
+        "poke 5",
         "bad",
         "poke 0",
         "poke 2",
@@ -186,18 +186,38 @@ fn a_wrong_verdict_in_the_state_is_25() {
 #[test]
 fn decide_leaves_the_state() {
     let script =
-        format!("decide {FILE} 7424 1 24 9 2 3 2 0,1 2,4\ndecide {FILE} 7424 0 24 9 2 3 2 - -\nstate");
+        format!("decide {FILE} 22016 1 24 9 2 3 2 0,1 2,4\ndecide {FILE} 22016 0 24 9 2 3 2 - -\nstate");
     let answers = answers(&script);
-    assert!(answers[0].starts_with("decide ok 1 edges=7424:faab4d2cb42833c4 scratch=1:"));
-    assert!(answers[1].starts_with("decide no 22 0 edges=7424:faab4d2cb42833c4 scratch=0:"));
+    assert!(answers[0].starts_with("decide ok 1 edges=22016:48d36d364c3170c4 scratch=1:"));
+    assert!(answers[1].starts_with("decide no 22 0 edges=22016:48d36d364c3170c4 scratch=0:"));
     assert!(answers[2].starts_with("state head=0,0,0,0,0,0 edges=0:"));
+}
+
+/// One edge, open at any age but 0 that is below 1 or at least 3: HELD names the group as one member.
+#[test]
+fn a_group_that_holds_the_rule_back() {
+    let edge = record(6, &[0, 1, 0, 0, 3, 0, 5, 0, 2, 3, 0, 0, 1, 3, 0, 3, 3, 4]);
+    let file = [record(1, &[2, 1, 1]), record(2, &[0]), record(3, &[1]), edge].concat();
+    let hex: String = file.iter().map(|byte| format!("{byte:02x}")).collect();
+    let script = format!(
+        "read {hex} 22016 9\ncheck_rule\nwrite 62 0\nbranch 2 0 0\nbranch 2 0 1\nbranch 2 0 2\n\
+         branch 2 0 5\nbranch 2 0 6\npoke edges 5 13\ncheck_rule\nbranch 2 0 2"
+    );
+    let answers = answers(&script);
+    assert!(answers[0].starts_with("read ok head=2,1,1,1,2,1 edges=22016:"));
+    assert_eq!(answers[1], "check_rule ok");
+    assert!(answers[2].starts_with("write ok 62 out=62:"));
+    let held = [(0, 1), (1, 0), (0, 2), (0, 2), (1, 0)];
+    let branches = held.map(|(found, held)| format!("branch ok {found} 0 0,0,0,0,0,0,0,0,0,0,0,0 {held}"));
+    assert_eq!(answers[3..8], branches);
+    assert_eq!(answers[8..], ["poke 14", "check_rule no 21 0", "branch no 21 0"]);
 }
 
 /// The whole case, and the same without a final location.
 #[test]
 fn the_example_of_inclusion() {
     let script = format!(
-        "read {FILE} 7424 0\nbuild 12 24 9 2 0\nkeep 0\npoke built 4 0\npoke rows 2 0\nkeep 1\n\
+        "read {FILE} 22016 0\nbuild 12 24 9 2 0\nkeep 0\npoke built 4 0\npoke rows 2 0\nkeep 1\n\
          include 0 1 144 3 3 9\ninclude 1 0 144 3 3 9"
     );
     let rooms = "scratch=144:36fe4d3f1c233d25 symbols=3:81d23fd7003c2305 stamps=3:81d23fd7003c2305";
@@ -210,8 +230,8 @@ fn the_example_of_inclusion() {
 fn inclusion_answers_in_its_form() {
     let stricter = format!("{}0400{}", &FILE[..108], &FILE[112..]);
     let script = format!(
-        "keep 0\nread {stricter} 7424 0\nbuild 12 24 9 2 0\nkeep 9\nuse 0\nresize cells 23 0\nkeep 1\n\
-         read {FILE} 7424 0\nbuild 12 24 9 2 0\nresize cells 0 0\nresize cells 4 0\nresize rows 3 0\n\
+        "keep 0\nread {stricter} 22016 0\nbuild 12 24 9 2 0\nkeep 9\nuse 0\nresize cells 23 0\nkeep 1\n\
+         read {FILE} 22016 0\nbuild 12 24 9 2 0\nresize cells 0 0\nresize cells 4 0\nresize rows 3 0\n\
          resize pool 1 0\npoke built 1 1\npoke built 5 1\npoke built 6 1\nkeep 2\ncheck_table\n\
          include 0 9 144 4 3 7\ninclude 9 0 144 2 2 7\ninclude 0 9 144 1 2 7\ninclude 0 9 143 1 1 7\n\
          include 0 2 0 1 1 7\ninclude 1 2 0 1 1 7\ninclude 2 1 0 1 1 7\nuse 9\ntable 2 0,1 2,4\nuse 0\n\
@@ -343,7 +363,7 @@ fn scripts_of_rubbish_are_answered_line_by_line() {
     for _ in 0..150 {
         let file = random_rule(&mut random, &bounds).file();
         let hex: String = file.iter().map(|byte| format!("{byte:02x}")).collect();
-        let mut script = format!("read {hex} 7424 1\nbuild 4000 4000 600 900 {}\n", random.next() as u32);
+        let mut script = format!("read {hex} 22016 1\nbuild 4000 4000 600 900 {}\n", random.next() as u32);
         let lines = 60;
         for _ in 0..lines {
             script.push_str(&random_line(&mut random, &file));
@@ -359,7 +379,7 @@ fn random_line(random: &mut Random, file: &[u8]) -> String {
     let what = random.pick(&["head", "built", "follower", "edges", "cells", "rows", "pool"]);
     match random.below(17) {
         0..4 => format!("poke {what} {small} {wild}"),
-        4 => format!("resize {what} {} {wild}", random.pick(&[0, 1, 5, 7423, 7424, 7500])),
+        4 => format!("resize {what} {} {wild}", random.pick(&[0, 1, 5, 22015, 22016, 22100])),
         5 => "check_rule".into(),
         6 => format!("exact 2 0,1,0 1,{small},{wild} {} 3", small * 9),
         7 => format!("branch 2 0,1 {small},{wild}"),
@@ -376,7 +396,7 @@ fn random_line(random: &mut Random, file: &[u8]) -> String {
             file[place] = random.next() as u8;
             file.truncate(file.len() - random.below(2) as usize);
             let hex: String = file.iter().map(|byte| format!("{byte:02x}")).collect();
-            format!("read {hex} 7424 3")
+            format!("read {hex} 22016 3")
         }
         _ => random.pick(&["check_table", "write 300 1", "save", "restore", "state", "dump built"]).into(),
     }

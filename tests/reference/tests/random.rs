@@ -4,8 +4,8 @@
 mod common;
 
 use common::{
-    construct, enumerate, held_back, random_rule, random_word, refusal, Bounds, PlainRule, PlainWord, Random,
-    Room, Runs,
+    construct, enumerate, held_back, random_rule, random_word, refusal, Bounds, PlainEdge, PlainRule,
+    PlainWord, Random, Room, Runs,
 };
 use reference::{
     check_rule, check_table, follow_event, list_table, start_follower, write_rule, Branch, Built, Head,
@@ -34,7 +34,7 @@ fn twelve_events() {
 #[test]
 fn what_held_random_rules_back() {
     let mut random = Random(4);
-    let (mut held_at, mut held_by_nothing) = ([0; 5], 0);
+    let (mut held_at, mut held_by_nothing) = ([0; 16], 0);
     for _ in 0..1000 {
         let rule = random_rule(&mut random, &WIDER);
         let mut room = Room::listing(2);
@@ -51,7 +51,7 @@ fn what_held_random_rules_back() {
         }
     }
     println!("held at {held_at:?}, by nothing {held_by_nothing}");
-    assert!(held_at[..4].iter().all(|&count| count > 50) && held_at[4] > 0, "too few of some kind");
+    assert!(held_at[..4].iter().all(|&count| count > 50) && held_at[4] > 10, "too few of some kind");
     assert!(held_by_nothing > 1000, "too few held by nothing");
 }
 
@@ -68,7 +68,8 @@ fn careless_word(random: &mut Random, rule: &PlainRule) -> PlainWord {
 
 fn cross_check(seed: u64, rules: usize, bounds: &Bounds, words: usize, events: u64) {
     let mut random = Random(seed);
-    let (mut accepted, mut refused, mut resets, mut ceilings, mut between_sides) = (0, 0, 0, 0, 0);
+    let (mut accepted, mut refused, mut resets, mut ceilings) = (0, 0, 0, 0);
+    let (mut between_sides, mut through_groups) = (0, 0);
     for _ in 0..rules {
         let rule = random_rule(&mut random, bounds);
         let Some((room, head, built)) = build_and_compare(&rule) else { continue };
@@ -81,19 +82,23 @@ fn cross_check(seed: u64, rules: usize, bounds: &Bounds, words: usize, events: u
                 true => refused += 1,
                 false => accepted += 1,
             }
-            between_sides += usize::from(some_run_resets_between_sides(&rule, &runs));
+            between_sides += usize::from(some_run_takes(&rule, &runs, PlainEdge::resets_between_sides));
+            through_groups += usize::from(some_run_takes(&rule, &runs, PlainEdge::has_groups));
         }
     }
     println!("{accepted} accepted, {refused} not, {resets} cells with a reset, {ceilings} ceilings above cm");
     println!("{between_sides} accepted with a reset that is pinned from both sides");
+    println!("{through_groups} accepted with an edge that has groups");
     assert!(accepted > rules && refused > rules && resets > rules / 2, "too few of some kind");
     assert!(ceilings > rules / 8, "too few ceilings");
     assert!(between_sides > rules / 8, "too few pins from both sides");
+    assert!(through_groups > rules / 8, "too few groups");
 }
 
-fn some_run_resets_between_sides(rule: &PlainRule, runs: &Runs) -> bool {
+/// Whether some accepting run takes such an edge.
+fn some_run_takes(rule: &PlainRule, runs: &Runs, such: fn(&PlainEdge) -> bool) -> bool {
     let mut taken = runs.accepting.iter().flat_map(|(_, edges)| edges);
-    taken.any(|&edge| rule.edges[edge as usize].resets_between_sides())
+    taken.any(|&edge| such(&rule.edges[edge as usize]))
 }
 
 /// Reads, writes and builds a rule and compares each with what the plain rule says.

@@ -2,7 +2,7 @@
 
 mod common;
 
-use common::{random_rule, record, refusal, whole_case, Bounds, PlainWord, Random, Room};
+use common::{random_rule, record, refusal, whole_case, Bounds, PlainWord, Random, Room, EDGE, EDGE_TABLE};
 use reference::{
     check_rule, check_table, check_word, decide, follow_event, follow_event_in_place, read_rule,
     start_follower, write_rule, Built, Follower, Head, Refusal,
@@ -15,14 +15,14 @@ fn file(records: &[Vec<u8>]) -> Vec<u8> {
 
 /// The refusal of reading a file, the edge table being all zero after it.
 fn refused(file: &[u8]) -> (u8, usize) {
-    let mut edges = vec![5; 7430];
+    let mut edges = vec![5; EDGE_TABLE + 6];
     let refusal = read_rule(file, &mut edges).unwrap_err();
-    assert_eq!(edges, [0; 7430]);
+    assert_eq!(edges, [0; EDGE_TABLE + 6]);
     (refusal.number, refusal.place)
 }
 
 fn accepted(file: &[u8]) -> bool {
-    read_rule(file, &mut [5; 7424]).is_ok()
+    read_rule(file, &mut [5; EDGE_TABLE]).is_ok()
 }
 
 #[test]
@@ -38,7 +38,7 @@ fn number_1_is_a_record_cut_short() {
 #[test]
 fn number_2_is_an_unknown_kind_or_length() {
     assert_eq!(refused(&record(0, &[])), (2, 0));
-    assert_eq!(refused(&record(6, &[1])), (2, 0));
+    assert_eq!(refused(&record(7, &[1, 1, 1, 1])), (2, 0));
     assert_eq!(refused(&record(257, &[1, 1, 1])), (2, 0));
     assert_eq!(refused(&record(1, &[1, 1])), (2, 0));
     assert_eq!(refused(&file(&[record(2, &[])])), (2, 10));
@@ -118,7 +118,7 @@ fn a_ceiling_that_is_dropped_keeps_its_turn() {
 fn a_ceiling_that_is_dropped_counts_in_the_places_after_it() {
     let ceiling = record(4, &[30]);
     assert_eq!(refused(&file(&[ceiling.clone(), vec![8, 0, 5]])), (1, 16));
-    assert_eq!(refused(&file(&[ceiling.clone(), record(6, &[0])])), (2, 16));
+    assert_eq!(refused(&file(&[ceiling.clone(), record(7, &[0; 4])])), (2, 16));
     assert_eq!(refused(&file(&[ceiling.clone(), record(5, &[2, 0, 0, 0])])), (6, 16));
     assert_eq!(refused(&file(&[ceiling.clone(), record(5, &[0, 0, 0, 1])])), (7, 16));
     let edges = vec![record(5, &[0; 4]); 257].concat();
@@ -155,14 +155,14 @@ fn number_6_is_a_number_out_of_range() {
         &[0, 0, 2, 0],
         &[0, 0, 0, 4],
         &[0, 0, 0, 0, 2, 0, 0],
-        &[0, 0, 0, 0, 0, 5, 0],
+        &[0, 0, 0, 0, 0, 6, 0],
         &[0, 0, 0, 0, 0, 0, 31],
         &[0, 0, 0, 4, 0, 3, 0],
     ];
     for edge in edges {
         assert_eq!(refused(&file(&[record(5, &[0; 4]), record(5, edge)])), (6, 22), "{edge:?}");
     }
-    assert!(accepted(&file(&[record(5, &[1, 1, 1, 3, 1, 4, 30, 0, 2, 30])])));
+    assert!(accepted(&file(&[record(5, &[1, 1, 1, 3, 1, 5, 30, 0, 2, 30])])));
 }
 
 #[test]
@@ -189,7 +189,7 @@ fn number_8_is_too_many_codes_and_comes_last() {
 #[test]
 fn number_20_is_a_short_edge_table() {
     let mut room = Room::listing(5);
-    room.edges.truncate(7423);
+    room.edges.truncate(EDGE_TABLE - 1);
     let before = room.clone();
     assert_eq!(room.read(&[]), refusal(20, 0));
     assert_eq!(check_rule(&Head::default(), &room.edges), refusal(20, 0));
@@ -228,10 +228,10 @@ fn left_by_some_file(head: &Head, edges: &[u16]) -> bool {
         let members = (0..32).filter(|location| set >> location & 1 == 1);
         file.extend(members.flat_map(|location| record(kind, &[location])));
     }
-    for edge in edges.chunks_exact(29).take(head.edge_count as usize) {
-        let end = 5 + 3 * usize::from(edge[4].min(9));
-        let atoms = edge.get(5..end).unwrap_or(&[0; 27]);
-        file.extend(record(5, &[&edge[..4], atoms].concat()));
+    for edge in edges.chunks_exact(EDGE).take(head.edge_count as usize) {
+        let count = usize::from(edge[5]) * if edge[0] == 5 { 3 } else { 1 };
+        let guard = edge.get(6..6 + count).unwrap_or(&[0; 81]);
+        file.extend(record(edge[0], &[&edge[1..5], guard].concat()));
     }
     let mut read = vec![0; edges.len()];
     read_rule(&file, &mut read) == Ok(*head) && read == edges
@@ -245,7 +245,7 @@ fn number_21_is_what_no_file_leaves() {
     for turn in 0..400 {
         let rule = random_rule(&mut random, &bounds);
         let mut room = Room::listing(5);
-        room.edges.resize(7424 + turn % 3, 0);
+        room.edges.resize(EDGE_TABLE + turn % 3, 0);
         let Ok(head) = room.read(&rule.file()) else { continue };
         assert_eq!(check_rule(&head, &room.edges), Ok(()));
         for _ in 0..20 {
@@ -255,7 +255,7 @@ fn number_21_is_what_no_file_leaves() {
                 numbers[random.below(6) as usize] = random_number(&mut random);
                 head = Head::from_numbers(numbers);
             } else {
-                let used = head.edge_count as usize * 29;
+                let used = head.edge_count as usize * EDGE;
                 let places = if random.chance(90) && used > 0 { used } else { edges.len() };
                 edges[random.below(places as u64) as usize] = random_number(&mut random) as u16;
             }

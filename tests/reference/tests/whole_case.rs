@@ -2,7 +2,7 @@
 
 mod common;
 
-use common::{record, refusal, whole_case, PlainWord, Room};
+use common::{record, refusal, whole_case, PlainWord, Room, EDGE, EDGE_TABLE};
 use reference::{follow_event, list_table, start_follower, write_rule, Built, Head};
 
 const LISTING: &str = "\
@@ -30,9 +30,9 @@ fn the_file_is_read_as_it_says() {
     let (room, head, built) = built_whole_case();
     assert_eq!(whole_case().len(), 58);
     assert_eq!(head.to_numbers(), [2, 2, 1, 1, 1, 2]);
-    assert_eq!(room.edges[..9], [0, 1, 0, 1, 1, 0, 2, 1, 0]);
-    assert_eq!(room.edges[29..38], [1, 0, 1, 0, 1, 0, 3, 1, 0]);
-    assert_eq!(room.edges.iter().map(|&number| usize::from(number)).sum::<usize>(), 13);
+    assert_eq!(room.edges[..10], [5, 0, 1, 0, 1, 1, 0, 2, 1, 0]);
+    assert_eq!(room.edges[EDGE..EDGE + 10], [5, 1, 0, 1, 0, 1, 0, 3, 1, 0]);
+    assert_eq!(room.edges.iter().map(|&number| usize::from(number)).sum::<usize>(), 23);
     assert_eq!(built.to_numbers(), [2, 2, 1, 1, 1, 3, 2]);
     assert_eq!(room.rows[..9], [0, 1, 1, 1, 0, 0, 1, 1, 0]);
     assert_eq!(room.rows[9..], [0; 2039]);
@@ -64,8 +64,8 @@ fn the_listing_of_a_refused_file_names_the_refusal() {
 #[test]
 fn the_listing_takes_the_first_bytes_as_the_file() {
     let file = |body: usize| [record(1, &[1, 1, 1]), record(5, &vec![0; body / 2])].concat();
-    assert_eq!(list_table(&file(16_384 - 14)), b"no 2 10\n");
-    assert_eq!(list_table(&file(16_384 - 12)), b"no 1 10\n");
+    assert_eq!(list_table(&file(49_152 - 14)), b"no 2 10\n");
+    assert_eq!(list_table(&file(49_152 - 12)), b"no 1 10\n");
 }
 
 /// Symbols and stamps.
@@ -154,11 +154,11 @@ fn the_other_cases_to_be_run() {
     assert!(room.read(&[sizes.clone(), record(5, &squeezed)].concat()).is_ok());
     let loose = [0, 0, 0, 1, 0, 3, 3, 0, 1, 4];
     assert_eq!(room.read(&[sizes, record(5, &loose)].concat()), refusal(7, 10));
-    assert_eq!(room.edges, [0; 7424]);
+    assert_eq!(room.edges, [0; EDGE_TABLE]);
 }
 
 #[test]
-fn the_longest_legal_file_has_15_760_bytes() {
+fn the_longest_legal_file_has_44_432_bytes() {
     let all: Vec<u16> = (0..32).collect();
     let mut file = record(1, &[32, 16, 2]);
     for kind in [2, 3] {
@@ -166,14 +166,15 @@ fn the_longest_legal_file_has_15_760_bytes() {
     }
     file.extend(record(4, &[30]));
     for _ in 0..256 {
-        file.extend(record(5, &[[31, 31, 15, 0].to_vec(), [1, 4, 30].repeat(8)].concat()));
+        let text = [[2, 4].repeat(8), [3, 1, 4, 30].repeat(16)].concat();
+        file.extend(record(6, &[[31, 31, 15, 0].to_vec(), text].concat()));
     }
-    assert_eq!(file.len(), 15_760);
+    assert_eq!(file.len(), 44_432);
     let mut room = Room::listing(3);
     let head = room.read(&file).unwrap();
     let (front, rest) = file.split_at(10 + 64 * 6);
-    let mut out = vec![0; 15_754];
-    assert_eq!(write_rule(&head, &room.edges, &mut out), Ok(15_754));
+    let mut out = vec![0; 44_426];
+    assert_eq!(write_rule(&head, &room.edges, &mut out), Ok(44_426));
     assert_eq!(out, [front, &rest[6..]].concat(), "less the ceiling");
     assert_eq!(write_rule(&head, &room.edges, &mut out[1..]), refusal(27, 0));
 }

@@ -5,6 +5,10 @@
 
 use std::collections::BTreeSet;
 
+/// Numbers of an edge and of an edge table.
+pub const EDGE: usize = 86;
+pub const EDGE_TABLE: usize = 22_016;
+
 /// Splitmix64.
 pub struct Random(pub u64);
 
@@ -38,13 +42,25 @@ impl Random {
 /// Clock, relation, constant.
 pub type PlainAtom = (u16, u16, u16);
 
+/// A mark of a guard's text, an atom's with its numbers.
+#[derive(Clone, Copy, Debug, PartialEq, Eq)]
+pub enum Mark {
+    AllOf,
+    AnyOf,
+    Atom(PlainAtom),
+    Close,
+}
+
 #[derive(Clone, Debug)]
 pub struct PlainEdge {
     pub source: u16,
     pub target: u16,
     pub symbol: u16,
     pub resets: Vec<u16>,
-    pub atoms: Vec<PlainAtom>,
+    /// 5 with atoms alone, or 6.
+    pub kind: u16,
+    /// The guard, one mark after another.
+    pub marks: Vec<Mark>,
 }
 
 #[derive(Clone, Debug)]
@@ -102,8 +118,8 @@ impl PlainRule {
 
     /// cm.
     pub fn largest(&self) -> u64 {
-        let constants = self.edges.iter().flat_map(|edge| edge.atoms.iter().map(|atom| atom.2));
-        constants.max().unwrap_or(0).into()
+        let atoms = self.edges.iter().flat_map(PlainEdge::atoms);
+        atoms.map(|atom| atom.2).max().unwrap_or(0).into()
     }
 
     /// N.
@@ -113,22 +129,108 @@ impl PlainRule {
 }
 
 impl PlainEdge {
-    fn record(&self) -> Vec<u8> {
-        let mask = self.resets.iter().map(|clock| 1 << clock).sum();
-        let mut numbers = vec![self.source, self.target, self.symbol, mask];
-        numbers.extend(self.atoms.iter().flat_map(|atom| [atom.0, atom.1, atom.2]));
-        record(5, &numbers)
+    /// An edge with atoms alone.
+    pub fn plain(source: u16, target: u16, symbol: u16, resets: &[u16], atoms: &[PlainAtom]) -> Self {
+        PlainEdge { source, target, symbol, resets: resets.to_vec(), kind: 5, marks: plain_marks(atoms) }
     }
 
-    /// Whether all atoms hold for these values, a constant being worth `unit` times itself.
+    pub fn record(&self) -> Vec<u8> {
+        let mask = self.resets.iter().map(|clock| 1 << clock).sum();
+        let mut numbers = vec![self.source, self.target, self.symbol, mask];
+        if self.kind == 5 {
+            assert!(self.marks.iter().all(|mark| matches!(mark, Mark::Atom(_))));
+            numbers.extend(self.atoms().flat_map(|atom| [atom.0, atom.1, atom.2]));
+        } else {
+            numbers.extend(text(&self.marks));
+        }
+        record(self.kind, &numbers)
+    }
+
+    pub fn has_groups(&self) -> bool {
+        self.marks.contains(&Mark::AnyOf)
+    }
+
+    /// The atoms of all groups.
+    pub fn atoms(&self) -> impl Iterator<Item = PlainAtom> + '_ {
+        self.marks.iter().filter_map(|mark| match mark {
+            Mark::Atom(atom) => Some(*atom),
+            _ => None,
+        })
+    }
+
+    /// The places of the marks, and the one past them, that stand in no group.
+    pub fn outermost(&self) -> Vec<usize> {
+        let mut depth = 0;
+        let mut places = Vec::new();
+        for (place, mark) in self.marks.iter().enumerate() {
+            places.extend((depth == 0).then_some(place));
+            match mark {
+                Mark::AllOf | Mark::AnyOf => depth += 1,
+                Mark::Atom(_) => {}
+                Mark::Close => depth -= 1,
+            }
+        }
+        places.push(self.marks.len());
+        places
+    }
+
+    /// The atoms in no group.
+    pub fn own_atoms(&self) -> Vec<PlainAtom> {
+        let own = self.outermost();
+        let own = own.into_iter().filter_map(|place| match self.marks.get(place) {
+            Some(Mark::Atom(atom)) => Some(*atom),
+            _ => None,
+        });
+        own.collect()
+    }
+
+    /// The position of the first member of the outermost level that fails for these values, a constant being
+    /// worth `unit` times itself. Goes along the marks with the open groups' answers so far.
+    fn first_failing(&self, values: &[u64], unit: u64) -> Option<usize> {
+        let (mut open, mut position) = (Vec::new(), 0);
+        for &mark in &self.marks {
+            let holds = match mark {
+                Mark::AllOf | Mark::AnyOf => {
+                    open.push((mark, mark == Mark::AllOf));
+                    continue;
+                }
+                Mark::Atom(atom) => atom_holds(atom, values, unit),
+                Mark::Close => open.pop().unwrap().1,
+            };
+            match open.last_mut() {
+                Some((Mark::AllOf, so_far)) => *so_far &= holds,
+                Some((_, so_far)) => *so_far |= holds,
+                None if holds => position += 1,
+                None => return Some(position),
+            }
+        }
+        None
+    }
+
+    /// Whether the guard holds.
     fn holds(&self, values: &[u64], unit: u64) -> bool {
-        self.atoms.iter().all(|&atom| atom_holds(atom, values, unit))
+        self.first_failing(values, unit).is_none()
     }
 
     /// Whether the edge resets and has no equality, so that it must be pinned from both sides.
     pub fn resets_between_sides(&self) -> bool {
-        !self.resets.is_empty() && self.atoms.iter().all(|atom| atom.1 != 2)
+        !self.resets.is_empty() && self.own_atoms().iter().all(|atom| atom.1 != 2)
     }
+}
+
+pub fn plain_marks(atoms: &[PlainAtom]) -> Vec<Mark> {
+    atoms.iter().map(|&atom| Mark::Atom(atom)).collect()
+}
+
+/// The numbers of a text.
+pub fn text(marks: &[Mark]) -> Vec<u16> {
+    let numbers = marks.iter().flat_map(|mark| match *mark {
+        Mark::AllOf => vec![1],
+        Mark::AnyOf => vec![2],
+        Mark::Atom((clock, relation, constant)) => vec![3, clock, relation, constant],
+        Mark::Close => vec![4],
+    });
+    numbers.collect()
 }
 
 /// Whether some clock and constant have an equality, or both an at-most and an at-least.
@@ -148,6 +250,7 @@ fn atom_holds((clock, relation, constant): PlainAtom, values: &[u64], unit: u64)
         2 => value == bound,
         3 => value >= bound,
         4 => value > bound,
+        5 => value != bound,
         _ => unreachable!(),
     }
 }
@@ -159,12 +262,7 @@ pub fn held_back(rule: &PlainRule, word: &PlainWord) -> Option<usize> {
         if edge.symbol != word.symbols[0] || !rule.initial.contains(&edge.source) {
             continue;
         }
-        for position in 0..edge.atoms.len() {
-            if !atom_holds(edge.atoms[position], &ages, word.grain.into()) {
-                return Some(position);
-            }
-        }
-        return None;
+        return edge.first_failing(&ages, word.grain.into());
     }
     None
 }
@@ -361,6 +459,9 @@ pub fn random_rule(random: &mut Random, bounds: &Bounds) -> PlainRule {
     let clocks = random.between(1, bounds.clocks) as u16;
     let edge_count = if random.chance(3) { 0 } else { random.between(bounds.edges / 2, bounds.edges) };
     let constant = random.below(bounds.constant + 1);
+    let plain = if random.chance(50) { edge_count } else { random.below(edge_count + 1) };
+    let kind = |edge| if edge < plain { 5 } else { 6 };
+    let sizes = [locations, symbols, clocks];
     PlainRule {
         locations,
         symbols,
@@ -368,33 +469,61 @@ pub fn random_rule(random: &mut Random, bounds: &Bounds) -> PlainRule {
         initial: (0..locations).filter(|_| random.chance(60)).collect(),
         finals: (0..locations).filter(|_| random.chance(40)).collect(),
         ceiling: random.chance(20).then(|| random.below(31) as u16),
-        edges: (0..edge_count).map(|_| random_edge(random, locations, symbols, clocks, constant)).collect(),
+        edges: (0..edge_count).map(|edge| random_edge(random, kind(edge), sizes, constant)).collect(),
     }
 }
 
-fn random_edge(random: &mut Random, locations: u16, symbols: u16, clocks: u16, constant: u64) -> PlainEdge {
+fn random_edge(random: &mut Random, kind: u16, sizes: [u16; 3], constant: u64) -> PlainEdge {
+    let [locations, symbols, clocks] = sizes;
     let resets: Vec<u16> = if random.chance(50) { Vec::new() } else { random_clocks(random, clocks) };
-    let mut atoms: Vec<PlainAtom> = (0..random.pick(&[0u64, 0, 1, 1, 2, 3]))
-        .map(|_| {
-            let relation = random.pick(&[0, 1, 2, 3, 3, 4]);
-            (random.below(clocks.into()) as u16, relation, random.below(constant + 1) as u16)
-        })
-        .collect();
-    if !resets.is_empty() && !pinned(&atoms) {
-        let (clock, constant) = (random.below(clocks.into()) as u16, random.below(constant + 1) as u16);
-        let pin: &[u16] = if random.chance(40) { &[2] } else { &[1, 3] };
-        for &relation in pin {
-            let place = random.below(atoms.len() as u64 + 1) as usize;
-            atoms.insert(place, (clock, relation, constant));
+    let marks = match kind {
+        5 => {
+            (0..random.pick(&[0u64, 0, 1, 1, 2, 3])).map(|_| random_atom(random, clocks, constant)).collect()
         }
-    }
-    PlainEdge {
+        _ => random_marks(random, clocks, constant),
+    };
+    let mut edge = PlainEdge {
         source: random.below(locations.into()) as u16,
         target: random.below(locations.into()) as u16,
         symbol: random.below(symbols.into()) as u16,
         resets,
-        atoms,
+        kind,
+        marks,
+    };
+    if !edge.resets.is_empty() && !pinned(&edge.own_atoms()) {
+        let (clock, constant) = (random.below(clocks.into()) as u16, random.below(constant + 1) as u16);
+        let pin: &[u16] = if random.chance(40) { &[2] } else { &[1, 3] };
+        for &relation in pin {
+            let place = random.pick(&edge.outermost());
+            edge.marks.insert(place, Mark::Atom((clock, relation, constant)));
+        }
     }
+    edge
+}
+
+fn random_atom(random: &mut Random, clocks: u16, constant: u64) -> Mark {
+    let relation = random.pick(&[0, 1, 2, 3, 3, 4, 5]);
+    Mark::Atom((random.below(clocks.into()) as u16, relation, random.below(constant + 1) as u16))
+}
+
+/// A text of at most 14 atoms.
+pub fn random_marks(random: &mut Random, clocks: u16, constant: u64) -> Vec<Mark> {
+    let (mut marks, mut groups, mut level) = (Vec::new(), 0, 1);
+    for _ in 0..random.pick(&[0, 1, 2, 4, 7, 10, 14]) {
+        match random.below(10) {
+            0..4 if level < 4 && groups < 8 => {
+                marks.push(if level % 2 == 1 { Mark::AnyOf } else { Mark::AllOf });
+                (groups, level) = (groups + 1, level + 1);
+            }
+            4..6 if level > 1 => {
+                marks.push(Mark::Close);
+                level -= 1;
+            }
+            _ => marks.push(random_atom(random, clocks, constant)),
+        }
+    }
+    marks.extend((1..level).map(|_| Mark::Close));
+    marks
 }
 
 fn random_clocks(random: &mut Random, clocks: u16) -> Vec<u16> {
@@ -452,7 +581,7 @@ impl Room {
     pub fn new(scratch: usize, cells: usize, rows: usize, pool: usize, fill: u16) -> Self {
         let wide = |length| vec![u32::from(fill); length];
         Room {
-            edges: vec![fill; 7424],
+            edges: vec![fill; EDGE_TABLE],
             scratch: wide(scratch),
             cells: wide(cells),
             rows: wide(rows),
