@@ -3,8 +3,9 @@
  *
  * Reads the rule file and a word of at most 12 events from standard input, one a line: SYMBOL STAMP. Stamps
  * are in D-ths of a second (2 if D is not given). Prints the least accepting run, its start location and its
- * edges; or that no run accepts, and which atom held the rule back at the first event, if one did. Locations,
- * edges and atoms are numbered from 0. Input is as events.h says, exit status as common.h says.
+ * edges; or that no run accepts, and which member of a guard held the rule back at the first event, if one did: an
+ * atom, or a whole group. Locations, edges and members are numbered from 0. Input is as events.h says, exit status as
+ * common.h says.
  */
 #define PROGRAM "branch"
 #include "events.h"
@@ -45,7 +46,7 @@ int main(int count, char **words)
     if (branch.found)
         print_run(branch.start, taken, length);
     else if (branch.held)
-        printf("no run; atom %zu of the lowest edge from an initial location on symbol %u"
+        printf("no run; member %zu of the lowest edge from an initial location on symbol %u"
                " does not hold at the first event\n",
                branch.position, (unsigned)symbols[0]);
     else
