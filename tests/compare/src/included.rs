@@ -96,6 +96,7 @@ fn tells_apart<E: Engine>(first: Table, second: Table, word: &Word) -> bool {
 mod tests {
     use super::*;
     use crate::Machine;
+    use alderskein::EDGE_TABLE;
 
     const WORKED: &str = "060001000200020001000200020000000200030000000E00050000000100000001000000020001000E\
                           0005000100000001000000000003000100";
@@ -105,13 +106,13 @@ mod tests {
         let mut machine = Machine::new();
         let stricter = WORKED.replace("00030001", "00040001");
         let lines = [
-            &format!("read {WORKED} 7424 0"),
+            &format!("read {WORKED} {EDGE_TABLE} 0"),
             "build 1 24 9 2 0",
             "keep 0",
             "poke built 4 0",
             "poke rows 2 0",
             "keep 1",
-            &format!("read {stricter} 7424 0"),
+            &format!("read {stricter} {EDGE_TABLE} 0"),
             "build 1 24 9 2 0",
             "keep 2",
         ];

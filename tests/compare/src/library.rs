@@ -7,6 +7,9 @@ use alderskein::raw::{
     Stamp, Started,
 };
 
+/// The most bytes of a file that the listing program reads.
+const LISTING_BYTES: usize = 49_152;
+
 /// The verified library.
 pub struct Library;
 
@@ -77,7 +80,7 @@ impl Engine for Library {
     }
 
     fn list(file: &[u8]) -> Vec<u8> {
-        let file = &file[..file.len().min(16_384)];
+        let file = &file[..file.len().min(LISTING_BYTES)];
         let table = alderskein::Rule::read(file).and_then(|rule| rule.build(alderskein::Room::LISTING));
         let text = match table {
             Ok(table) => table.to_string(),

@@ -1,8 +1,9 @@
 //! Rules with N at a multiple of 32 or next to one, in scratches about N / 32 numbers.
 
+use crate::edges::{members, Edge, AT_MOST};
 use crate::pins::pin;
 use crate::random::Random;
-use crate::rules::{some_locations, Edge, Rule, AT_MOST, NUMBER_BITS};
+use crate::rules::{some_locations, Rule, NUMBER_BITS};
 use crate::scene::{needs, Scene};
 use crate::sizes::{all_sizes, built_soon, Size, MOST_CODES};
 use protocol::{Call, Room};
@@ -68,11 +69,11 @@ fn crowded(random: &mut Random, Size { locations, clocks, top }: Size) -> Rule {
     let mut edges = Vec::new();
     for source in 0..locations {
         let target = if all { source } else { (source + 1) % locations };
-        let mut atoms = Vec::new();
-        pin(random, &mut atoms, 0, 1);
-        let keep = Edge { source, target: source, symbol: 0, mask: 0, atoms: vec![] };
-        let below = Edge { atoms: vec![[0, AT_MOST, top]], ..keep.clone() };
-        edges.extend([Edge { target, mask: 1, atoms, ..keep.clone() }, keep, below]);
+        let mut guard = Vec::new();
+        pin(random, &mut guard, 0, 1);
+        let keep = Edge::plain(source, source, 0, &[]);
+        let below = Edge { guard: members(&[[0, AT_MOST, top]]), ..keep.clone() };
+        edges.extend([Edge { target, mask: 1, guard, ..keep.clone() }, keep, below]);
     }
     let finals = some_locations(random, locations);
     Rule { locations, symbols: 1, clocks, initial, finals, ceiling: None, edges }

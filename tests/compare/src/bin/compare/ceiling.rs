@@ -1,7 +1,8 @@
 //! Files with a ceiling, which is read, checked and dropped.
 
+use crate::edges::MOST_CONSTANT;
 use crate::random::Random;
-use crate::rules::{records_in, Rule, CEILING, MOST_CONSTANT, RECORD_HEAD};
+use crate::rules::{records_in, Rule, CEILING, RECORD_HEAD};
 use crate::scene::{room_for, Scene};
 use crate::scenes::some_rule;
 use protocol::{Call, Word};

@@ -1,8 +1,9 @@
 //! Edges that lead up to the highest code of a rule.
 
+use crate::edges::{Edge, Member, AT_LEAST, AT_MOST, EQUAL, GREATER, PLAIN};
 use crate::pins::pin;
 use crate::random::Random;
-use crate::rules::{some_ends, Atom, Edge, Rule, AT_LEAST, AT_MOST, EQUAL, GREATER};
+use crate::rules::{some_ends, Rule};
 
 /// Edges of a rule with this cm, the first from its initial location.
 ///
@@ -63,9 +64,9 @@ impl Run {
 
     /// Takes an edge that resets these clocks, pinned by a clock that is not above cm.
     fn reset(&mut self, random: &mut Random, rule: &Rule, clock: u16, mask: u16) -> Edge {
-        let mut atoms = self.atoms(random);
-        pin(random, &mut atoms, clock, self.ages[usize::from(clock)]);
-        let edge = Edge { source: self.location, mask, ..some_ends(random, rule, atoms) };
+        let mut guard = self.guard(random);
+        pin(random, &mut guard, clock, self.ages[usize::from(clock)]);
+        let edge = Edge { source: self.location, mask, ..some_ends(random, rule, guard) };
         self.location = edge.target;
         for (clock, age) in self.ages.iter_mut().enumerate() {
             *age = if mask >> clock & 1 == 1 { 0 } else { *age };
@@ -75,23 +76,23 @@ impl Run {
 
     /// Takes an edge without resets.
     fn keep(&mut self, random: &mut Random, symbol: u16, target: u16) -> Edge {
-        let atoms = self.atoms(random);
+        let guard = self.guard(random);
         let source = std::mem::replace(&mut self.location, target);
-        Edge { source, target, symbol, mask: 0, atoms }
+        Edge { kind: PLAIN, source, target, symbol, mask: 0, guard }
     }
 
     /// Atoms that hold now, at least one.
-    fn atoms(&self, random: &mut Random) -> Vec<Atom> {
+    fn guard(&self, random: &mut Random) -> Vec<Member> {
         let sure = random.below(self.ages.len());
         let ages = self.ages.iter().enumerate();
         let some = ages.filter(|(clock, _)| *clock == sure || random.chance(60)).collect::<Vec<_>>();
         some.into_iter().map(|(clock, &age)| self.atom(random, clock as u16, age)).collect()
     }
 
-    fn atom(&self, random: &mut Random, clock: u16, age: u16) -> Atom {
+    fn atom(&self, random: &mut Random, clock: u16, age: u16) -> Member {
         if age > self.top {
-            return [clock, GREATER, self.top];
+            return Member::Atom([clock, GREATER, self.top]);
         }
-        [clock, random.pick(&[EQUAL, EQUAL, EQUAL, AT_LEAST, AT_MOST]), age]
+        Member::Atom([clock, random.pick(&[EQUAL, EQUAL, EQUAL, AT_LEAST, AT_MOST]), age])
     }
 }

@@ -2,12 +2,14 @@
 
 use crate::bit_counts;
 use crate::ceiling::{ceilings, less_ceiling, CEILING_BYTES};
+use crate::edges::{Edge, EDGE_TABLE, MOST_ATOMS, MOST_CONSTANT, PLAIN};
+use crate::group_counts::{self, GroupCounts};
 use crate::inclusion_counts::{self, InclusionCounts};
 use crate::listed_counts::{self, ListedCounts};
-use crate::partners::{edge_at, lacks_partner, only_unpinned, WrongIn};
+use crate::partners::{lacks_partner, only_unpinned, WrongIn};
 use crate::pins::{from_both_sides, Sides};
 use crate::plain::{only_wrong, Wrong};
-use crate::rules::{code_count, edges_in, top_in, Edge, EDGE_NUMBERS, MOST_CONSTANT};
+use crate::rules::{code_count, edge_at, edges_in, top_in};
 use crate::size_counts::{SizeCounts, COUNTS};
 use crate::sizes::EVERY_SIZE;
 use alderskein::raw::{Answer, BranchAnswer, Built};
@@ -15,6 +17,9 @@ use alderskein::ROW_NUMBERS;
 use protocol::{Call, Kept, Reply, State, What, Word, SLOTS};
 use std::collections::BTreeMap;
 use std::fmt;
+
+/// The bytes of the longest legal file.
+const LONGEST_FILE: usize = 44_432;
 
 /// The refusals that each call can give.
 const REFUSALS: [(&str, &[u8]); 16] = [
@@ -61,7 +66,7 @@ const LIMITS: [&str; 72] = [
     "read: again what was written less a ceiling",
     "read: pinned from both sides",
     "read: pinned from both sides, at most first",
-    "read: pinned from both sides, other atoms between",
+    "read: pinned from both sides, other members between",
     "read: refused for the partner's clock",
     "read: refused for the partner's constant",
     "read: refused for the partner's relation",
@@ -106,9 +111,9 @@ const LIMITS: [&str; 72] = [
     "branch: no run, no events",
     "branch: no run, no edge on the first symbol",
     "branch: no run, the lowest edge's guard holds",
-    "branch: held at atom 0",
-    "branch: held at a later atom",
-    "branch: held at atom 7",
+    "branch: held at member 0",
+    "branch: held at a later member",
+    "branch: held at member 7",
     "branch: held, several initial locations",
     "branch: held, not by an edge of the first location",
     "table: 4,096 events",
@@ -137,6 +142,8 @@ pub struct Cover {
     listed: ListedCounts,
     /// What is kept in the slots.
     inclusions: InclusionCounts,
+    /// The rule accepted last.
+    groups: GroupCounts,
 }
 
 impl Cover {
@@ -152,7 +159,7 @@ impl Cover {
                 .iter()
                 .chain(&COUNTS)
                 .chain(bit_counts::COUNTS.into_iter().chain(listed_counts::COUNTS).flatten())
-                .chain(inclusion_counts::COUNTS.into_iter().flatten())
+                .chain(inclusion_counts::COUNTS.into_iter().chain(group_counts::COUNTS).flatten())
                 .map(|&name| (name, 0))
                 .collect(),
             by_hand: false,
@@ -163,6 +170,7 @@ impl Cover {
             sizes: SizeCounts::default(),
             listed: ListedCounts::default(),
             inclusions: InclusionCounts::default(),
+            groups: GroupCounts::default(),
         }
     }
 
@@ -170,13 +178,15 @@ impl Cover {
     pub fn begin(&mut self, kind: &str) {
         self.every_size = kind == EVERY_SIZE;
         self.inclusions = InclusionCounts::default();
+        self.groups = GroupCounts::default();
     }
 
     /// Counts a command with its reply, and the state and the slots after it.
     pub fn count(&mut self, call: &Call, reply: &Reply, state: &State, slots: &[Option<Kept>; SLOTS]) {
         self.count_sizes(call, reply, state);
         self.count_slots(call, reply, slots);
-        for name in [bit_counts::seen(call, reply, state), self.listed.seen(call, reply)].concat() {
+        let seen = [bit_counts::seen(call, reply, state), self.listed.seen(call, reply)].concat();
+        for name in [seen, self.groups.seen(call, reply, state)].concat() {
             self.mark(name, true);
         }
         if matches!(call, Call::Poke { .. } | Call::Resize { .. } | Call::Restore) {
@@ -328,9 +338,9 @@ impl Cover {
         self.mark("branch: accepted though the lowest edge's guard fails", found && fails);
         self.mark("branch: no run, no edge on the first symbol", !found && lowest.is_none());
         self.mark("branch: no run, the lowest edge's guard holds", !found && lowest.is_some() && !fails);
-        self.mark("branch: held at atom 0", held && position == 0);
-        self.mark("branch: held at a later atom", held && position > 0);
-        self.mark("branch: held at atom 7", held && position == 7);
+        self.mark("branch: held at member 0", held && position == 0);
+        self.mark("branch: held at a later member", held && position > 0);
+        self.mark("branch: held at member 7", held && position == 7);
         self.mark("branch: held, several initial locations", held && starts.count_ones() > 1);
         self.mark("branch: held, not by an edge of the first location", held && numbers[0] != numbers[1]);
     }
@@ -344,9 +354,10 @@ impl Cover {
         self.mark("read: no final location", head.ends == 0);
         self.mark("read: no edge", head.count == 0);
         self.mark("read: 256 edges", head.count == 256);
-        self.mark("read: 8 atoms", state.edges.chunks(EDGE_NUMBERS).any(|edge| edge.get(4) == Some(&8)));
-        self.mark("read: longest file", file.len() == 15_760);
-        self.mark("read: longer edge table", state.edges.len() > 7_424);
+        let of_most = |edge: Edge| edge.kind == PLAIN && edge.guard.len() == MOST_ATOMS;
+        self.mark("read: 8 atoms", edges_in(state).any(of_most));
+        self.mark("read: longest file", file.len() == LONGEST_FILE);
+        self.mark("read: longer edge table", state.edges.len() > EDGE_TABLE);
     }
 
     /// The ceiling of a file that was read, or that the file is what was written less one.
@@ -383,7 +394,7 @@ impl Cover {
         let (first, apart) = (pinned.iter().any(|pin| pin.at_most_first), pinned.iter().any(|pin| pin.apart));
         self.mark("read: pinned from both sides", !pinned.is_empty());
         self.mark("read: pinned from both sides, at most first", first);
-        self.mark("read: pinned from both sides, other atoms between", apart);
+        self.mark("read: pinned from both sides, other members between", apart);
     }
 
     /// A wrong partner for which a file was refused.

@@ -1,7 +1,9 @@
 //! Rule files with faults.
 
+use crate::edges::{GROUPED, MOST_CONSTANT, PLAIN, RELATIONS};
 use crate::random::Random;
-use crate::rules::{record, Rule, CEILING, MOST_CONSTANT};
+use crate::rules::{record, Rule, CEILING};
+use crate::texts::{ATOM, CLOSE};
 
 /// The rule's file with one to three faults in its records or its bytes.
 pub fn damaged_file(random: &mut Random, rule: &Rule) -> Vec<u8> {
@@ -41,24 +43,29 @@ fn damage_number(random: &mut Random, rule: &Rule, record: &mut [u8]) {
         return;
     }
     let place = 2 * random.below(record.len() / 2);
-    let limit = random.pick(&[rule.locations, rule.symbols, rule.clocks, 1 << rule.clocks, 5, 31, 6, 14]);
+    let marks = [CLOSE + 1, RELATIONS as u16, MOST_CONSTANT + 1];
+    let sizes = [rule.locations, rule.symbols, rule.clocks, 1 << rule.clocks, GROUPED, 14];
+    let limit = random.pick(&[sizes.as_slice(), &marks].concat());
     record[place..place + 2].copy_from_slice(&random.short_about(limit).to_le_bytes());
 }
 
 /// A record of some kind with numbers near their limits.
 fn any_record(random: &mut Random, rule: &Rule) -> Vec<u8> {
-    let kind = random.pick(&[1, 2, 3, 4, 4, 5, 5, 6, 0, 65_535]);
+    let kind =
+        random.pick(&[1, 2, 3, CEILING, CEILING, PLAIN, PLAIN, GROUPED, GROUPED, GROUPED + 1, 0, 65_535]);
     let location = random.short_about(rule.locations);
     match kind {
         1 => record(1, &[random.short_about(32), random.short_about(16), random.short_about(4)]),
         2 | 3 => record(kind, &[location]),
         CEILING => record(CEILING, &[random.short_about(MOST_CONSTANT + 1)]),
-        5 => {
+        PLAIN | GROUPED => {
             let symbol = random.short_about(rule.symbols);
             let mask = random.short_about(1 << rule.clocks);
-            let atom = [random.short_about(rule.clocks), random.short_about(5), random.short_about(31)];
+            let relation = random.short_about(RELATIONS as u16);
+            let atom = [random.short_about(rule.clocks), relation, random.short_about(MOST_CONSTANT + 1)];
             let front = [random.short_about(rule.locations), location, symbol, mask];
-            record(5, &[front.to_vec(), atom.repeat(random.below(10))].concat())
+            let atom = if kind == GROUPED { [&[ATOM], atom.as_slice()].concat() } else { atom.to_vec() };
+            record(kind, &[front.to_vec(), atom.repeat(random.below(10))].concat())
         }
         _ => record(kind, &vec![0; random.below(5)]),
     }

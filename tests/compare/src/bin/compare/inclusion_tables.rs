@@ -1,6 +1,7 @@
 //! Tables of which one may allow only what another allows: filled by hand, changed a little, rings of rows; and rules
 //! that are changed a little.
 
+use crate::edges::{Edge, RELATIONS};
 use crate::pins::is_pinned;
 use crate::plain::{weight, Plain};
 use crate::random::Random;
@@ -198,7 +199,7 @@ fn apart(symbols: u32, top: u32, place: usize) -> (usize, usize, usize) {
     (of_row / symbols as usize, of_row % symbols as usize, interval)
 }
 
-/// The rule with a final location, an edge or an atom more, less or changed.
+/// The rule with a final location, an edge or a member more, less or changed.
 pub fn varied(random: &mut Random, rule: &Rule) -> Rule {
     let mut other = rule.clone();
     if rule.edges.is_empty() || random.chance(20) {
@@ -210,19 +211,28 @@ pub fn varied(random: &mut Random, rule: &Rule) -> Rule {
     let place = random.below(rule.edges.len());
     match random.below(4) {
         0 => drop(other.edges.remove(place)),
-        1 => other.edges.insert(place, any_edge(random, rule, rule.top())),
-        kind => {
-            let edge = &mut other.edges[place];
-            let atom = random.below(edge.atoms.len().max(1));
-            if edge.atoms.is_empty() {
-                edge.target = random.below(rule.locations.into()) as u16;
-            } else if kind == 2 {
-                edge.atoms.remove(atom);
-            } else {
-                edge.atoms[atom][1] = random.below(5) as u16;
-            }
-            edge.mask = if is_pinned(&edge.atoms) { edge.mask } else { 0 };
+        1 => {
+            let edge = any_edge(random, rule, rule.top());
+            other.put(random, edge);
         }
+        kind => vary(random, rule, &mut other.edges[place], kind == 2),
     }
     other
+}
+
+/// Takes a member of the outermost level away, or gives some atom any relation.
+fn vary(random: &mut Random, rule: &Rule, edge: &mut Edge, less: bool) {
+    let (member, atom) = (random.below(edge.guard.len().max(1)), random.below(edge.atoms().len().max(1)));
+    if edge.guard.is_empty() {
+        edge.target = random.below(rule.locations.into()) as u16;
+    } else if less {
+        edge.guard.remove(member);
+    } else {
+        let (relation, mut number) = (random.below(RELATIONS) as u16, 0);
+        edge.for_each_atom(|[_, old, _]| {
+            *old = if number == atom { relation } else { *old };
+            number += 1;
+        });
+    }
+    edge.mask = if is_pinned(&edge.guard) { edge.mask } else { 0 };
 }

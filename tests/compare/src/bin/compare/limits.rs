@@ -1,13 +1,22 @@
 //! Rules at their limits, and one past them.
 
+use crate::edges::{
+    Edge, Member, EQUAL, GREATER, GROUPED, MOST_ATOMS, MOST_CONSTANT, MOST_EDGES, PLAIN, RELATIONS,
+};
+use crate::group_damage::about_limits;
+use crate::groups::{any_guard, grouped_edge, regrouped, Amount, MOST};
 use crate::random::Random;
-use crate::rules::{any_atom, any_edge, largest_top, record, some_ends, Edge, Rule, CEILING, MOST_CONSTANT};
+use crate::rules::{any_atom, any_edge, any_edges, largest_top, record, record_of, some_ends, Rule, CEILING};
 use crate::scene::Scene;
 use alderskein::{BUILD_SCRATCH, ROW_TABLE};
 use protocol::{Call, Room, Word};
 
 /// Room for some rows of any rule, so that a build ends soon.
 const FEW_ROWS: Room = Room { scratch: BUILD_SCRATCH, cells: 3_000, rows: 36, pool: 300 };
+
+/// The bytes of a file that the listing program reads, and of a record that passes them behind the longest file.
+const LISTED_BYTES: usize = 49_152;
+const PASSING: usize = 6_000;
 
 /// Files at a limit, read, written and decided over.
 pub fn at_limit(scene: &mut Scene) {
@@ -16,7 +25,7 @@ pub fn at_limit(scene: &mut Scene) {
         scene.read(file.clone());
         scene.add(Call::CheckRule);
         scene.write(&file);
-        if scene.random.chance(5) {
+        if file.len() > LISTED_BYTES || scene.random.chance(5) {
             scene.add(Call::List { file: file.clone() });
         }
         let word = Word { grain: 2, symbols: vec![0, 0], stamps: vec![2, 4] };
@@ -26,13 +35,14 @@ pub fn at_limit(scene: &mut Scene) {
 }
 
 fn limit_file(random: &mut Random) -> Vec<u8> {
-    match random.below(10) {
+    match random.below(15) {
         0 => sizes(random),
-        1 | 2 => codes(random),
-        3 => edge_count(random),
-        4 => longest(random),
-        5 => location_sets(random),
-        6 | 7 => ceilings(random),
+        1..=3 => codes(random),
+        4..=6 => edge_count(random),
+        7 => longest(random),
+        8 => location_sets(random),
+        9 | 10 => ceilings(random),
+        11 | 12 => groups(random),
         _ => one_edge(random),
     }
 }
@@ -56,7 +66,8 @@ fn codes(random: &mut Random) -> Vec<u8> {
     let top = (largest_top(locations, clocks) + random.below(2) as u16).min(31);
     let mut rule = empty_rule(locations, 1, clocks);
     rule.ceiling = random.chance(50).then(|| random.pick(&[0, 15, MOST_CONSTANT]));
-    rule.edges = vec![Edge { source: 0, target: 0, symbol: 0, mask: 0, atoms: vec![[clocks - 1, 2, top]] }];
+    let edge = Edge::plain(0, 0, 0, &[[clocks - 1, EQUAL, top]]);
+    rule.edges = vec![if random.chance(70) { regrouped(random, &edge) } else { edge }];
     rule.file()
 }
 
@@ -75,30 +86,55 @@ fn ceilings(random: &mut Random) -> Vec<u8> {
     records.concat()
 }
 
-/// 255 to 257 edges, the last one sometimes with a fault of its own.
+/// 255 to 257 edges of either kind or both, the last one sometimes with a fault of its own.
 fn edge_count(random: &mut Random) -> Vec<u8> {
     let mut rule = empty_rule(3, 2, 2);
-    let count = random.pick(&[255, 256, 256, 257, 257]);
-    rule.edges = (0..count).map(|_| any_edge(random, &rule, 2)).collect();
+    let count = random.pick(&[MOST_EDGES - 1, MOST_EDGES, MOST_EDGES, MOST_EDGES + 1, MOST_EDGES + 1]);
+    rule.edges = any_edges(random, &rule, 2, count - 1);
+    let last = if random.chance(60) { grouped_edge(random, &rule, 2) } else { any_edge(random, &rule, 2) };
+    rule.edges.push(last);
     let mut records = rule.records();
-    if random.chance(40) {
-        let last = records.len() - 1;
-        records[last] = record(random.pick(&[4, 5, 6]), &[9; 4][..random.pick(&[1, 3, 4, 4])]);
+    if random.chance(25) {
+        let (last, kind) = (records.len() - 1, random.pick(&[CEILING, PLAIN, GROUPED, GROUPED + 1]));
+        records[last] = record(kind, &[9; 4][..random.pick(&[1, 3, 4, 4])]);
     }
     records.concat()
 }
 
-/// As long as a legal file can be, or a little longer.
+/// As long as a legal file can be, with grouped edges or with plain ones alone, or longer.
 fn longest(random: &mut Random) -> Vec<u8> {
     let all: Vec<u16> = (0..32).collect();
-    let atoms = vec![[1, 4, 30]; random.pick(&[8, 8, 8, 9])];
-    let edge = Edge { source: 31, target: 31, symbol: 15, mask: 0, atoms };
     let mut rule = empty_rule(32, 16, 2);
     (rule.initial, rule.finals, rule.ceiling) = (all.clone(), all, Some(MOST_CONSTANT));
-    rule.edges = vec![edge; 256];
+    let edge = if random.chance(70) { longest_grouped(random, &rule) } else { longest_plain(random) };
+    rule.edges = vec![edge; MOST_EDGES];
     let mut file = rule.file();
     file.extend(vec![0; random.pick(&[0, 0, 0, 700])]);
+    if random.chance(20) {
+        file.extend(record_of(GROUPED, &[0; PASSING]));
+    }
     file
+}
+
+fn longest_plain(random: &mut Random) -> Edge {
+    let atoms = [[1, GREATER, MOST_CONSTANT]].repeat(random.pick(&[MOST_ATOMS, MOST_ATOMS, MOST_ATOMS + 1]));
+    Edge::plain(31, 31, 15, &atoms)
+}
+
+fn longest_grouped(random: &mut Random, rule: &Rule) -> Edge {
+    let amount = random.pick(&[MOST, MOST, MOST, Amount { groups: MOST.groups + 1, ..MOST }]);
+    let guard = any_guard(random, amount, |random| any_atom(random, rule, MOST_CONSTANT));
+    Edge { kind: GROUPED, guard, ..Edge::plain(31, 31, 15, &[]) }
+}
+
+/// Some edges with as many groups, atoms or levels as can be, one less or one more.
+fn groups(random: &mut Random) -> Vec<u8> {
+    let mut rule = empty_rule(random.between(1, 3) as u16, 1, random.between(1, 2) as u16);
+    for _ in 0..random.pick(&[1, 1, 2, 3]) {
+        let edge = grouped_edge(random, &rule, 2);
+        rule.edges.push(about_limits(random, &rule, &edge));
+    }
+    rule.file()
 }
 
 /// Sets of locations that rise, stay or fall, up to the last location or past it.
@@ -115,21 +151,24 @@ fn location_sets(random: &mut Random) -> Vec<u8> {
     rule.file()
 }
 
-/// One edge with every number at its limit, and at most two of them past it.
+/// One edge of either kind with every number at its limit, and at most two of them past it.
 fn one_edge(random: &mut Random) -> Vec<u8> {
     let (locations, symbols, clocks) = (random.between(1, 4) as u16, 3, random.between(1, 3) as u16);
-    let atoms = random.pick(&[1, 2, 7, 8, 9]);
-    let mut numbers = vec![locations - 1, locations - 1, symbols - 1, (1 << clocks) - 1];
-    for _ in 0..atoms {
-        numbers.extend([clocks - 1, random.pick(&[0, 1, 2, 3, 4]), random.pick(&[0, 14, 30])]);
+    let mut edge = Edge::plain(locations - 1, locations - 1, symbols - 1, &[]);
+    edge.mask = (1 << clocks) - 1;
+    for _ in 0..random.pick(&[1, 2, MOST_ATOMS - 1, MOST_ATOMS, MOST_ATOMS + 1]) {
+        let relation = if random.chance(5) { RELATIONS } else { random.below(RELATIONS) } as u16;
+        edge.guard.push(Member::Atom([clocks - 1, relation, random.pick(&[0, 14, MOST_CONSTANT])]));
     }
+    edge = if random.chance(50) { regrouped(random, &edge) } else { edge };
+    let mut numbers = edge.numbers();
     for _ in 0..random.below(3) {
         let place = random.below(numbers.len());
         numbers[place] += 1;
     }
-    let ceiling = random.pick(&[0, 14, 30, 31]);
+    let ceiling = random.pick(&[0, 14, MOST_CONSTANT, MOST_CONSTANT + 1]);
     let front = [record(1, &[locations, symbols, clocks]), record(CEILING, &[ceiling])].concat();
-    [front, record(5, &numbers)].concat()
+    [front, record(edge.kind, &numbers)].concat()
 }
 
 /// Rules with N = 65,536, built.
@@ -139,8 +178,9 @@ pub fn largest(scene: &mut Scene) {
     rule.finals = vec![locations - 1];
     let constant = scene.random.between(1, 5) as u16;
     let count = scene.random.between(3, 10 + usize::from(locations));
-    rule.edges = (0..count).map(|_| any_edge(scene.random, &rule, constant)).collect();
+    rule.edges = any_edges(scene.random, &rule, constant, count);
     rule.edges.push(edge_for_top(scene.random, &rule));
+    rule.sort_kinds();
     scene.read_surely(&rule);
     let scratch = BUILD_SCRATCH - scene.random.pick(&[0, 0, 0, 0, 0, 1]);
     let cells = 150 * 2 * rule.intervals() + scene.random.below(40);
@@ -156,7 +196,13 @@ pub fn largest(scene: &mut Scene) {
 /// An edge with one atom, by whose constant cm is as large as it can be.
 fn edge_for_top(random: &mut Random, rule: &Rule) -> Edge {
     let [clock, relation, _] = any_atom(random, rule, 0);
-    some_ends(random, rule, vec![[clock, relation, largest_top(rule.locations, rule.clocks)]])
+    let atom = Member::Atom([clock, relation, largest_top(rule.locations, rule.clocks)]);
+    let edge = some_ends(random, rule, vec![atom]);
+    if random.chance(50) {
+        regrouped(random, &edge)
+    } else {
+        edge
+    }
 }
 
 /// Rules with a row for each set of the last symbols: 4,096 of them, and twice as many.
@@ -178,7 +224,7 @@ pub fn many_rows(scene: &mut Scene) {
 fn back_in_the_word(back: u16) -> Rule {
     let mut rule = empty_rule(back + 1, 2, 1);
     rule.finals = vec![back];
-    let edge = |source, target, symbol| Edge { source, target, symbol, mask: 0, atoms: vec![] };
+    let edge = |source, target, symbol| Edge::plain(source, target, symbol, &[]);
     rule.edges = vec![edge(0, 0, 0), edge(0, 0, 1), edge(0, 1, 1)];
     for location in 1..back {
         rule.edges.extend([0, 1].map(|symbol| edge(location, location + 1, symbol)));

@@ -1,9 +1,10 @@
 //! Sides of a pin whose partner is wrong.
 
+use crate::edges::{outer_atoms, Atom, Edge, Member, AT_LEAST, AT_MOST, GREATER, LESS};
+use crate::edges::{EDGE_NUMBERS, MASK, MOST_CONSTANT};
 use crate::pins::{is_pinned, sides};
 use crate::random::Random;
-use crate::rules::{edges_in, numbers_in, Atom, Edge, AT_LEAST, AT_MOST, GREATER, LESS, MOST_CONSTANT};
-use crate::rules::{ATOM_NUMBERS, EDGE, EDGE_NUMBERS, MASK};
+use crate::rules::edges_in;
 use protocol::{Engine, Reference, Rule, State};
 
 /// In what alone a partner is wrong.
@@ -30,24 +31,13 @@ fn wrong_in(lower: &Atom, upper: &Atom) -> Option<WrongIn> {
 
 /// Whether the edge has resets that are not pinned, and would be but for a partner that is wrong in this.
 pub fn lacks_partner(edge: &Edge, wrong: WrongIn) -> bool {
-    let atoms = &edge.atoms;
+    let atoms = outer_atoms(&edge.guard);
     let mut pairs = atoms.iter().flat_map(|lower| atoms.iter().map(move |upper| (lower, upper)));
     is_unpinned(edge) && pairs.any(|(lower, upper)| wrong_in(lower, upper) == Some(wrong))
 }
 
 fn is_unpinned(edge: &Edge) -> bool {
-    edge.mask != 0 && !is_pinned(&edge.atoms)
-}
-
-/// The edge that the record at this place of a file spells.
-pub fn edge_at(file: &[u8], place: usize) -> Option<Edge> {
-    let (&length, rest) = file.get(place..)?.split_first_chunk()?;
-    let (&kind, rest) = rest.split_first_chunk()?;
-    let body = rest.get(..u16::from_le_bytes(length).into())?;
-    let numbers = numbers_in(body);
-    let (&[source, target, symbol, mask], atoms) = numbers.split_first_chunk()?;
-    let atoms = atoms.chunks_exact(ATOM_NUMBERS).map(|atom| [atom[0], atom[1], atom[2]]).collect();
-    (u16::from_le_bytes(kind) == EDGE).then_some(Edge { source, target, symbol, mask, atoms })
+    edge.mask != 0 && !is_pinned(&edge.guard)
 }
 
 /// The edge for whose resets alone the state's rule is refused.
@@ -59,18 +49,20 @@ pub fn only_unpinned(state: &State) -> Option<Edge> {
     (Reference::check_rule(Rule { head: state.head, edges: &edges }).number == 0).then_some(only)
 }
 
-/// A number that makes a side of these atoms' pin wrong, with its place among the numbers of the atoms.
-pub fn wrong_side(random: &mut Random, clocks: u16, atoms: &[Atom]) -> (usize, u16) {
-    let (at_least, at_most) = random.pick(&sides(atoms));
+/// A side of these members' pin made wrong: its position, the atom, and the place in it of the number that is wrong.
+pub fn wrong_side(random: &mut Random, clocks: u16, members: &[Member]) -> (usize, Atom, usize) {
+    let (at_least, at_most) = random.pick(&sides(members));
     let position = random.pick(&[at_least, at_most]);
-    let [clock, relation, constant] = atoms[position];
+    let mut atom = members[position].atom().unwrap_or_default();
+    let [clock, relation, constant] = atom;
     let (place, value) = match random.below(7) {
         0 | 1 if clocks > 1 => (0, (clock + random.between(1, usize::from(clocks) - 1) as u16) % clocks),
         2 | 3 => (1, if relation == AT_LEAST { GREATER } else { LESS }),
         4 => (1, if relation == AT_LEAST { AT_MOST } else { AT_LEAST }),
         _ => (2, one_off(random, constant)),
     };
-    (ATOM_NUMBERS * position + place, value)
+    atom[place] = value;
+    (position, atom, place)
 }
 
 fn one_off(random: &mut Random, constant: u16) -> u16 {

@@ -1,31 +1,33 @@
 //! Resets that are pinned by an equality or from both sides.
 
+use crate::edges::{Atom, Edge, Member, AT_LEAST, AT_MOST, EDGE_NUMBERS, EQUAL, GROUPED};
+use crate::groups::held_group;
 use crate::held::held_atom;
 use crate::partners::wrong_side;
 use crate::random::Random;
-use crate::rules::{some_ends, Atom, Edge, Rule, AT_LEAST, AT_MOST, EDGE_NUMBERS, EQUAL, FIRST_ATOM};
+use crate::rules::{some_ends, Rule};
 use crate::scene::{room_for, Scene};
 use crate::scenes::some_rule;
 use crate::words::{any_grain, prolonged};
 use protocol::{Call, Room, What, Word};
 
-/// Whether these atoms pin a reset: by an equality, or from both sides.
-pub fn is_pinned(atoms: &[Atom]) -> bool {
-    has_equality(atoms) || !sides(atoms).is_empty()
+/// Whether these members of an outermost level pin a reset: by an equality, or from both sides.
+pub fn is_pinned(members: &[Member]) -> bool {
+    has_equality(members) || !sides(members).is_empty()
 }
 
-fn has_equality(atoms: &[Atom]) -> bool {
-    atoms.iter().any(|atom| atom[1] == EQUAL)
+fn has_equality(members: &[Member]) -> bool {
+    members.iter().filter_map(Member::atom).any(|[_, relation, _]| relation == EQUAL)
 }
 
 /// The positions of each at-least and of its partner, an at-most on the same clock with the same constant.
-pub fn sides(atoms: &[Atom]) -> Vec<(usize, usize)> {
+pub fn sides(members: &[Member]) -> Vec<(usize, usize)> {
     let mut found = Vec::new();
-    for (at_least, &[clock, relation, constant]) in atoms.iter().enumerate() {
-        let partners = atoms.iter().enumerate().filter(|(_, &atom)| atom == [clock, AT_MOST, constant]);
-        if relation == AT_LEAST {
-            found.extend(partners.map(|(at_most, _)| (at_least, at_most)));
-        }
+    for (at_least, member) in members.iter().enumerate() {
+        let Some([clock, AT_LEAST, constant]) = member.atom() else { continue };
+        let partner = Member::Atom([clock, AT_MOST, constant]);
+        let partners = members.iter().enumerate().filter(|(_, member)| **member == partner);
+        found.extend(partners.map(|(at_most, _)| (at_least, at_most)));
     }
     found
 }
@@ -34,46 +36,45 @@ pub fn sides(atoms: &[Atom]) -> Vec<(usize, usize)> {
 pub struct Sides {
     /// Whether the at-most comes before the at-least.
     pub at_most_first: bool,
-    /// Whether other atoms stand between the two.
+    /// Whether other members stand between the two.
     pub apart: bool,
 }
 
 /// How the edge's resets are pinned from both sides; nothing if they are not, or if an equality pins them too.
 pub fn from_both_sides(edge: &Edge) -> Option<Sides> {
-    let sides = sides(&edge.atoms);
-    let only_so = edge.mask != 0 && !sides.is_empty() && !has_equality(&edge.atoms);
+    let sides = sides(&edge.guard);
+    let only_so = edge.mask != 0 && !sides.is_empty() && !has_equality(&edge.guard);
     only_so.then(|| Sides {
         at_most_first: sides.iter().all(|(at_least, at_most)| at_most < at_least),
         apart: sides.iter().all(|&(at_least, at_most)| at_least.abs_diff(at_most) > 1),
     })
 }
 
-/// Pins a reset at this age of the clock, by an equality or from both sides, anywhere among the atoms.
-pub fn pin(random: &mut Random, atoms: &mut Vec<Atom>, clock: u16, constant: u16) {
+/// Pins a reset at this age of the clock, by an equality or from both sides, anywhere among the members.
+pub fn pin(random: &mut Random, members: &mut Vec<Member>, clock: u16, constant: u16) {
     if random.chance(50) {
-        put_anywhere(random, atoms, [clock, EQUAL, constant]);
+        put_anywhere(random, members, Member::Atom([clock, EQUAL, constant]));
     } else {
-        pin_from_both_sides(random, atoms, clock, constant);
+        pin_from_both_sides(random, members, clock, constant);
     }
 }
 
-fn pin_from_both_sides(random: &mut Random, atoms: &mut Vec<Atom>, clock: u16, constant: u16) {
-    put_anywhere(random, atoms, [clock, AT_LEAST, constant]);
-    put_anywhere(random, atoms, [clock, AT_MOST, constant]);
+fn pin_from_both_sides(random: &mut Random, members: &mut Vec<Member>, clock: u16, constant: u16) {
+    put_anywhere(random, members, Member::Atom([clock, AT_LEAST, constant]));
+    put_anywhere(random, members, Member::Atom([clock, AT_MOST, constant]));
 }
 
-fn put_anywhere(random: &mut Random, atoms: &mut Vec<Atom>, atom: Atom) {
-    let position = random.below(atoms.len() + 1);
-    atoms.insert(position, atom);
+pub fn put_anywhere(random: &mut Random, members: &mut Vec<Member>, member: Member) {
+    let position = random.below(members.len() + 1);
+    members.insert(position, member);
 }
 
 /// A rule with a reset that is pinned from both sides, read, built and run; then with a wrong partner, in the file and
 /// in the edge table, and with the right one again.
 pub fn both_sides(scene: &mut Scene) {
     let mut rule = some_rule(scene.random);
-    let number = scene.random.below(rule.edges.len() + 1);
     let edge = pinned_edge(scene.random, &rule);
-    rule.edges.insert(number, edge);
+    let number = rule.put(scene.random, edge);
     let room = room_for(&rule);
     scene.read_surely(&rule);
     scene.add(Call::CheckRule);
@@ -90,15 +91,21 @@ pub fn both_sides(scene: &mut Scene) {
     }
 }
 
-/// An edge with resets that are pinned from both sides, often from an initial location and to a final one. Its other
-/// atoms hold when all clocks have the age of the pin.
+/// An edge of either kind with resets that are pinned from both sides, often from an initial location and to a final
+/// one. Its other members hold when all clocks have the age of the pin.
 fn pinned_edge(random: &mut Random, rule: &Rule) -> Edge {
     let clock = random.below(rule.clocks.into()) as u16;
     let constant = random.between(0, rule.top().max(2).into()) as u16;
-    let others = random.pick(&[0, 1, 2, 3, 6]);
-    let mut atoms: Vec<Atom> = (0..others).map(|_| other_atom(random, rule, constant)).collect();
-    pin_from_both_sides(random, &mut atoms, clock, constant);
-    let mut edge = some_ends(random, rule, atoms);
+    let (others, grouped) = (random.pick(&[0, 1, 2, 3, 6]), random.chance(50));
+    let mut guard: Vec<Member> =
+        (0..others).map(|_| Member::Atom(other_atom(random, rule, constant))).collect();
+    for _ in 0..if grouped { random.below(3) } else { 0 } {
+        let group = held_group(random, rule, 1, constant.into());
+        put_anywhere(random, &mut guard, group);
+    }
+    pin_from_both_sides(random, &mut guard, clock, constant);
+    let mut edge = some_ends(random, rule, guard);
+    edge.kind = if grouped { GROUPED } else { edge.kind };
     edge.mask = random.between(1, (1 << rule.clocks) - 1) as u16;
     for (end, likely) in [(&mut edge.source, &rule.initial), (&mut edge.target, &rule.finals)] {
         if !likely.is_empty() && random.chance(60) {
@@ -117,9 +124,10 @@ fn other_atom(random: &mut Random, rule: &Rule, age: u16) -> Atom {
 
 /// A word whose first event has the edge's symbol and comes at the pin, or beside it.
 fn word_at_pin(random: &mut Random, rule: &Rule, edge: &Edge) -> Word {
-    let (at_least, _) = random.pick(&sides(&edge.atoms));
+    let (at_least, _) = random.pick(&sides(&edge.guard));
+    let [_, _, constant] = edge.guard[at_least].atom().unwrap_or_default();
     let grain = any_grain(random);
-    let stamp = u32::from(edge.atoms[at_least][2]) * grain;
+    let stamp = u32::from(constant) * grain;
     let stamps = vec![random.pick(&[stamp, stamp, stamp + 1, stamp.saturating_sub(1)])];
     prolonged(random, rule, Word { grain, symbols: vec![edge.symbol], stamps }, 5)
 }
@@ -128,15 +136,16 @@ fn word_at_pin(random: &mut Random, rule: &Rule, edge: &Edge) -> Word {
 /// and put right again.
 fn with_wrong_partner(scene: &mut Scene, rule: &Rule, number: usize, room: Room) {
     let mut wrong = rule.clone();
-    let numbers = wrong.edges[number].atoms.as_flattened_mut();
-    let (place, value) = wrong_side(scene.random, rule.clocks, &rule.edges[number].atoms);
-    let right = std::mem::replace(&mut numbers[place], value);
+    let edge = &rule.edges[number];
+    let (position, atom, place) = wrong_side(scene.random, rule.clocks, &edge.guard);
+    wrong.edges[number].guard[position] = Member::Atom(atom);
     let word = scene.any_word(&wrong, 3);
     scene.read(wrong.file());
     scene.decide(wrong.file(), room, word.clone());
     scene.add(Call::Restore);
-    let index = EDGE_NUMBERS * number + FIRST_ATOM + place;
-    scene.add(Call::Poke { what: What::Edges, index, value: value.into() });
+    let index = EDGE_NUMBERS * number + edge.outer_place(position) + place;
+    let right = edge.places()[edge.outer_place(position) + place];
+    scene.add(Call::Poke { what: What::Edges, index, value: atom[place].into() });
     scene.add(Call::CheckRule);
     scene.write(&wrong.file());
     scene.build(room);

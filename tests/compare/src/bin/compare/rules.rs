@@ -1,46 +1,20 @@
 //! Random rules and their files.
 
+use crate::edges::{
+    Atom, Edge, Member, AT_LEAST, AT_MOST, EDGE_NUMBERS, EQUAL, GREATER, LESS, MOST_ATOMS, MOST_CONSTANT,
+    NOT_EQUAL, PLAIN,
+};
+use crate::groups::grouped_edge;
 use crate::pins::{is_pinned, pin};
 use crate::random::Random;
 use protocol::State;
 
-/// How many numbers an edge takes in the edge table.
-pub const EDGE_NUMBERS: usize = 29;
-/// The places of the mask, of the first atom and of its constant among them.
-pub const MASK: usize = 3;
-pub const FIRST_ATOM: usize = 5;
-pub const FIRST_CONSTANT: usize = 7;
-/// How many numbers an atom takes, and the most atoms of an edge.
-pub const ATOM_NUMBERS: usize = 3;
-pub const MOST_ATOMS: usize = 8;
-/// The largest constant of an atom, and the largest ceiling.
-pub const MOST_CONSTANT: u16 = 30;
 /// The bytes of a record before its body.
 pub const RECORD_HEAD: usize = 4;
-/// The kinds of a ceiling record and of an edge record.
+/// The kind of a ceiling record.
 pub const CEILING: u16 = 4;
-pub const EDGE: u16 = 5;
 /// How many codes a number of the build scratch has bits for.
 pub const NUMBER_BITS: usize = 32;
-/// The relations.
-pub const LESS: u16 = 0;
-pub const AT_MOST: u16 = 1;
-pub const EQUAL: u16 = 2;
-pub const AT_LEAST: u16 = 3;
-pub const GREATER: u16 = 4;
-
-/// Clock, relation, constant.
-pub type Atom = [u16; ATOM_NUMBERS];
-
-/// An edge.
-#[derive(Clone, Debug)]
-pub struct Edge {
-    pub source: u16,
-    pub target: u16,
-    pub symbol: u16,
-    pub mask: u16,
-    pub atoms: Vec<Atom>,
-}
 
 /// A rule as its file spells it.
 #[derive(Clone, Debug)]
@@ -69,20 +43,30 @@ pub const WIDE: Bounds = Bounds { locations: 32, symbols: 16, clocks: 4, edges: 
 
 /// A record of a rule file.
 pub fn record(kind: u16, numbers: &[u16]) -> Vec<u8> {
-    let front = [2 * numbers.len() as u16, kind];
-    front.iter().chain(numbers).flat_map(|number| number.to_le_bytes()).collect()
+    record_of(kind, &numbers.iter().flat_map(|number| number.to_le_bytes()).collect::<Vec<u8>>())
+}
+
+/// A record with this body.
+pub fn record_of(kind: u16, body: &[u8]) -> Vec<u8> {
+    let front = [body.len() as u16, kind].map(u16::to_le_bytes);
+    [front.as_flattened(), body].concat()
 }
 
 /// The whole records of a file, each with its place, its kind and its body.
 pub fn records_in(file: &[u8]) -> Vec<(usize, u16, &[u8])> {
     let (mut records, mut place) = (Vec::new(), 0);
-    while let Some((front, rest)) = file.get(place..).and_then(<[u8]>::split_first_chunk::<RECORD_HEAD>) {
-        let [length, kind] = [[front[0], front[1]], [front[2], front[3]]].map(u16::from_le_bytes);
-        let Some(body) = rest.get(..length.into()) else { break };
+    while let Some((kind, body)) = record_at(file, place) {
         records.push((place, kind, body));
         place += RECORD_HEAD + body.len();
     }
     records
+}
+
+/// The kind and the body of the record at this place of a file, if it is whole.
+pub fn record_at(file: &[u8], place: usize) -> Option<(u16, &[u8])> {
+    let (front, rest) = file.get(place..)?.split_first_chunk::<RECORD_HEAD>()?;
+    let [length, kind] = [[front[0], front[1]], [front[2], front[3]]].map(u16::from_le_bytes);
+    Some((kind, rest.get(..length.into())?))
 }
 
 /// The numbers of a record's body.
@@ -90,51 +74,20 @@ pub fn numbers_in(body: &[u8]) -> Vec<u16> {
     body.chunks_exact(2).map(|pair| u16::from_le_bytes([pair[0], pair[1]])).collect()
 }
 
-impl Edge {
-    pub fn record(&self) -> Vec<u8> {
-        let front = [self.source, self.target, self.symbol, self.mask];
-        record(EDGE, &[&front, self.atoms.as_flattened()].concat())
-    }
-
-    /// An edge from its places in an edge table.
-    pub fn of_places(places: &[u16]) -> Self {
-        let atoms = places[FIRST_ATOM..].chunks_exact(ATOM_NUMBERS).take(places[4].into());
-        Edge {
-            source: places[0],
-            target: places[1],
-            symbol: places[2],
-            mask: places[MASK],
-            atoms: atoms.map(|atom| [atom[0], atom[1], atom[2]]).collect(),
-        }
-    }
-
-    /// Whether all atoms hold at these ages, in D-ths of a second.
-    pub fn allows(&self, ages: &[u32], grain: u32) -> bool {
-        self.atoms.iter().all(|atom| holds(atom, ages, grain))
-    }
-}
-
 /// The edges of the state's rule.
 pub fn edges_in(state: &State) -> impl Iterator<Item = Edge> + '_ {
-    state.edges.chunks_exact(EDGE_NUMBERS).take(state.head.count as usize).map(Edge::of_places)
+    state.edges.chunks_exact(EDGE_NUMBERS).take(state.head.count as usize).filter_map(Edge::of_places)
 }
 
 /// cm of the state's rule.
 pub fn top_in(state: &State) -> u16 {
-    let edges = state.edges.chunks_exact(EDGE_NUMBERS).take(state.head.count as usize);
-    edges.flat_map(|edge| edge[FIRST_CONSTANT..].iter().step_by(ATOM_NUMBERS)).copied().max().unwrap_or(0)
+    edges_in(state).map(|edge| edge.top()).max().unwrap_or(0)
 }
 
-/// Whether an atom holds at these ages.
-pub fn holds(&[clock, relation, constant]: &Atom, ages: &[u32], grain: u32) -> bool {
-    let (age, bound) = (ages[usize::from(clock)], u32::from(constant) * grain);
-    match relation {
-        LESS => age < bound,
-        AT_MOST => age <= bound,
-        EQUAL => age == bound,
-        AT_LEAST => age >= bound,
-        _ => age > bound,
-    }
+/// The edge that the record at this place of a file spells.
+pub fn edge_at(file: &[u8], place: usize) -> Option<Edge> {
+    let (kind, body) = record_at(file, place)?;
+    Edge::of_numbers(kind, &numbers_in(body))
 }
 
 impl Rule {
@@ -154,8 +107,7 @@ impl Rule {
 
     /// cm.
     pub fn top(&self) -> u16 {
-        let constants = self.edges.iter().flat_map(|edge| edge.atoms.iter().map(|atom| atom[2]));
-        constants.max().unwrap_or(0)
+        self.edges.iter().map(Edge::top).max().unwrap_or(0)
     }
 
     /// N.
@@ -171,6 +123,20 @@ impl Rule {
     /// W.
     pub fn intervals(&self) -> usize {
         2 * usize::from(self.top()) + 2
+    }
+
+    /// Puts an edge anywhere among those of its kind, and returns its number.
+    pub fn put(&mut self, random: &mut Random, edge: Edge) -> usize {
+        let plain = self.edges.iter().filter(|edge| edge.kind == PLAIN).count();
+        let (low, high) = if edge.kind == PLAIN { (0, plain) } else { (plain, self.edges.len()) };
+        let number = random.between(low, high);
+        self.edges.insert(number, edge);
+        number
+    }
+
+    /// Puts the plain edges before the grouped ones, each kind in the order that it has.
+    pub fn sort_kinds(&mut self) {
+        self.edges.sort_by_key(|edge| edge.kind);
     }
 }
 
@@ -202,7 +168,7 @@ pub fn any_rule(random: &mut Random, bounds: &Bounds) -> Rule {
     rule.initial = some_locations(random, locations);
     rule.finals = some_locations(random, locations);
     rule.ceiling = random.chance(20).then(|| random.between(0, MOST_CONSTANT.into()) as u16);
-    rule.edges = (0..edge_count).map(|_| any_edge(random, &rule, constant)).collect();
+    rule.edges = any_edges(random, &rule, constant, edge_count);
     rule
 }
 
@@ -212,34 +178,61 @@ pub fn some_locations(random: &mut Random, locations: u16) -> Vec<u16> {
     (0..locations).filter(|_| random.chance(percent)).collect()
 }
 
-/// An edge that the reader accepts.
-pub fn any_edge(random: &mut Random, rule: &Rule, constant: u16) -> Edge {
-    let resets = random.chance(45);
-    let mask = if resets { random.below(1 << rule.clocks) as u16 } else { 0 };
-    let atom_count = if random.chance(2) { 8 } else { random.pick(&[0, 0, 1, 1, 1, 2, 3]) };
-    let mut atoms: Vec<Atom> = (0..atom_count).map(|_| any_atom(random, rule, constant)).collect();
-    if mask != 0 && !is_pinned(&atoms) {
-        let [clock, _, constant] = any_atom(random, rule, constant);
-        pin(random, &mut atoms, clock, constant);
-        atoms.truncate(MOST_ATOMS);
-    }
-    let mask = if is_pinned(&atoms) { mask } else { 0 };
-    Edge { mask, ..some_ends(random, rule, atoms) }
+/// So many edges that the reader accepts: plain ones, grouped ones, or some of both.
+pub fn any_edges(random: &mut Random, rule: &Rule, constant: u16, count: usize) -> Vec<Edge> {
+    let some = random.below(count + 1);
+    let plain = random.pick(&[count, count, some, some, 0]);
+    let mut edges: Vec<Edge> = (0..plain).map(|_| plain_edge(random, rule, constant)).collect();
+    edges.extend((plain..count).map(|_| grouped_edge(random, rule, constant)));
+    edges
 }
 
-/// An edge with these atoms and no resets.
-pub fn some_ends(random: &mut Random, rule: &Rule, atoms: Vec<Atom>) -> Edge {
-    Edge {
-        source: random.below(rule.locations.into()) as u16,
-        target: random.below(rule.locations.into()) as u16,
-        symbol: random.below(rule.symbols.into()) as u16,
-        mask: 0,
-        atoms,
+/// An edge of either kind that the reader accepts.
+pub fn any_edge(random: &mut Random, rule: &Rule, constant: u16) -> Edge {
+    let draw = random.pick(&[plain_edge, grouped_edge]);
+    draw(random, rule, constant)
+}
+
+/// A plain edge that the reader accepts.
+pub fn plain_edge(random: &mut Random, rule: &Rule, constant: u16) -> Edge {
+    let mask = some_resets(random, rule);
+    let atom_count = if random.chance(2) { MOST_ATOMS } else { random.pick(&[0, 0, 1, 1, 1, 2, 3]) };
+    let guard = (0..atom_count).map(|_| Member::Atom(any_atom(random, rule, constant))).collect();
+    let mut edge = Edge { mask, ..some_ends(random, rule, guard) };
+    pin_resets(random, rule, constant, &mut edge);
+    edge
+}
+
+/// The clocks that an edge resets, often none.
+pub fn some_resets(random: &mut Random, rule: &Rule) -> u16 {
+    if random.chance(45) {
+        random.below(1 << rule.clocks) as u16
+    } else {
+        0
     }
+}
+
+/// Pins the resets of an edge at some age, if they are not. One for which the pin has no room loses its resets.
+pub fn pin_resets(random: &mut Random, rule: &Rule, constant: u16, edge: &mut Edge) {
+    if edge.mask != 0 && !is_pinned(&edge.guard) {
+        let [clock, _, constant] = any_atom(random, rule, constant);
+        pin(random, &mut edge.guard, clock, constant);
+        if edge.kind == PLAIN {
+            edge.guard.truncate(MOST_ATOMS);
+        }
+    }
+    edge.mask = if is_pinned(&edge.guard) { edge.mask } else { 0 };
+}
+
+/// A plain edge with this guard and no resets.
+pub fn some_ends(random: &mut Random, rule: &Rule, guard: Vec<Member>) -> Edge {
+    let [source, target] = [0, 1].map(|_| random.below(rule.locations.into()) as u16);
+    Edge { kind: PLAIN, source, target, symbol: random.below(rule.symbols.into()) as u16, mask: 0, guard }
 }
 
 /// An atom that the reader accepts.
 pub fn any_atom(random: &mut Random, rule: &Rule, constant: u16) -> Atom {
-    let relation = random.pick(&[LESS, AT_MOST, EQUAL, EQUAL, AT_LEAST, AT_LEAST, GREATER]);
+    let often = [LESS, AT_MOST, EQUAL, EQUAL, AT_LEAST, AT_LEAST, GREATER, NOT_EQUAL];
+    let relation = random.pick(&often);
     [random.below(rule.clocks.into()) as u16, relation, random.between(0, constant.into()) as u16]
 }

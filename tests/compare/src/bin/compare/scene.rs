@@ -1,17 +1,16 @@
 //! A scene: commands over one rule or table, with random room, fills and words.
 
 use crate::ceiling::less_ceiling;
+use crate::edges::EDGE_TABLE;
 use crate::plain::Plain;
 use crate::random::Random;
 use crate::rules::Rule;
-use crate::words::{branch_steps, live_word, spoil};
+use crate::words::{branch_steps, live_word, pointed_word, spoil};
 use alderskein::ROW_NUMBERS;
 use protocol::{Call, Room, Word};
 
 /// The most steps of a search by branch.
 const MOST_STEPS: u64 = 20_000;
-/// The least length of an edge table.
-pub const EDGE_TABLE: usize = 7_424;
 
 /// The commands so far.
 pub struct Scene<'a> {
@@ -118,7 +117,8 @@ impl Scene<'_> {
 
     /// A word that keeps the word rules.
     pub fn word(&mut self, rule: &Rule, most: usize) -> Word {
-        live_word(self.random, rule, most)
+        let draw = self.random.pick(&[live_word, pointed_word]);
+        draw(self.random, rule, most)
     }
 
     /// A word that keeps the word rules, or now and then does not.

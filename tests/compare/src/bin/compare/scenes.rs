@@ -3,14 +3,17 @@
 use crate::bits;
 use crate::ceiling;
 use crate::damage::{damaged_file, rubbish};
+use crate::edges::{Edge, ATOM_NUMBERS, EDGE_NUMBERS, EDGE_TABLE, GROUPED, MOST_ATOMS, MOST_CONSTANT};
+use crate::edges::{RELATIONS, TEXT, TEXT_NUMBERS};
+use crate::grouped;
 use crate::held::held_back;
 use crate::inclusion;
 use crate::limits;
 use crate::listed;
 use crate::pins;
 use crate::random::Random;
-use crate::rules::{any_rule, Rule, EDGE_NUMBERS, FIRST_CONSTANT, MIDDLE, SMALL, WIDE};
-use crate::scene::{needs, room_for, Needs, Scene, EDGE_TABLE, LISTING};
+use crate::rules::{any_rule, Rule, MIDDLE, SMALL, WIDE};
+use crate::scene::{needs, room_for, Needs, Scene, LISTING};
 use crate::sizes::{self, EVERY_SIZE};
 use crate::tables;
 use crate::verdicts;
@@ -21,11 +24,11 @@ use protocol::{Call, Room, What, Word};
 type Kind = fn(&mut Scene);
 
 /// The common kinds with their weights.
-const COMMON: [(&str, usize, Kind); 17] = [
+const COMMON: [(&str, usize, Kind); 20] = [
     ("whole rules", 30, whole_rule),
     ("damaged files", 25, damaged),
     ("changed rules", 15, changed_rule),
-    ("rules at limits", 15, limits::at_limit),
+    ("rules at limits", 20, limits::at_limit),
     ("tables filled by hand", 12, tables::by_hand),
     ("changed tables", 12, tables::changed),
     ("tables at limits", 6, tables::at_limit),
@@ -34,11 +37,14 @@ const COMMON: [(&str, usize, Kind); 17] = [
     ("followers", 10, tables::followers),
     ("loose words", 8, loose_words),
     ("words held back", 15, held_back),
+    ("groups", 24, grouped::whole_rule),
+    ("damaged groups", 20, grouped::damaged),
+    ("changed groups", 15, grouped::changed),
     ("files with a ceiling", 10, ceiling::dropped),
     ("pins from both sides", 10, pins::both_sides),
-    ("scratch in bits", 12, bits::near_32),
+    ("scratch in bits", 14, bits::near_32),
     ("lists of words", 12, listed::lists_of_words),
-    ("one in another", 24, inclusion::one_in_another),
+    ("one in another", 28, inclusion::one_in_another),
 ];
 
 /// The costly kinds: one scene in so many, the first one early. Where two meet it is the upper one's turn, so that
@@ -185,14 +191,31 @@ fn changed_rule(scene: &mut Scene) {
 fn change_codes(scene: &mut Scene, rule: &Rule) {
     let (clocks, constant) = (scene.random.pick(&[2, 3, 4]), scene.random.pick(&[6, 14, 15, 30]));
     scene.add(Call::Poke { what: What::Head, index: 2, value: clocks });
-    let with_atoms = rule.edges.iter().enumerate().filter(|(_, edge)| !edge.atoms.is_empty());
-    let places: Vec<usize> = with_atoms.map(|(number, _)| EDGE_NUMBERS * number + FIRST_CONSTANT).collect();
+    let places = constant_places(rule);
     if !places.is_empty() {
         let index = scene.random.pick(&places);
         scene.add(Call::Poke { what: What::Edges, index, value: constant });
     }
 }
 
+/// The places of all constants in the edge table.
+fn constant_places(rule: &Rule) -> Vec<usize> {
+    let constant = ATOM_NUMBERS - 1;
+    let in_edge = |(number, edge): (usize, &Edge)| {
+        edge.atom_places().into_iter().map(move |place| EDGE_NUMBERS * number + place + constant)
+    };
+    rule.edges.iter().enumerate().flat_map(in_edge).collect()
+}
+
+/// The place of some number of some edge, mostly one that is in use.
+fn any_place(random: &mut Random, rule: &Rule) -> usize {
+    let number = random.below(rule.edges.len());
+    let used = TEXT + rule.edges[number].text().len();
+    let most = random.pick(&[used, used, EDGE_NUMBERS]);
+    EDGE_NUMBERS * number + random.below(most)
+}
+
+/// Puts a number into the head record or the edge table, or cuts or lengthens the table.
 fn change_rule(scene: &mut Scene, rule: &Rule) {
     let random = &mut *scene.random;
     let used = EDGE_NUMBERS * rule.edges.len();
@@ -208,9 +231,11 @@ fn change_rule(scene: &mut Scene, rule: &Rule) {
             Call::Poke { what: What::Head, index, value: random.number_about(limits[index]) }
         }
         5..=8 if used > 0 => {
-            let limit = random.pick(&[rule.locations, rule.symbols, rule.clocks, 1 << rule.clocks, 5, 31, 9]);
-            let value = random.short_about(limit).into();
-            Call::Poke { what: What::Edges, index: random.below(used), value }
+            let sizes = [rule.locations, rule.symbols, rule.clocks, 1 << rule.clocks, GROUPED];
+            let counts = [MOST_ATOMS as u16 + 1, TEXT_NUMBERS as u16, RELATIONS as u16, MOST_CONSTANT + 1];
+            let limit = random.pick(&[sizes.as_slice(), &counts].concat());
+            let index = any_place(random, rule);
+            Call::Poke { what: What::Edges, index, value: random.short_about(limit).into() }
         }
         _ => {
             let index = random.between(used.min(EDGE_TABLE - 1), EDGE_TABLE - 1);

@@ -1,6 +1,6 @@
 //! What came up in the scenes of every size.
 
-use crate::partners::edge_at;
+use crate::edges::Edge;
 use crate::rules::{numbers_in, records_in};
 use crate::sizes::{Size, MOST_CODES};
 use alderskein::raw::Built;
@@ -177,7 +177,7 @@ fn all_differ(bases: &[u32]) -> bool {
 pub fn size_in(file: &[u8]) -> Option<Size> {
     let records = records_in(file);
     let sizes = numbers_in(records.first()?.2);
-    let edges = records.iter().filter_map(|&(place, ..)| edge_at(file, place));
-    let top = edges.flat_map(|edge| edge.atoms).map(|[_, _, constant]| constant).max().unwrap_or(0);
+    let edges = records.iter().filter_map(|(_, kind, body)| Edge::of_numbers(*kind, &numbers_in(body)));
+    let top = edges.map(|edge| edge.top()).max().unwrap_or(0);
     Some(Size { locations: *sizes.first()?, clocks: *sizes.get(2)?, top })
 }

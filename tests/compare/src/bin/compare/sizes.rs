@@ -1,8 +1,10 @@
 //! A rule of every size: of all L, K and cm with N at most 65,536.
 
 use crate::climb::climb;
+use crate::edges::{Edge, MOST_CONSTANT};
+use crate::groups::regrouped;
 use crate::random::Random;
-use crate::rules::{any_edge, code_count, some_locations, Edge, Rule, MOST_CONSTANT};
+use crate::rules::{any_edge, code_count, some_locations, Rule};
 use crate::scene::{needs_in, Scene};
 use alderskein::ROW_NUMBERS;
 use protocol::{Call, Room};
@@ -87,9 +89,11 @@ fn one_size(scene: &mut Scene, size: Size) {
 
 /// The rule with so many locations, and with this cm in place of its own.
 fn enlarged(rule: &Rule, size: Size) -> Rule {
-    let mut larger = Rule { locations: size.locations, ..rule.clone() };
-    for atom in larger.edges.iter_mut().flat_map(|edge| &mut edge.atoms) {
-        atom[2] = if atom[2] == rule.top() { size.top } else { atom[2] };
+    let (mut larger, top) = (Rule { locations: size.locations, ..rule.clone() }, rule.top());
+    for edge in &mut larger.edges {
+        edge.for_each_atom(|[_, _, constant]| {
+            *constant = if *constant == top { size.top } else { *constant }
+        });
     }
     larger
 }
@@ -127,6 +131,10 @@ fn sized_rule(random: &mut Random, size: Size) -> Rule {
         let source = rule.edges[place].source;
         rule.edges.insert(place, Edge { source, ..any_edge(random, &rule, top) });
     }
+    for edge in &mut rule.edges {
+        *edge = if random.chance(30) { regrouped(random, edge) } else { edge.clone() };
+    }
+    rule.sort_kinds();
     rule
 }
 

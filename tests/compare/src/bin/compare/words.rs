@@ -1,7 +1,8 @@
 //! Random words.
 
+use crate::edges::Edge;
 use crate::random::Random;
-use crate::rules::{Edge, Rule};
+use crate::rules::Rule;
 use protocol::Word;
 use std::collections::BTreeMap;
 
@@ -75,6 +76,13 @@ pub fn prolonged(random: &mut Random, rule: &Rule, mut word: Word, most: usize) 
     word
 }
 
+/// Leaves no more than are kept.
+fn cut(runs: &mut Runs) {
+    while runs.len() > MOST_KEPT {
+        runs.pop_last();
+    }
+}
+
 /// Adds an event, the best of some tries.
 fn add_event(random: &mut Random, rule: &Rule, word: &mut Word, alive: &mut Runs) {
     let last = word.stamps.last().copied().unwrap_or(0);
@@ -83,15 +91,53 @@ fn add_event(random: &mut Random, rule: &Rule, word: &mut Word, alive: &mut Runs
         let delay = any_delay(random, rule, word.grain, last).min(u32::MAX - last);
         let mut next = after(rule, alive, word.grain, symbol, delay);
         if !next.is_empty() || tries_left == 0 || random.chance(3) {
-            while next.len() > MOST_KEPT {
-                next.pop_last();
-            }
+            cut(&mut next);
             *alive = next;
             word.symbols.push(symbol);
             word.stamps.push(last + delay);
             return;
         }
     }
+}
+
+/// A word that keeps the word rules, whose events mostly come when some atom is at its constant or next to it.
+pub fn pointed_word(random: &mut Random, rule: &Rule, most: usize) -> Word {
+    let mut word = Word { grain: any_grain(random), symbols: vec![], stamps: vec![] };
+    let mut alive = start(rule);
+    for _ in 0..random.between(0, most) {
+        let last = word.stamps.last().copied().unwrap_or(0);
+        let Some((symbol, delay)) = pointed_event(random, rule, &alive, word.grain) else {
+            add_event(random, rule, &mut word, &mut alive);
+            continue;
+        };
+        let delay = delay.min(u32::MAX - last);
+        alive = after(rule, &alive, word.grain, symbol, delay);
+        cut(&mut alive);
+        word.symbols.push(symbol);
+        word.stamps.push(last + delay);
+    }
+    word
+}
+
+/// The symbol of an edge that leaves some configuration, and the delay to the constant of some atom of it: just so
+/// long, a D-th less or more, or as long as it takes to be above cm. The best of some tries.
+fn pointed_event(random: &mut Random, rule: &Rule, alive: &Runs, grain: u32) -> Option<(u16, u32)> {
+    let mut best = None;
+    for _ in 0..4 {
+        let &(location, ages) = alive.keys().nth(random.below(alive.len().max(1)))?;
+        let leaving: Vec<&Edge> = rule.edges.iter().filter(|edge| edge.source == location).collect();
+        let edge = leaving.get(random.below(leaving.len().max(1)))?;
+        let [clock, _, constant] = random.pick(&[edge.atoms(), vec![[0; 3]]].concat());
+        let constant = random.pick(&[constant, constant, constant, constant, rule.top()]);
+        let bound = u32::from(constant) * grain + 1;
+        let aim = bound - random.pick(&[0, 1, 1, 2, 2]).min(bound);
+        let Some(delay) = aim.checked_sub(ages[usize::from(clock)]) else { continue };
+        best = Some((edge.symbol, delay));
+        if !after(rule, alive, grain, edge.symbol, delay).is_empty() {
+            break;
+        }
+    }
+    best
 }
 
 /// Whole seconds, up to the next second, into a second, or far on.
