@@ -2,7 +2,7 @@
 
 use crate::fastest::Fastest;
 use alderskein::raw::{Answer, Building, Built, Follower, Head, Moved};
-use alderskein::{ROW_NUMBERS, ROW_TABLE};
+use alderskein::{EDGE_TABLE, ROW_NUMBERS, ROW_TABLE};
 use protocol::{Engine, Event, Reference, Rule, Table, Tables, Word};
 
 /// The event that is followed.
@@ -46,7 +46,7 @@ pub struct Desk {
 impl Desk {
     /// The rule of a file, read and built by the reference, in room that just fits; an empty word.
     pub fn new(file: Vec<u8>) -> Self {
-        let mut edges = vec![0; 7_424];
+        let mut edges = vec![0; EDGE_TABLE];
         let head = Reference::read_rule(&file, &mut edges).head;
         let mut desk = Desk {
             // As much as writing asks for, or a ceiling's 6 bytes more.
@@ -86,6 +86,13 @@ impl Desk {
         self.word.symbols = (0..events).map(|event| (event % symbols) as u16).collect();
         self.word.stamps = (1..=events as u32).map(|event| event * delay).collect();
         self
+    }
+
+    /// The same with a word of so many events with one symbol.
+    pub fn with_symbol(self, symbol: u16, events: usize, delay: u32) -> Self {
+        let mut desk = self.with_word(events, delay);
+        desk.word.symbols.fill(symbol);
+        desk
     }
 
     /// R.
@@ -138,6 +145,14 @@ impl Desk {
             && ours.cells == theirs.cells
             && ours.rows == theirs.rows
             && ours.pool == theirs.pool
+    }
+
+    /// Whether the other rule has the same table, in every number.
+    pub fn same_table(&self, other: &Desk) -> bool {
+        self.built == other.built
+            && self.cells == other.cells
+            && self.rows == other.rows
+            && self.pool == other.pool
     }
 
     fn decide<E: Engine>(&mut self) -> Answer {

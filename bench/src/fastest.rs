@@ -5,7 +5,8 @@
 //!
 //! - A set is a list of words of bits, and a row is found by a hash of its words (`rows`).
 //! - Edges are sorted by symbol and source. A guard is a lowest and a highest region per clock, so that a pair
-//!   takes an edge in one stretch of intervals, found by subtractions (`plan`).
+//!   takes an edge in one stretch of intervals, found by subtractions (`plan`). One with a not-equal or with groups
+//!   is as many such edges as it takes, worked out once a build (`guards`).
 //! - Work is done once for a row and a symbol: cells differ only where such a stretch begins or ends, and at
 //!   resets. All cells between are written at once.
 //! - A row of few pairs is taken apart, once, and goes pair by pair (`pairs`). A row of many goes location by
@@ -16,6 +17,7 @@
 //! again, which the other two do.
 
 mod bits;
+mod guards;
 mod pairs;
 mod plan;
 mod rows;

@@ -2,7 +2,7 @@
 
 use crate::{joint, rounds, rules, sample, Done, Spread, SAMPLES};
 use alderskein::raw::{Built, Inclusion};
-use alderskein::ROW_NUMBERS;
+use alderskein::{EDGE_TABLE, ROW_NUMBERS};
 use protocol::{Engine, Library, Reference, Rooms, Rule, Table, Tables};
 use std::hint::black_box;
 
@@ -53,7 +53,7 @@ impl Filled {
 
     /// A rule's table.
     fn built(file: &[u8]) -> Self {
-        let mut edges = vec![0; 7_424];
+        let mut edges = vec![0; EDGE_TABLE];
         let head = Reference::read_rule(file, &mut edges).head;
         let [mut scratch, mut cells, mut rows, mut pool] =
             [2_048, 1 << 12, ROW_NUMBERS << 8, 1 << 10].map(|length| vec![0; length]);

@@ -1,6 +1,7 @@
 //! Measures the verified library beside the reference: same machine, same run, same input, same room. Builds are also
 //! measured beside the fastest Rust, which makes the same table by hashed rows and bits in its own memory, the next
-//! word of a list beside the same odometer in plain Rust, and an inclusion beside the same search in plain Rust.
+//! word of a list beside the same odometer in plain Rust, and an inclusion beside the same search in plain Rust. Rules
+//! with groups are also measured beside the same rules with plain edges.
 //!
 //! Every line is the median of some samples with the lowest and the highest; they take turns, sample by
 //! sample. Lent tables are not cleared before a call: they hold what the call before left in them.
@@ -9,6 +10,8 @@
 
 mod desk;
 mod fastest;
+mod grouped_rules;
+mod groups;
 mod inclusion;
 mod joint;
 mod odometer;
@@ -27,13 +30,18 @@ const SAMPLES: usize = 11;
 const SAMPLE: Duration = Duration::from_millis(2);
 
 /// The parts, by name.
-const PARTS: [(&str, Part); 4] =
-    [("calls", calls), ("growth", growth), ("lists", lists), ("inclusion", inclusion::inclusions)];
+const PARTS: [(&str, Part); 5] = [
+    ("calls", calls),
+    ("groups", groups::groups),
+    ("growth", growth),
+    ("lists", lists),
+    ("inclusion", inclusion::inclusions),
+];
 
 fn main() -> ExitCode {
     let names: Vec<String> = std::env::args().skip(1).collect();
     if names.iter().any(|name| !PARTS.iter().any(|(part, _)| part == name)) {
-        eprintln!("usage: bench [calls] [growth] [lists] [inclusion]");
+        eprintln!("usage: bench [calls] [groups] [growth] [lists] [inclusion]");
         return ExitCode::from(2);
     }
     let wanted = |part: &str| names.is_empty() || names.iter().any(|name| name == part);
@@ -72,8 +80,13 @@ fn calls() -> Done {
     line("build, small", &mut worked(), Call::Build)?;
     line("build, middle", &mut middle(), Call::Build)?;
     line("build, largest", &mut largest(), Call::Build)?;
+    line("build, 256 edges", &mut longest(), Call::Build)?;
+    line("exact, 2 events", &mut worked().with_word(2, 2), Call::Exact)?;
+    line("exact, 256 edges", &mut longest().with_word(2, 2), Call::Exact)?;
     line("exact, 4,096 events", &mut live().with_word(4_096, 1), Call::Exact)?;
     let forking = || Desk::new(rules::forking()).with_word(12, 2);
+    line("branch, 2 events", &mut worked().with_word(2, 2), Call::Branch)?;
+    line("branch, 256 edges", &mut longest().with_word(2, 2), Call::Branch)?;
     line("branch, 8,190 steps", &mut forking(), Call::Branch)?;
     line("table, 4,096 events", &mut live().with_word(4_096, 1), Call::Table)?;
     line("follow, small", &mut worked(), Call::Follow)?;

@@ -1,7 +1,7 @@
 //! The rules that are measured.
 
 /// A record of a rule file.
-fn record(kind: u16, numbers: &[u16]) -> Vec<u8> {
+pub fn record(kind: u16, numbers: &[u16]) -> Vec<u8> {
     let front = [2 * numbers.len() as u16, kind];
     front.iter().chain(numbers).flat_map(|number| number.to_le_bytes()).collect()
 }

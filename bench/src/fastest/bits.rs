@@ -283,8 +283,8 @@ impl Bits {
                     let mut allowed = !0;
                     for clock in 0..plan.clocks {
                         // Twice the base plus the interval is at least the lowest and at most the highest.
-                        let from = (edge.lowest[clock] - interval + 1) >> 1;
-                        let to = (edge.highest[clock] - interval) >> 1;
+                        let from = (edge.ranges.lowest[clock] - interval + 1) >> 1;
+                        let to = (edge.ranges.highest[clock] - interval) >> 1;
                         allowed &= self.between(plan, clock, from, to + 1, word);
                     }
                     self.allowed.push(allowed);

@@ -1,16 +1,19 @@
 //! What a build works out before its first row: where codes stand among bits, and the edges in order.
 
+use super::guards::{one_range, plain_ranges, plain_top, text_ranges, text_top, Ranges};
 use super::rows::Rows;
 use alderskein::raw::{Built, Head};
 use protocol::Rule;
 
-/// Numbers per edge in the edge table, and those before its atoms.
-const EDGE_NUMBERS: usize = 29;
-const EDGE_FRONT: usize = 5;
-/// Above every region: a clock without a highest.
-const NO_HIGHEST: i32 = i32::MAX / 2;
+/// Numbers per edge in the edge table: kind, four of the edge, count, text.
+const EDGE_NUMBERS: usize = 86;
+const KIND: usize = 0;
+const COUNT: usize = 5;
+const TEXT: usize = 6;
+/// The kind of an edge whose text has groups.
+const GROUPED: u16 = 6;
 
-/// An edge, its guard as the regions a clock may be in. Regions are numbered as intervals are.
+/// An edge, its guard as the regions a clock may be in; one of several, where the guard is no single range.
 #[derive(Clone, Copy)]
 pub struct Edge {
     pub source: u32,
@@ -18,42 +21,22 @@ pub struct Edge {
     pub symbol: u32,
     /// The clocks to reset, a bit each.
     pub resets: u32,
-    /// Per clock.
-    pub lowest: [i32; 4],
-    pub highest: [i32; 4],
+    pub ranges: Ranges,
 }
 
 impl Edge {
+    /// An edge that takes all regions.
     fn new(numbers: &[u16]) -> Self {
-        let [source, target, symbol, resets] = [0, 1, 2, 3].map(|place| u32::from(numbers[place]));
-        let mut edge = Edge { source, target, symbol, resets, lowest: [0; 4], highest: [NO_HIGHEST; 4] };
-        let end = EDGE_FRONT + 3 * usize::from(numbers[4]);
-        for atom in numbers[EDGE_FRONT..end].chunks_exact(3) {
-            edge.narrow(usize::from(atom[0]), atom[1], 2 * i32::from(atom[2]));
-        }
-        edge
-    }
-
-    /// Narrows a clock's regions by an atom. A constant's own region is `worth`.
-    ///
-    /// A highest is below the region above cm, and a lowest at most that, so that neither asks for the cut.
-    fn narrow(&mut self, clock: usize, relation: u16, worth: i32) {
-        let (lowest, highest) = match relation {
-            0 => (0, worth - 1),
-            1 => (0, worth),
-            2 => (worth, worth),
-            3 => (worth, NO_HIGHEST),
-            _ => (worth + 1, NO_HIGHEST),
-        };
-        self.lowest[clock] = self.lowest[clock].max(lowest);
-        self.highest[clock] = self.highest[clock].min(highest);
+        let [source, target, symbol, resets] = [1, 2, 3, 4].map(|place| u32::from(numbers[place]));
+        Edge { source, target, symbol, resets, ranges: Ranges::ALL }
     }
 
     /// The first and the last interval in which a pair with these bases takes the edge; the last is below the
     /// first if there is none.
     pub fn intervals(&self, bases: [i32; 4], last: i32) -> (i32, i32) {
         let (mut from, mut to) = (0, last);
-        for (base, (lowest, highest)) in bases.iter().zip(self.lowest.iter().zip(&self.highest)) {
+        let Ranges { lowest, highest } = &self.ranges;
+        for (base, (lowest, highest)) in bases.iter().zip(lowest.iter().zip(highest)) {
             from = from.max(lowest - 2 * base);
             to = to.min(highest - 2 * base);
         }
@@ -103,12 +86,10 @@ impl Plan {
     /// Takes the edges and sorts them; and cm.
     fn take_edges(&mut self, table: &[u16]) {
         self.edges.clear();
-        self.edges.extend(table.chunks_exact(EDGE_NUMBERS).map(Edge::new));
-        let constants = |edge: &[u16]| {
-            let end = EDGE_FRONT + 3 * usize::from(edge[4]);
-            edge[EDGE_FRONT..end].chunks_exact(3).map(|atom| u32::from(atom[2])).fold(0, u32::max)
-        };
-        self.top = table.chunks_exact(EDGE_NUMBERS).map(constants).fold(0, u32::max);
+        self.top = 0;
+        for numbers in table.chunks_exact(EDGE_NUMBERS) {
+            self.take_edge(numbers);
+        }
         let group = |edge: &Edge| edge.symbol as usize * self.locations + edge.source as usize;
         self.edges.sort_unstable_by_key(group);
         self.begins.clear();
@@ -116,6 +97,24 @@ impl Plan {
             self.begins.resize(self.begins.len().max(group(edge) + 1), place as u32);
         }
         self.begins.resize(self.symbols * self.locations + 1, self.edges.len() as u32);
+    }
+
+    /// Takes an edge, one for each range of its guard; and its largest constant.
+    fn take_edge(&mut self, numbers: &[u16]) {
+        let (edge, count) = (Edge::new(numbers), usize::from(numbers[COUNT]));
+        let with = |ranges| Edge { ranges, ..edge };
+        if numbers[KIND] == GROUPED {
+            let text = &numbers[TEXT..TEXT + count];
+            self.top = self.top.max(text_top(text));
+            self.edges.extend(text_ranges(text).into_iter().map(with));
+            return;
+        }
+        let atoms = &numbers[TEXT..TEXT + 3 * count];
+        self.top = self.top.max(plain_top(atoms));
+        match one_range(atoms) {
+            Some(ranges) => self.edges.push(with(ranges)),
+            None => self.edges.extend(plain_ranges(atoms).into_iter().map(with)),
+        }
     }
 
     fn lay_places(&mut self) {
