@@ -1,6 +1,8 @@
 // The ages of the clocks by value, what a guard reads of them, and an edge of the table as a move between
 // configurations.
 // Total: ages past the rule's clocks are not looked at, and a clock past them reads 0, as in the definitions.
+#![tactic(auto)]
+
 ghost use Rattle.std.specs.Prelude.{◌≡◌, ◌+◌, get_or};
 ghost use Rattle.model.specs.Basics.{pick, lesser, zeros, bit, is_in, same};
 ghost use Rattle.model.specs.Rules.{most_clocks};

@@ -1,6 +1,8 @@
 // Sets of codes as marks: bits in lent numbers, 32 to a number. Code x is bit x % 32 of number x / 32.
 // Total: a code past the lent numbers is not marked, and can not be. What a function says of marks, it says for a span
 // that they lie in.
+#![tactic(auto)]
+
 ghost use Rattle.std.specs.Prelude.{◌≡◌, ◌+◌, ◌≤◌, length};
 ghost use Rattle.numbers.specs.Lent.{laid};
 ghost use Rattle.model.specs.Basics.{zeros};

@@ -1,5 +1,7 @@
 // The branch runner: follows the branches with the events left, and answers the accepting run that is least by start,
 // then edge by edge, or what held the rule back. No scratch: at most MOST_BRANCH_EVENTS events.
+#![tactic(auto)]
+
 ghost use Rattle.std.specs.Prelude.{◌≡◌, [], ◌<◌, ◌-◌, ◌≤◌, length};
 ghost use Rattle.model.specs.Words.{most_branch_events};
 ghost use Rattle.model.specs.Runs.{path};

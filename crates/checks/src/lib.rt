@@ -1,6 +1,8 @@
 // The checks of an edge over its numbers in the table: its fields, the group rules, its atoms one after the other, and
 // the pin of its resets. The reader and the check of a rule share them.
 // Total: a place past the end of the numbers holds 0.
+#![tactic(auto)]
+
 ghost use Rattle.std.specs.Prelude.{◌≡◌, ◌||◌, eqb};
 ghost use Rattle.model.specs.Rules.{atoms_in, atoms_ok, is_pinned};
 ghost use Rattle.checks.specs.Checks.{fields_ok, text_kept, outer_in, edge_fault};

@@ -1,5 +1,7 @@
 // Every code of every size, taken apart and made again: for each L, K and cm in their ranges with N at or below 65,536.
 // Three numbers: such sizes, codes below their N, and codes that did not come back as they were.
+#![tactic(auto)]
+
 ghost use Rattle.std.specs.Prelude.{◌≤◌};
 ghost use Rattle.model.specs.Rules.{most_locations};
 

@@ -1,6 +1,8 @@
 // Codes of pairs, location · (cm + 2)^K plus the sum of base(k) · (cm + 2)^k, made and taken apart with the powers of
 // cm + 2 that a scale carries.
 // Total: any scale gives an answer. That it is the pair, or the code, is said for a scale of powers.
+#![tactic(auto)]
+
 ghost use Rattle.std.specs.Prelude.{◌≡◌};
 ghost use Rattle.codes.specs.Codes.{Powered, packed, unpacked};
 

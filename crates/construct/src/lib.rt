@@ -1,4 +1,6 @@
 // The table builder: rows as sets of codes, numbered by discovery, into the lent tables.
+#![tactic(auto)]
+
 ghost use Rattle.model.specs.Promises.{BuildsTable};
 
 use crate::build::{build_checked, not_built};

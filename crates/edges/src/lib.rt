@@ -1,5 +1,7 @@
 // The edge table by place: an edge's fields and its text, and what the sizes of a rule give, cm, powers and N.
 // Total: a place past the end of the table holds 0, as in the definitions.
+#![tactic(auto)]
+
 ghost use Rattle.std.specs.Prelude.{◌≡◌, ◌^◌, ◌≤◌, ◌<◌, ltb};
 ghost use Rattle.model.specs.Basics.{larger, within};
 ghost use Rattle.model.specs.Texts.{plain_atoms, atoms_past};

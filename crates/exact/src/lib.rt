@@ -1,4 +1,6 @@
 // The exact runner: all distinct configurations after each event are kept, in two banks of the lent scratch.
+#![tactic(auto)]
+
 ghost use Rattle.std.specs.Prelude.{◌≡◌, ◌+◌, ◌*◌, ◌≤◌, length};
 ghost use Rattle.model.specs.Basics.{one_if, zeros};
 ghost use Rattle.model.specs.Rules.{most_clocks};

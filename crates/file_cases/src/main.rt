@@ -2,6 +2,8 @@
 // with a ceiling of 31, with two, and with one after an edge. Then the worked file, one that is pinned from both sides,
 // and one with a ceiling that would make N too large, written again: the length, and 1 if the bytes are those of the
 // file less the ceiling. Then edges with groups, read, refused by 2, 3, 4, 6, 7 and 20, and written again.
+#![tactic(auto)]
+
 use libc::STDOUT_FILENO;
 use model::EDGE_NEED;
 use reader::read_rule;

@@ -1,4 +1,6 @@
 // The follower: one timer over a table, brought forward event by event, its row's verdict after each.
+#![tactic(auto)]
+
 ghost use Rattle.std.specs.Prelude.{◌≡◌, List, [], ℕ, ◌≤◌, ◌<◌};
 ghost use Rattle.model.specs.Words.{most_events};
 ghost use Rattle.model.specs.Tables.{tables};

@@ -2,6 +2,8 @@
 // definition. `readings` has a number for each clock; `unit` is what one of a constant is in it: D where the clocks
 // read ages, 2 where they read regions.
 // Total: a number past the end of a text is 0, and so is what a clock past the readings reads.
+#![tactic(auto)]
+
 ghost use Rattle.std.specs.Prelude.{◌≡◌, true, ◌^◌, ◌<◌};
 ghost use Rattle.model.specs.Texts.{atom_at, plain_atoms, flat};
 ghost use Rattle.model.specs.Rules.{guard_of};

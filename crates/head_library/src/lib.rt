@@ -1,5 +1,7 @@
 // What C and Rust link: every public entry under a C name, with the promise of the function that it calls.
 // Records cross by value, a lent table as pointer and length, the follower kept in place as one pointer.
+#![tactic(auto)]
+
 ghost use Rattle.model.specs.Promises.{ChecksRule, ChecksWord, ChecksTable, ReadsRule, WritesRule, BuildsTable};
 ghost use Rattle.model.specs.Promises.{RunsExact, RunsTable, StartsFollower, FollowsEvent, FollowsInPlace, Decides};
 ghost use Rattle.model.specs.Tables.{tables};

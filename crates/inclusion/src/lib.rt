@@ -1,4 +1,6 @@
 // Does one table allow only what another allows? If not, a shortest word that refutes it.
+#![tactic(auto)]
+
 ghost use Rattle.std.specs.Prelude.{◌≡◌, length};
 ghost use Rattle.model.specs.Basics.{lesser, zeros};
 ghost use Rattle.model.specs.Words.{most_events};

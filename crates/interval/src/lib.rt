@@ -1,5 +1,7 @@
 // The timer's interval numbers: 2c is [c], 2c + 1 is (c, c + 1), and 2 · cm + 1 is everything above cm.
 // Total: a D of 0 has the interval that the definition gives it.
+#![tactic(auto)]
+
 ghost use Rattle.std.specs.Prelude.{◌≡◌};
 ghost use Rattle.model.specs.Construction.{top_interval, interval_of};
 

@@ -1,4 +1,6 @@
 // Lists of words from the empty word to the last, counted. Then answers at the edges of 38 and 39, and for a last word.
+#![tactic(auto)]
+
 use libc::STDOUT_FILENO;
 use lists::next_word;
 use model::{Listed, Size};

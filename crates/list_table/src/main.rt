@@ -1,4 +1,6 @@
 // The listing program: a rule file from standard input, its table on standard output.
+#![tactic(auto)]
+
 use construct::build_table;
 use libc::STDOUT_FILENO;
 use model::{Built, EDGE_NEED};

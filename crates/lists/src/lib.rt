@@ -1,5 +1,7 @@
 // All words up to a size, in order, D = 2: the word after another. The last event that can be raised is raised, those
 // after it fall to their least; where none can be raised the first word of the next length comes.
+#![tactic(auto)]
+
 ghost use Rattle.std.specs.Prelude.{◌≡◌, ◌≤◌, ◌<◌};
 ghost use Rattle.model.specs.Lists.{most_listed_events, span_ok, size_ok, fits_from, events_in, listed_of, in_list};
 ghost use Rattle.model.specs.Promises.{GivesNext};

@@ -80,6 +80,7 @@ tracks_each c d t (b ∷ bs) (a ∷ ages) h =
 
 atom_up_to :
     (k c : ℕ) (xs : List Atom) → atoms_up_to k c xs ≡ true → (a : Atom) → In a xs → (a.clock < k) × (a.constant ≤ c)
+atom_up_to k c [] h a x'' = elim x'' [ ]
 atom_up_to k c (x ∷ xs) h a (here e) =
     let both : (ltb x.clock k && leb x.constant c) ≡ true =
     and_left (ltb x.clock k && leb x.constant c) (atoms_up_to k c xs) h in

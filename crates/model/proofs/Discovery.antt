@@ -28,18 +28,18 @@ pub data Grows (r : Rule) (after : List (List ℕ)) : List (List ℕ) → Type 0
       → Grows r after (with_row (next_row r s i x) rows)
       → Grows r after rows
 
-grows_twice : {r : Rule} {rows mid after : List (List ℕ)} → Grows r mid rows → Grows r after mid → Grows r after rows
+grows_twice : {r : Rule} {mid after rows : List (List ℕ)} → Grows r mid rows → Grows r after mid → Grows r after rows
 grows_twice (as_they_are e) g = rw e g
 grows_twice (one_by_one s i x f) g = one_by_one s i x (grows_twice f g)
 
-pub grows_extends : {r : Rule} {rows after : List (List ℕ)} → Grows r after rows → Extends rows after
+pub grows_extends : {r : Rule} {after rows : List (List ℕ)} → Grows r after rows → Extends rows after
 grows_extends {rows = rows} (as_they_are e) = rw (← e) (extends_self rows)
-grows_extends {r} {rows} (one_by_one s i x g) =
+grows_extends {r = r} {rows = rows} (one_by_one s i x g) =
     extends_twice (with_extends (next_row r s i x) rows) (grows_extends g)
 
-pub grows_placed : {r : Rule} {rows after : List (List ℕ)} → Grows r after rows → Placed rows → Placed after
+pub grows_placed : {r : Rule} {after rows : List (List ℕ)} → Grows r after rows → Placed rows → Placed after
 grows_placed (as_they_are e) placed = rw (← e) placed
-grows_placed {r} {rows} (one_by_one s i x g) placed =
+grows_placed {r = r} {rows = rows} (one_by_one s i x g) placed =
     grows_placed g (with_placed (next_row r s i x) rows placed)
 
 -- what holds of all successors holds of all rows if it did of the rows so far
@@ -55,13 +55,13 @@ with_each P y rows p each = go (looked y rows)
         rw e (λ x i. elim (in_append x y rows i) [ inl j ↦ each x j | inr q ↦ rw q p ])
 
 pub grows_each :
-    {r : Rule} {rows after : List (List ℕ)} (P : List ℕ → Type 0)
+    {r : Rule} {after rows : List (List ℕ)} (P : List ℕ → Type 0)
     → ((s i : ℕ) (x : List ℕ) → P (next_row r s i x))
     → Grows r after rows
     → Each P rows
     → Each P after
 grows_each P next (as_they_are e) each = rw (← e) each
-grows_each {r} {rows} P next (one_by_one s i x g) each =
+grows_each {r = r} {rows = rows} P next (one_by_one s i x g) each =
     grows_each P next g (with_each P (next_row r s i x) rows (next s i x) each)
 
 -- the stages of discovery: the intervals of a symbol, the symbols of a row, the rows

@@ -240,6 +240,7 @@ module _ (r : Rule) (d : ℕ) (vs : List Event) where
   start_lowest :
       (least most : ℕ) (ls : List ℕ) (k : ℕ) → rising least most ls ≡ true → In k ls → (least_at k).found ≡ true
       → (least_start r d vs ls).start ≤ k
+  start_lowest least most [] k rises x3 s = elim x3 [ ]
   start_lowest least most (l ∷ ls) k rises (here e) s = rw (start_yes l ls (rw e at s)) (omega arith)
   start_lowest least most (l ∷ ls) k rises (there i) s =
       let on = rising_rest least most l ls rises in

@@ -164,6 +164,7 @@ pub not_in_nil : {A : Type 0} {x : A} {B : Type 0} → In x [] → B
 not_in_nil h = elim h [ ]
 
 pub is_in_lem : (x : ℕ) (xs : List ℕ) → In x xs → is_in x xs ≡ true
+is_in_lem x [] x'' = elim x'' [ ]
 is_in_lem x (y ∷ ys) (here h) = rw (eq-eqb x y h)
 is_in_lem x (y ∷ ys) (there h) = or_right (eqb x y) (is_in x ys) (is_in_lem x ys h)
 
@@ -179,6 +180,7 @@ in_append e f (g ∷ es) (here h) = inl (here h)
 in_append e f (g ∷ es) (there h) = elim (in_append e f es h) [ inl i ↦ inl (there i) | inr q ↦ inr q ]
 
 pub in_left : {A : Type 0} (x : A) (xs ys : List A) → In x xs → In x (xs ++ ys)
+in_left {A = A} x [] ys x'' = elim x'' [ ]
 in_left x (y ∷ xs) ys (here h) = here h
 in_left x (y ∷ xs) ys (there h) = there (in_left x xs ys h)
 
@@ -198,6 +200,7 @@ pub record Numbered {A : Type 0} (d : A) (xs : List A) (x : A) : Type 0 where
   pub at_number : get_or xs number d ≡ x
 
 pub in_number : {A : Type 0} (d x : A) (xs : List A) → In x xs → Numbered d xs x
+in_number {A = A} d x [] x'' = elim x'' [ ]
 in_number d x (y ∷ ys) (here h) = record { number = 0; number_below = omega arith; at_number = sym h }
 in_number d x (y ∷ ys) (there i) =
     let n = in_number d x ys i in

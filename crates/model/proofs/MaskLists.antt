@@ -1,5 +1,5 @@
 -- A set of locations as a mask, read back: the mask of a rising list below 32 has exactly that list for its bits.
-use mathlib.Core.Path.{◌≡◌, refl, ◌∙◌, ap}
+use mathlib.Core.Path.{◌≡◌, refl, ◌∙◌, ap, subst}
 use mathlib.Core.Bool.{true, false}
 use mathlib.Core.List.{List, [], ◌∷◌}
 use Prim.Native.Nat.{ℕ, zero, suc, ◌+◌, ◌≤◌}
@@ -40,9 +40,9 @@ bits_are (suc n) i mask (x ∷ xs) a b k = go (cmp i x) (bits_are n (suc i) mask
         → bits_from (suc n) i mask ≡ x ∷ xs
     go (is_lt h) rest =
         rw (k i (omega arith), not_below x (x ∷ xs) i (omega arith, a.1) h)
-        (rest (x ∷ xs) (omega arith, a.1) (rw s at b) (λ l q. k l (omega arith)))
+        (rest (x ∷ xs) (omega arith, a.1) (subst (λ m. Below m (x ∷ xs)) s b) (λ l q. k l (omega arith)))
     go (is_eq h) rest =
-        let others = rest xs (rw (← h) at a.1) (rw s at b.1) (bits_rest i mask x xs h k) in
+        let others = rest xs (rw (← h) at a.1) (subst (λ m. Below m xs) s b.1) (bits_rest i mask x xs h k) in
         rw (k i (omega arith), eq-eqb i x h, h) (ap (λ (ys : List ℕ). x ∷ ys) (rw h at others))
     go (is_gt h) rest = absurd (omega arith)
 

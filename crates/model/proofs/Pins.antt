@@ -41,6 +41,7 @@ found_atom k r c (a ∷ xs) h =
     (found_atom k r c xs)
 
 atom_found : (a : Atom) (xs : List Atom) → In a xs → has_atom a.clock a.relation a.constant xs ≡ true
+atom_found a [] x' = elim x' [ ]
 atom_found a (x ∷ xs) (here e) =
     rw (e, eq-eqb x.clock x.clock refl, eq-eqb x.relation x.relation refl)
     (rw (eq-eqb x.constant x.constant refl))
@@ -74,6 +75,7 @@ pin_of xs h =
     ]
 
 pin_any : (all : List Atom) (a : Atom) (xs : List Atom) → In a xs → pins all a ≡ true → any_pins all xs ≡ true
+pin_any all a [] x'' p = elim x'' [ ]
 pin_any all a (x ∷ xs) (here e) p = or_left (pins all x) (any_pins all xs) (rw (← e) p)
 pin_any all a (x ∷ xs) (there i) p = or_right (pins all x) (any_pins all xs) (pin_any all a xs i p)
 

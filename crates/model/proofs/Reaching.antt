@@ -91,6 +91,7 @@ module _ (c : Config) (r : Rule) (d : ℕ) where
   start_leads :
       (vs : List Event) (l : ℕ) (ls : List ℕ) → In l ls → leads_to vs 0 l (start_ages r) ≡ true
       → some_config (from_start vs) (start_configs r ls) ≡ true
+  start_leads vs l [] x'' h = elim x'' [ ]
   start_leads vs l (k ∷ ls) (here e) h = rw (← e, h)
   start_leads vs l (k ∷ ls) (there i) h =
       or_right (leads_to vs 0 k (start_ages r)) (some_config (from_start vs) (start_configs r ls)) (start_leads vs l ls i h)

@@ -50,6 +50,7 @@ rising_all_below least l m (x ∷ xs) q h =
 
 -- a member of it
 pub rises_least : (least l : ℕ) (xs : List ℕ) (k : ℕ) → rising least l xs ≡ true → In k xs → least ≤ k
+rises_least least l [] k h i = elim i [ ]
 rises_least least l (x ∷ xs) k h i =
     elim i [
       | here e ↦ omega (arith, rising_least least l x xs h)
@@ -58,6 +59,7 @@ rises_least least l (x ∷ xs) k h i =
     ]
 
 pub rises_below : (least l : ℕ) (xs : List ℕ) (k : ℕ) → rising least l xs ≡ true → In k xs → k < l
+rises_below least l [] k h i = elim i [ ]
 rises_below least l (x ∷ xs) k h i =
     elim i [
       | here e ↦ omega (arith, rising_below least l x xs h)

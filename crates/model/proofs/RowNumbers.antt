@@ -31,6 +31,7 @@ pub record Stands (n : ℕ) (x : List ℕ) (rows : List (List ℕ)) : Type 0 whe
   pub row_is : row_at rows place ≡ x
 
 pub stands : (n : ℕ) (x : List ℕ) (rows : List (List ℕ)) → In x rows → Stands n x rows
+stands n x [] h = elim h [ ]
 stands n x (y ∷ ys) h = go (same x y) refl (stands (suc n) x ys) h
   where
     go : (t : Bool) → same x y ≡ t → (In x ys → Stands (suc n) x ys) → In x (y ∷ ys) → Stands n x (y ∷ ys)
@@ -73,6 +74,7 @@ pub number_stays :
     (n : ℕ) (x : List ℕ) (rows more : List (List ℕ))
     → In x rows
     → number_from n x (rows ++ more) ≡ number_from n x rows
+number_stays n x [] more h = elim h [ ]
 number_stays n x (y ∷ ys) more h = go (same x y) refl (number_stays (suc n) x ys more) h
   where
     go :
@@ -124,6 +126,7 @@ pub extends_at :
 extends_at {rows} n f h = rw f.after_is (first_part [] rows f.added n h)
 
 in_first : (x : List ℕ) (rows more : List (List ℕ)) → In x rows → In x (rows ++ more)
+in_first x [] more x'' = elim x'' [ ]
 in_first x (y ∷ ys) more (here h) = here h
 in_first x (y ∷ ys) more (there h) = there (in_first x ys more h)
 

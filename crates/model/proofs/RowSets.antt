@@ -51,6 +51,7 @@ with_code_has x (y ∷ ys) =
     ]
 
 pub with_code_keeps : (x z : ℕ) (ys : List ℕ) → In z ys → In z (with_code x ys)
+with_code_keeps x z [] i = elim i [ ]
 with_code_keeps x z (y ∷ ys) i = go (with_code_lem x y ys) i (with_code_keeps x z ys)
   where
     go : With x y ys → In z (y ∷ ys) → (In z ys → In z (with_code x ys)) → In z (with_code x (y ∷ ys))
@@ -110,6 +111,7 @@ module _ (r : Rule) (s i : ℕ) (timer : Bool) where
   pair_has :
       (x z : ℕ) (f : Edge) (es : List Edge) (row : List ℕ) → In f es → Leads x z f
       → In z (pair_targets r s i timer x es row)
+  pair_has x z f [] row x3 m = elim x3 [ ]
   pair_has x z f (e ∷ es) row (here h) m = pair_keeps x z es (with_target x e row) (rw (← h) (target_has x z f row m))
   pair_has x z f (e ∷ es) row (there j) m = pair_has x z f es (with_target x e row) j m
 
@@ -134,6 +136,7 @@ module _ (r : Rule) (s i : ℕ) (timer : Bool) where
 
   row_has :
       (x z : ℕ) (xs row : List ℕ) → In x xs → Reaches z x → In z (row_targets r s i timer xs row)
+  row_has x z [] row x3 m = elim x3 [ ]
   row_has x z (y ∷ xs) row (here h) m =
       row_keeps z xs (pair_targets r s i timer y r.edges row)
       (rw (← h) (pair_has x z m.member r.edges row m.is_in_lem m.such))
@@ -164,6 +167,7 @@ module _ (r : Rule) (s i : ℕ) where
     pub some_clock : 1 ≤ e.resets
 
   pair_resets_lem : (x : ℕ) (f : Edge) (es : List Edge) → In f es → ResetsBy x f → pair_resets r s i x es ≡ true
+  pair_resets_lem x f [] x3 m = elim x3 [ ]
   pair_resets_lem x f (e ∷ es) (here h) m = rw (← h, m.allowed, le-leb 1 f.resets m.some_clock)
   pair_resets_lem x f (e ∷ es) (there j) m =
       or_right (leb 1 e.resets && allows r s i x e) (pair_resets r s i x es) (pair_resets_lem x f es j m)
@@ -180,6 +184,7 @@ module _ (r : Rule) (s i : ℕ) where
 
   pub reset_has : (x : ℕ) (xs : List ℕ) → In x xs → Some (ResetsBy x) r.edges → row_resets r s i xs ≡ true
   unfolding row_resets
+  reset_has x [] x3 m = elim x3 [ ]
   reset_has x (y ∷ xs) (here h) m =
       or_left (pair_resets r s i y r.edges) (row_resets r s i xs)
       (rw (← h) (pair_resets_lem x m.member r.edges m.is_in_lem m.such))
@@ -230,6 +235,7 @@ module _ (r : Rule) (s i : ℕ) where
 pub final_has :
     (r : Rule) (x : ℕ) (xs : List ℕ) → In x xs → is_in (location_of r x) r.final ≡ true → holds_final r xs ≡ true
 unfolding holds_final
+final_has r x [] x3 f = elim x3 [ ]
 final_has r x (y ∷ xs) (here h) f = or_left (is_in (location_of r y) r.final) (holds_final r xs) (rw (← h) f)
 final_has r x (y ∷ xs) (there h) f =
     or_right (is_in (location_of r y) r.final) (holds_final r xs) (final_has r x xs h f)
@@ -243,6 +249,7 @@ final_of r (x ∷ xs) h =
 
 -- The start row: every initial location with bases 0.
 starts_have : (r : Rule) (l : ℕ) (ls : List ℕ) → In l ls → In (code_of r l (start_bases r)) (start_codes r ls)
+starts_have r l [] x' = elim x' [ ]
 starts_have r l (k ∷ ls) (here h) = rw (← h) (with_code_has (code_of r l (start_bases r)) (start_codes r ls))
 starts_have r l (k ∷ ls) (there h) =
     with_code_keeps (code_of r k (start_bases r)) (code_of r l (start_bases r)) (start_codes r ls) (starts_have r l ls h)

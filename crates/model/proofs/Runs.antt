@@ -22,6 +22,7 @@ module _ (d l : ℕ) (ages : List ℕ) (v : Event) (on : ℕ → List ℕ → Bo
     pub goes_on : on e.target (zeroed e.resets ages) ≡ true
 
   pub edge_has : (e : Edge) (es : List Edge) → In e es → Takes e → some_edge es d l ages v on ≡ true
+  edge_has e [] x'' t = elim x'' [ ]
   edge_has e (f ∷ es) (here h) t = rw (← h, t.can, t.goes_on)
   edge_has e (f ∷ es) (there i) t =
       or_right (can_take d l ages v f && on f.target (zeroed f.resets ages)) (some_edge es d l ages v on)
@@ -71,6 +72,7 @@ module _ (r : Rule) (d : ℕ) where
 
   from_has : (vs : List Event) (k : ℕ) (ls : List ℕ) → In k ls → AcceptsAt vs k → accepts_from_some r d vs ls ≡ true
   unfolding accepts_from_some
+  from_has vs k [] x'' a = elim x'' [ ]
   from_has vs k (l ∷ ls) (here h) a =
       or_left (accepts_from r d vs 0 l (start_ages r)) (accepts_from_some r d vs ls) (rw (← h) a)
   from_has vs k (l ∷ ls) (there i) a =

@@ -86,6 +86,7 @@ some_in_all s h (suc m) = omega (arith, words_add_up s h m, some_in_all s h m)
 -- Listed words keep the word rules.
 in_times : (w : List Event) (ws : List (List Event)) → In w ws → 1 ≤ times w ws
 unfolding count_if
+in_times w [] x' = elim x' [ ]
 in_times w (v ∷ ws) (here h) = rw (← h, same_word_lem w) (omega arith)
 in_times w (v ∷ ws) (there i) = omega (arith, in_times w ws i)
 

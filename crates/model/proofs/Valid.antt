@@ -58,6 +58,7 @@ atom_of k a h =
     }
 
 pub atoms_of_lem : (k : ℕ) (xs : List Atom) → atoms_ok k xs ≡ true → (a : Atom) → In a xs → AtomIn k a
+atoms_of_lem k [] h a x'' = elim x'' [ ]
 atoms_of_lem k (x ∷ xs) h a (here e) = rw e (atom_of k x (and_left (atom_ok k x) (atoms_ok k xs) h))
 atoms_of_lem k (x ∷ xs) h a (there i) = atoms_of_lem k xs (and_right (atom_ok k x) (atoms_ok k xs) h) a i
 
@@ -97,6 +98,7 @@ edge_of_lem r e h p m =
     }
 
 pub edges_of : (r : Rule) (es : List Edge) → edges_ok r es ≡ true → (e : Edge) → In e es → EdgeIn r e
+edges_of r [] h e i = elim i [ ]
 edges_of r (f ∷ es) h e i =
     let a : Bool = edge_ok r f in
     let b : Bool = integer_reset f in
@@ -178,11 +180,13 @@ valid_of r h =
 
 -- a constant is at most the largest, and the largest at most a bound of all
 pub constant_largest : (a : Atom) (xs : List Atom) → In a xs → a.constant ≤ largest_constant xs
+constant_largest a [] x' = elim x' [ ]
 constant_largest a (x ∷ xs) (here h) = rw h (larger_left x.constant (largest_constant xs))
 constant_largest a (x ∷ xs) (there i) =
     omega (arith, constant_largest a xs i, larger_right x.constant (largest_constant xs))
 
 pub edge_largest : (e : Edge) (es : List Edge) → In e es → largest_constant (atoms_of e) ≤ largest_of es
+edge_largest e [] x' = elim x' [ ]
 edge_largest e (f ∷ es) (here h) = rw h (larger_left (largest_constant (atoms_of f)) (largest_of es))
 edge_largest e (f ∷ es) (there h) =
     omega (arith, edge_largest e es h, larger_right (largest_constant (atoms_of f)) (largest_of es))

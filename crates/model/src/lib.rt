@@ -1,4 +1,6 @@
 // The plain records that cross every call, and the two kinds of time. What they mean stands in specs/.
+#![tactic(auto)]
+
 ghost use Rattle.std.specs.Prelude.{◌≡◌, ◌-◌};
 
 // The limits of document 01 and the layouts of file and tables. Each has its name in specs/, as `edge_width` for

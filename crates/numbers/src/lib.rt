@@ -1,5 +1,7 @@
 // Numbers at other widths, division by any number, bits of a mask, and lent tables by place.
 // Total: a number that does not fit is cut, a place past the end of a table holds 0.
+#![tactic(auto)]
+
 ghost use Rattle.std.specs.Prelude.{◌≡◌, ◌%◌, ◌^◌, ◌<◌, length, get_or, take, drop};
 ghost use Rattle.model.specs.Basics.{bit, zeros};
 ghost use Rattle.model.specs.Basics.{lesser as lesserOf, larger as largerOf};

@@ -1,6 +1,8 @@
 // Pairs of a location and bases: which edges they allow, and where these lead.
 // Total: each number has the width that its range needs, and a clock past the array reads 0, as in the definitions.
 // That a target is the right code is said for a scale of powers.
+#![tactic(auto)]
+
 pub mod moves;
 pub mod regions;
 pub mod resets;

@@ -1,4 +1,6 @@
 // Rule files read: one pass over the records, each refused or taken into the head record and the edge table.
+#![tactic(auto)]
+
 ghost use Rattle.std.specs.Prelude.{◌≡◌};
 ghost use Rattle.model.specs.Rules.{Rule};
 ghost use Rattle.model.specs.Layout.{no_head};

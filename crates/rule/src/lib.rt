@@ -1,5 +1,7 @@
 // Whether a head record and an edge table are what reading some accepted file leaves: refusals 20 and 21.
 // A direct test in one pass; no file is built.
+#![tactic(auto)]
+
 ghost use Rattle.std.specs.Prelude.{◌≡◌, ◌≤◌, length};
 ghost use Rattle.model.specs.Rules.{plain_edge, most_edges};
 ghost use Rattle.model.specs.Layout.{edge_need, edge_width, is_readable};

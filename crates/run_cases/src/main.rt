@@ -1,6 +1,8 @@
 // P1 to P8 through all four runners: exact, by branch, table, follower. Then a case for each of 26, also at place 0,
 // and 30 to 34: number and place. Then words over a rule with groups, through all four: the verdicts, and for one event
 // whether the branch runner says that the word was held back, and by which member.
+#![tactic(auto)]
+
 ghost use Rattle.std.specs.Prelude.{◌-◌};
 
 use branch::run_branches;

@@ -1,4 +1,6 @@
 // The check of a built record and its tables: every condition of 25, over tables that may hold any numbers.
+#![tactic(auto)]
+
 ghost use Rattle.std.specs.Prelude.{◌≡◌, ℕ, ◌≤◌};
 ghost use Rattle.model.specs.Basics.{within, all_below};
 ghost use Rattle.model.specs.Construction.{interval_count, most_rows};

@@ -1,4 +1,6 @@
 // How much of the list a rule allows: for each table of a batch the words accepted, by length and in all, as shares.
+#![tactic(auto)]
+
 ghost use Rattle.std.specs.Prelude.{◌≡◌, [], ◌-◌, ◌*◌, ◌^◌, ◌≤◌, length};
 ghost use Rattle.model.specs.Basics.{zeros, filled};
 ghost use Rattle.model.specs.Tables.{tables};

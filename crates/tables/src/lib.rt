@@ -1,5 +1,7 @@
 // The row table by place: where a row's codes start in the pool, how many they are, and the verdict that it stores.
 // Total: a place past the end of the table holds 0, as in the definitions.
+#![tactic(auto)]
+
 ghost use Rattle.std.specs.Prelude.{◌≡◌, ◌^◌, ◌<◌};
 ghost use Rattle.model.specs.Tables.{row_start, row_length, row_verdict};
 

@@ -1,5 +1,7 @@
 // Texts of edges of kind 6: the group rules, and the atoms, one after the other.
 // Total: a number past the end of a text is 0, and a mark that opens nothing and is no atom closes.
+#![tactic(auto)]
+
 ghost use Rattle.std.specs.Prelude.{◌≡◌};
 ghost use Rattle.model.specs.Texts.{opens_group, atoms_past, open_mark, groups_ok};
 ghost use Rattle.texts.specs.Atoms.{NextAtom, outermost};

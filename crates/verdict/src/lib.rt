@@ -1,4 +1,6 @@
 // Demand 3 in one call: the reader, the builder and the table runner in a row, from the bytes of a file to the answer.
+#![tactic(auto)]
+
 ghost use Rattle.std.specs.Prelude.{◌≡◌};
 ghost use Rattle.model.specs.Promises.{Decides};
 ghost use Rattle.model.proofs.Decision.{handed_on};

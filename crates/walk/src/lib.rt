@@ -1,5 +1,7 @@
 // The walk of the one timer over a table: its step, a row's verdict, and the table runner.
 // The step and the verdict are total: a place past a table's end holds 0, as in the definitions.
+#![tactic(auto)]
+
 ghost use Rattle.std.specs.Prelude.{◌≡◌, ◌≤◌, eqb, length, get_or};
 ghost use Rattle.model.specs.Words.{events_of};
 ghost use Rattle.model.specs.Construction.{top_interval};

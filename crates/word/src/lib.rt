@@ -1,4 +1,6 @@
 // The check of a word: D, the number of events, then each event's symbol and stamp.
+#![tactic(auto)]
+
 ghost use Rattle.std.specs.Prelude.{◌≡◌, length};
 ghost use Rattle.model.specs.Words.{grain_ok};
 ghost use Rattle.model.specs.Promises.{ChecksWord};

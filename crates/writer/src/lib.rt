@@ -1,4 +1,6 @@
 // Rule files written: the length first, then record by record, each from the place where the one before ended.
+#![tactic(auto)]
+
 ghost use Rattle.std.specs.Prelude.{◌≡◌, [], ◌∷◌, ◌+◌, ◌*◌, ◌^◌, ◌≤◌, ◌<◌, length};
 ghost use Rattle.model.specs.Basics.{pick, bit};
 ghost use Rattle.model.specs.Rules.{most_edges, most_locations, most_text};
