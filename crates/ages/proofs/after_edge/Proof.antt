@@ -24,7 +24,7 @@ returns c =
     let a = c.before.before.before.before.before.args in
     let resets = c.before.resets-of.ensures.0 in
     record {
-      location_is = c.before.before.target_of_lem.ensures.0;
+      location_is = c.before.before.target-of.ensures.0;
       ages_are = c.zeroed.ensures ∙ ap (λ (mask : ℕ). zeroed mask (numbers_of a.from.ages.of)) resets;
     }
 

@@ -7,8 +7,8 @@ use Rattle.ages.proofs.age_of.Tie as tie
 returns : tie.Need-returns
 returns c = past_clocks _ _ c.before.args.t1 c.if1.true
 
-returns_2 : tie.Need-returns-2
-returns_2 c =
+returns-2 : tie.Need-returns-2
+returns-2 c =
     past_four c.before.before.args.clocks c.before.before.args.clock c.before.before.args.t1
     (search (rules, length_mapped)) c.if2.true
 
@@ -18,10 +18,10 @@ mul-result c = search rules
 element-copy-out-result : tie.Need-element-copy-out-result
 element-copy-out-result c = search rules
 
-returns_3 : tie.Need-returns-3
-returns_3 c =
+returns-3 : tie.Need-returns-3
+returns-3 c =
     let a = c.before.before.before.args in
     in_clocks a.clocks a.clock a.t1 (search rules)
 
 pub age-of-spec : {M : Type 1} → statement M
-age-of-spec = tie.close (tie.spec returns returns_2 mul-result element-copy-out-result returns_3)
+age-of-spec = tie.close (tie.spec returns returns-2 mul-result element-copy-out-result returns-3)

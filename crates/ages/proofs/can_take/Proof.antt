@@ -6,8 +6,8 @@ use borrow.Author.Rules.{rules}
 use Rattle.ages.proofs.can_take.Statement.{statement}
 use Rattle.ages.proofs.can_take.Tie as tie
 
-leaves_requires : tie.Need-leaves-requires
-leaves_requires c κs = search rules
+leaves-requires : tie.Need-leaves-requires
+leaves-requires c κs = search rules
 
 returns : tie.Need-returns
 returns c =
@@ -17,20 +17,20 @@ returns c =
     left.leaves.ensures
     c.if1.true
 
-readings_requires : tie.Need-readings-requires
-readings_requires c κs = search rules
+readings-requires : tie.Need-readings-requires
+readings-requires c κs = search rules
 
-slice_aggregate_part_of : tie.Need-slice-aggregate-part-of
-slice_aggregate_part_of c = search rules
+slice-aggregate-part-of : tie.Need-slice-aggregate-part-of
+slice-aggregate-part-of c = search rules
 
-part_of_requires : tie.Need-part-of-requires
-part_of_requires c κs = search rules
+part-of-requires : tie.Need-part-of-requires
+part-of-requires c κs = search rules
 
-guard_holds_requires : tie.Need-guard-holds-requires
-guard_holds_requires c κs = search rules
+guard-holds-requires : tie.Need-guard-holds-requires
+guard-holds-requires c κs = search rules
 
-returns_2 : tie.Need-returns-2
-returns_2 c =
+returns-2 : tie.Need-returns-2
+returns-2 c =
     let part = c.before in
     let read = part.before.before in
     let test = read.before in
@@ -41,16 +41,16 @@ returns_2 c =
     _
     (not-false _ test.if1.false)
     (read_ages a.clocks a.from.ages _ _ read.readings.ensures part.part_of.ensures)
-    c.guard_holds.ensures
+    c.guard-holds.ensures
 
 pub can-take-spec : {M : Type 1} → statement M
 can-take-spec =
     tie.close
     (tie.spec
-    leaves_requires
+    leaves-requires
     returns
-    readings_requires
-    slice_aggregate_part_of
-    part_of_requires
-    guard_holds_requires
-    returns_2)
+    readings-requires
+    slice-aggregate-part-of
+    part-of-requires
+    guard-holds-requires
+    returns-2)

@@ -10,8 +10,8 @@ has-bit-requires c κs = search rules
 returns : tie.Need-returns
 returns c = rw (sym c.before.has-bit.ensures ∙ c.if1.true)
 
-returns_2 : tie.Need-returns-2
-returns_2 c = rw (sym c.before.has-bit.ensures ∙ c.if1.false)
+returns-2 : tie.Need-returns-2
+returns-2 c = rw (sym c.before.has-bit.ensures ∙ c.if1.false)
 
 pub kept-spec : {M : Type 1} → statement M
-kept-spec = tie.close (tie.spec has-bit-requires returns returns_2)
+kept-spec = tie.close (tie.spec has-bit-requires returns returns-2)

@@ -6,8 +6,8 @@ use borrow.Author.Rules.{rules}
 use Rattle.ages.proofs.later.Statement.{statement}
 use Rattle.ages.proofs.later.Tie as tie
 
-wide32_requires : tie.Need-wide32-requires
-wide32_requires c κs = search rules
+wide32-requires : tie.Need-wide32-requires
+wide32-requires c κs = search rules
 
 wide32-requires-2 : tie.Need-wide32-requires-2
 wide32-requires-2 c κs = search rules
@@ -23,12 +23,12 @@ returns c =
 cast-t7 : tie.Need-overflow-cast-t7
 cast-t7 c = search rules
 
-returns_2 : tie.Need-returns-2
-returns_2 c =
+returns-2 : tie.Need-returns-2
+returns-2 c =
     let a = c.before.before.before.args in
     rw (c.before.wide322.ensures.0, c.before.before.wide32.ensures.0)
     (under_cap (a.age.0 + a.delay.0) (omega arith))
 
 pub later-spec : {M : Type 1} → statement M
 later-spec =
-    tie.close (tie.spec wide32_requires wide32-requires-2 add-sum returns cast-t7 returns_2)
+    tie.close (tie.spec wide32-requires wide32-requires-2 add-sum returns cast-t7 returns-2)

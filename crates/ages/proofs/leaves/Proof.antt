@@ -8,8 +8,8 @@ use Rattle.ages.proofs.leaves.Tie as tie
 source-of-requires : tie.Need-source-of-requires
 source-of-requires c κs = search rules
 
-wide32_requires : tie.Need-wide32-requires
-wide32_requires c κs = search rules
+wide32-requires : tie.Need-wide32-requires
+wide32-requires c κs = search rules
 
 returns : tie.Need-returns
 returns c =
@@ -25,15 +25,15 @@ symbol-of-requires c κs = search rules
 wide16-requires : tie.Need-wide16-requires
 wide16-requires c κs = search rules
 
-returns_2 : tie.Need-returns-2
-returns_2 c =
+returns-2 : tie.Need-returns-2
+returns-2 c =
     let tested = c.before.before in
     let a = tested.before.before.before.before.args in
     symbol_decides a.location a.symbol (edge_at a.e a.edges.now) _ _ _ _
     tested.before.before.source_of.ensures.0
     tested.before.wide32.ensures.0
     tested.if1.false
-    c.before.symbol_of.ensures.0
+    c.before.symbol-of.ensures.0
     c.wide16.ensures.0
 
 pub leaves-spec : {M : Type 1} → statement M
@@ -41,8 +41,8 @@ leaves-spec =
     tie.close
     (tie.spec
     source-of-requires
-    wide32_requires
+    wide32-requires
     returns
     symbol-of-requires
     wide16-requires
-    returns_2)
+    returns-2)

@@ -13,12 +13,12 @@ returns c =
 same-ages-requires : tie.Need-same-ages-requires
 same-ages-requires c κs = search rules
 
-returns_2 : tie.Need-returns-2
-returns_2 c =
+returns-2 : tie.Need-returns-2
+returns-2 c =
     let a = c.before.before.before.before.before.before.args in
     ages_decide (config_of a.clocks a.one) (config_of a.clocks a.other) _
     c.before.before.before.if1.false
     c.same-ages.ensures
 
 pub same-configuration-spec : {M : Type 1} → statement M
-same-configuration-spec = tie.close (tie.spec returns same-ages-requires returns_2)
+same-configuration-spec = tie.close (tie.spec returns same-ages-requires returns-2)

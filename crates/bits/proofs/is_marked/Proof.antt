@@ -20,10 +20,10 @@ cast-result c = search rules
 shr-result : tie.Need-overflow-shr-result
 shr-result c = search rules
 
-returns_2 : tie.Need-returns-2
-returns_2 c = search rules
+returns-2 : tie.Need-returns-2
+returns-2 c = search rules
 
 pub is-marked-spec : {M : Type 1} → statement M
 is-marked-spec =
     tie.close
-    (tie.spec returns mul-result shared-slice-read-result cast-result shr-result returns_2)
+    (tie.spec returns mul-result shared-slice-read-result cast-result shr-result returns-2)

@@ -17,8 +17,8 @@ is-marked-requires c κs = search rules
 same_length : tie.Need-same-length
 same_length c = search rules
 
-returns_2 : tie.Need-returns-2
-returns_2 c can = marked_again can (sym c.before.is-marked.ensures ∙ c.if2.true)
+returns-2 : tie.Need-returns-2
+returns-2 c can = marked_again can (sym c.before.is-marked.ensures ∙ c.if2.true)
 
 mul-marks : tie.Need-overflow-mul-marks
 mul-marks c = search rules
@@ -50,8 +50,8 @@ larger-requires c κs = search rules
 narrow32-requires : tie.Need-narrow32-requires
 narrow32-requires c κs = search rules
 
-wide32_requires : tie.Need-wide32-requires
-wide32_requires c κs = search rules
+wide32-requires : tie.Need-wide32-requires
+wide32-requires c κs = search rules
 
 add-t19 : tie.Need-overflow-add-t19
 add-t19 c = search rules
@@ -59,17 +59,17 @@ add-t19 c = search rules
 same-length-2 : tie.Need-same-length-2
 same-length-2 c = search rules
 
-returns_3 : tie.Need-returns-3
-returns_3 c can =
-    let at-narrow = c.before in
-    let at-larger = at-narrow.before in
-    let at-lesser = at-larger.before in
-    let at_test = at-lesser.before.before in
+returns-3 : tie.Need-returns-3
+returns-3 c can =
+    let at_narrow = c.before in
+    let at_larger = at_narrow.before in
+    let at_lesser = at_larger.before in
+    let at_test = at_lesser.before.before in
     let start = at_test.before.before.before.before.before in
-    let count = at-narrow.narrow32.ensures.1 (count_fits can) in
+    let count = at_narrow.narrow32.ensures.1 (count_fits can) in
     rw (shl_one_is (start.args.code % 32) (search rules))
-    (mark_does can _ _ _ (sym at_test.before.is-marked.ensures ∙ at_test.if2.false) at-lesser.lesser.ensures
-    at-larger.larger.ensures
+    (mark_does can _ _ _ (sym at_test.before.is-marked.ensures ∙ at_test.if2.false) at_lesser.lesser.ensures
+    at_larger.larger.ensures
     (omega (arith, count, c.wide32.ensures.0)))
 
 pub mark_spec : {M : Type 1} → statement M
@@ -79,7 +79,7 @@ mark_spec =
     returns
     is-marked-requires
     same_length
-    returns_2
+    returns-2
     mul-marks
     slice-read-marks
     cast-marks
@@ -90,7 +90,7 @@ mark_spec =
     add-larger
     larger-requires
     narrow32-requires
-    wide32_requires
+    wide32-requires
     add-t19
     same-length-2
-    returns_3)
+    returns-3)

@@ -82,23 +82,23 @@ decreases_loop given edges symbols stamps left depth stamp now count by e₀ e =
 
 module _ (t : ℕ) where
   -- the call's first event is one place further
-  next_is :
+  next-is :
       (c : lts.Else1 (claims t) (here t) own.Post invariant_loop decreases_loop)
       → let a = c.before.before.before.before.before.args in
       let n = length a.symbols.now in n - (a.left - 1) ≡ n - a.left + 1
-  next_is c =
+  next-is c =
       let s = c.before.before.before.before.before in
       omega (arith, s.requires.1.0, c.if1.false)
 
   -- after the delay, the least run is that over all edges
-  from_event :
+  from-event :
       (c : lts.After-after-delay (claims t) (here t) own.Post invariant_loop decreases_loop)
       → let a = c.before.before.before.before.before.before.before.before.args in
       let g = a.given in
       let depth = length a.symbols.now - a.left in
       least_at g.head a.edges.now g.grain a.symbols.now a.stamps.now depth a.last.0 a.from
       ≡ try_from g.head a.edges.now g.grain a.symbols.now a.stamps.now depth c.after-delay.result 0
-  from_event c =
+  from-event c =
       let stamp = c.before.before in
       let test = stamp.before in
       let s = test.before.before.before.before.before in
@@ -112,11 +112,11 @@ module _ (t : ℕ) where
       c.before.since.ensures
       c.after-delay.ensures
 
-  has_location_requires : lts.Need-has-location-requires (claims t) (here t) own.Post invariant_loop decreases_loop
-  has_location_requires c κs = search rules
+  has-location-requires : lts.Need-has-location-requires (claims t) (here t) own.Post invariant_loop decreases_loop
+  has-location-requires c κs = search rules
 
-  no_edges_requires : lts.Need-no-edges-requires (claims t) (here t) own.Post invariant_loop decreases_loop
-  no_edges_requires c κs = search rules
+  no-edges-requires : lts.Need-no-edges-requires (claims t) (here t) own.Post invariant_loop decreases_loop
+  no-edges-requires c κs = search rules
 
   returns : lts.Need-returns (claims t) (here t) own.Post invariant_loop decreases_loop
   returns c =
@@ -130,35 +130,35 @@ module _ (t : ℕ) where
       c.before.has-location.ensures
       c.no_edges.ensures
 
-  sub_depth : lts.Need-overflow-sub-depth (claims t) (here t) own.Post invariant_loop decreases_loop
-  sub_depth c = search rules
+  sub-depth : lts.Need-overflow-sub-depth (claims t) (here t) own.Post invariant_loop decreases_loop
+  sub-depth c = search rules
 
-  mul_t21 : lts.Need-overflow-mul-t21 (claims t) (here t) own.Post invariant_loop decreases_loop
-  mul_t21 c = search rules
+  mul-t21 : lts.Need-overflow-mul-t21 (claims t) (here t) own.Post invariant_loop decreases_loop
+  mul-t21 c = search rules
 
-  shared_slice_read_t23 : lts.Need-shared-slice-read-t23 (claims t) (here t) own.Post invariant_loop decreases_loop
-  shared_slice_read_t23 c = search rules
+  shared-slice-read-t23 : lts.Need-shared-slice-read-t23 (claims t) (here t) own.Post invariant_loop decreases_loop
+  shared-slice-read-t23 c = search rules
 
-  since_requires : lts.Need-since-requires (claims t) (here t) own.Post invariant_loop decreases_loop
-  since_requires c κs = search rules
+  since-requires : lts.Need-since-requires (claims t) (here t) own.Post invariant_loop decreases_loop
+  since-requires c κs = search rules
 
-  after_delay_requires : lts.Need-after-delay-requires (claims t) (here t) own.Post invariant_loop decreases_loop
-  after_delay_requires c κs = search rules
+  after-delay-requires : lts.Need-after-delay-requires (claims t) (here t) own.Post invariant_loop decreases_loop
+  after-delay-requires c κs = search rules
 
-  readings_requires : lts.Need-readings-requires (claims t) (here t) own.Post invariant_loop decreases_loop
-  readings_requires c κs = search rules
+  readings-requires : lts.Need-readings-requires (claims t) (here t) own.Post invariant_loop decreases_loop
+  readings-requires c κs = search rules
 
-  slice_aggregate_part_of : lts.Need-slice-aggregate-part-of (claims t) (here t) own.Post invariant_loop decreases_loop
-  slice_aggregate_part_of c = search rules
+  slice-aggregate-part-of : lts.Need-slice-aggregate-part-of (claims t) (here t) own.Post invariant_loop decreases_loop
+  slice-aggregate-part-of c = search rules
 
-  wide32_requires : lts.Need-wide32-requires (claims t) (here t) own.Post invariant_loop decreases_loop
-  wide32_requires c κs = search rules
+  wide32-requires : lts.Need-wide32-requires (claims t) (here t) own.Post invariant_loop decreases_loop
+  wide32-requires c κs = search rules
 
-  part_of_requires : lts.Need-part-of-requires (claims t) (here t) own.Post invariant_loop decreases_loop
-  part_of_requires c κs = search rules
+  part-of-requires : lts.Need-part-of-requires (claims t) (here t) own.Post invariant_loop decreases_loop
+  part-of-requires c κs = search rules
 
-  loop_holds : lts.Need-loop-init (claims t) (here t) own.Post invariant_loop decreases_loop
-  loop_holds c =
+  loop-holds : lts.Need-loop-init (claims t) (here t) own.Post invariant_loop decreases_loop
+  loop-holds c =
       let read = c.before.before.before in
       let test = read.before.before.before.before.before in
       let pre = test.before.before.before.before.before.requires.1 in (
@@ -168,26 +168,26 @@ module _ (t : ℕ) where
             c.part_of.ensures,
       )
 
-  mul_leaves : lts.Need-overflow-mul-leaves (claims t) (here t) own.Post invariant_loop decreases_loop
-  mul_leaves c = search rules
+  mul-leaves : lts.Need-overflow-mul-leaves (claims t) (here t) own.Post invariant_loop decreases_loop
+  mul-leaves c = search rules
 
-  shared_slice_read_leaves : lts.Need-shared-slice-read-leaves (claims t) (here t) own.Post invariant_loop decreases_loop
-  shared_slice_read_leaves c = search rules
+  shared-slice-read-leaves : lts.Need-shared-slice-read-leaves (claims t) (here t) own.Post invariant_loop decreases_loop
+  shared-slice-read-leaves c = search rules
 
-  leaves_requires : lts.Need-leaves-requires (claims t) (here t) own.Post invariant_loop decreases_loop
-  leaves_requires c κs = search rules
+  leaves-requires : lts.Need-leaves-requires (claims t) (here t) own.Post invariant_loop decreases_loop
+  leaves-requires c κs = search rules
 
-  guard_holds_requires : lts.Need-guard-holds-requires (claims t) (here t) own.Post invariant_loop decreases_loop
-  guard_holds_requires c κs = search rules
+  guard-holds-requires : lts.Need-guard-holds-requires (claims t) (here t) own.Post invariant_loop decreases_loop
+  guard-holds-requires c κs = search rules
 
-  after_edge_requires : lts.Need-after-edge-requires (claims t) (here t) own.Post invariant_loop decreases_loop
-  after_edge_requires c κs = search rules
+  after-edge-requires : lts.Need-after-edge-requires (claims t) (here t) own.Post invariant_loop decreases_loop
+  after-edge-requires c κs = search rules
 
-  sub_least_from : lts.Need-overflow-sub-least-from (claims t) (here t) own.Post invariant_loop decreases_loop
-  sub_least_from c = search rules
+  sub-least-from : lts.Need-overflow-sub-least-from (claims t) (here t) own.Post invariant_loop decreases_loop
+  sub-least-from c = search rules
 
-  least_from_requires : lts.Need-least-from-requires (claims t) (here t) own.Post invariant_loop decreases_loop
-  least_from_requires c κs =
+  least-from-requires : lts.Need-least-from-requires (claims t) (here t) own.Post invariant_loop decreases_loop
+  least-from-requires c κs =
       let at = c.before.before.before.before.before.before.before in
       let waited = at.before.before.before.before.before.before in
       let stamp = waited.before.before in
@@ -205,22 +205,22 @@ module _ (t : ℕ) where
               _
               s.requires.1.1
               (omega (arith, s.requires.1.0, test.if1.false))
-              (next_is test)
+              (next-is test)
               (omega (arith, stamp.shared-slice-known4.given depth))
               waited.before.since.ensures
               waited.after-delay.ensures
-              c.after_edge.ensures,
+              c.after-edge.ensures,
         ),
       )
 
-  cast_with_edge : lts.Need-overflow-cast-with-edge (claims t) (here t) own.Post invariant_loop decreases_loop
-  cast_with_edge c = search rules
+  cast-with-edge : lts.Need-overflow-cast-with-edge (claims t) (here t) own.Post invariant_loop decreases_loop
+  cast-with-edge c = search rules
 
-  with_edge_requires : lts.Need-with-edge-requires (claims t) (here t) own.Post invariant_loop decreases_loop
-  with_edge_requires c κs = search rules
+  with-edge-requires : lts.Need-with-edge-requires (claims t) (here t) own.Post invariant_loop decreases_loop
+  with-edge-requires c κs = search rules
 
-  returns_2 : lts.Need-returns-2 (claims t) (here t) own.Post invariant_loop decreases_loop
-  returns_2 c =
+  returns-2 : lts.Need-returns-2 (claims t) (here t) own.Post invariant_loop decreases_loop
+  returns-2 c =
       let run = c.before.before in
       let moved = run.before in
       let guarded = moved.before.before in
@@ -240,12 +240,12 @@ module _ (t : ℕ) where
       _
       guarded.before.if2.true
       l.invariant.2.clocks_read
-      guarded.guard_holds.ensures in
+      guarded.guard-holds.ensures in
       let found =
-      trying_found _ _ _ _ _ _ now_is l.invariant.2 round.loop-test.true moved.after_edge.result
-      moved.after_edge.ensures
+      trying_found _ _ _ _ _ _ now_is l.invariant.2 round.loop-test.true moved.after-edge.result
+      moved.after-edge.ensures
       _
-      (next_is test)
+      (next-is test)
       _
       run.least-from.result
       l.invariant.0
@@ -253,16 +253,16 @@ module _ (t : ℕ) where
       moved.before.if3.true
       run.least-from.ensures
       c.before.if4.true in
-      c.with_edge_lem.ensures ∙ (found ∙ ap (λ (p : Path). placed depth p) (sym (from_event waited)))
+      c.with-edge.ensures ∙ (found ∙ ap (λ (p : Path). placed depth p) (sym (from-event waited)))
 
-  add_e : lts.Need-overflow-add-e (claims t) (here t) own.Post invariant_loop decreases_loop
-  add_e c = search rules
+  add-e : lts.Need-overflow-add-e (claims t) (here t) own.Post invariant_loop decreases_loop
+  add-e c = search rules
 
-  loop_less : lts.Need-loop-smaller (claims t) (here t) own.Post invariant_loop decreases_loop
-  loop_less c = search rules
+  loop-less : lts.Need-loop-smaller (claims t) (here t) own.Post invariant_loop decreases_loop
+  loop-less c = search rules
 
-  loop_again : lts.Need-loop-preserved (claims t) (here t) own.Post invariant_loop decreases_loop
-  loop_again c =
+  loop-again : lts.Need-loop-preserved (claims t) (here t) own.Post invariant_loop decreases_loop
+  loop-again c =
       let at = c.before.before.before.before in
       let l = at.loop in
       let waited = at.before.before.before.before.before.before in
@@ -279,7 +279,7 @@ module _ (t : ℕ) where
         l.invariant.1,
         ⊎_elim
             (λ w.
-            trying_stuck _ _ _ _ _ _ now_is l.invariant.2 round w.3.result w.3.ensures _ (next_is test) _
+            trying_stuck _ _ _ _ _ _ now_is l.invariant.2 round w.3.result w.3.ensures _ (next-is test) _
             w.4.result
             (guard_decides d clocks _ now_is edge _ left _ _ w.0.taken read w.1.ensures)
             w.2.taken
@@ -299,11 +299,11 @@ module _ (t : ℕ) where
             c.if2.branch,
       )
 
-  no_edges_requires_2 : lts.Need-no-edges-requires-2 (claims t) (here t) own.Post invariant_loop decreases_loop
-  no_edges_requires_2 c κs = search rules
+  no-edges-requires-2 : lts.Need-no-edges-requires-2 (claims t) (here t) own.Post invariant_loop decreases_loop
+  no-edges-requires-2 c κs = search rules
 
-  returns_3 : lts.Need-returns-3 (claims t) (here t) own.Post invariant_loop decreases_loop
-  returns_3 c =
+  returns-3 : lts.Need-returns-3 (claims t) (here t) own.Post invariant_loop decreases_loop
+  returns-3 c =
       let at = c.before.before in
       let waited = at.before.before.before.before.before.before in
       let a = waited.before.before.before.before.before.before.before.before.args in
@@ -311,7 +311,7 @@ module _ (t : ℕ) where
       let none = trying_none _ _ _ _ _ _ _ at.loop.invariant.2 c.before.loop-test.false in
       c.no-edges2.ensures
       ∙ (nowhere depth no_path (search rules) refl
-      ∙ ap (λ (p : Path). placed depth p) (sym none ∙ sym (from_event waited)))
+      ∙ ap (λ (p : Path). placed depth p) (sym none ∙ sym (from-event waited)))
 
 pub +least-from-spec : {M : Type 1} → statement M
 +least-from-spec = close μ λ t. lts.spec (claims t)
@@ -319,31 +319,31 @@ pub +least-from-spec : {M : Type 1} → statement M
     own.Post
     invariant_loop
     decreases_loop
-    (has_location_requires t)
-    (no_edges_requires t)
+    (has-location-requires t)
+    (no-edges-requires t)
     (returns t)
-    (sub_depth t)
-    (mul_t21 t)
-    (shared_slice_read_t23 t)
-    (since_requires t)
-    (after_delay_requires t)
-    (readings_requires t)
-    (slice_aggregate_part_of t)
-    (wide32_requires t)
-    (part_of_requires t)
-    (loop_holds t)
-    (mul_leaves t)
-    (shared_slice_read_leaves t)
-    (leaves_requires t)
-    (guard_holds_requires t)
-    (after_edge_requires t)
-    (sub_least_from t)
-    (least_from_requires t)
-    (cast_with_edge t)
-    (with_edge_requires t)
-    (returns_2 t)
-    (add_e t)
-    (loop_less t)
-    (loop_again t)
-    (no_edges_requires_2 t)
-    (returns_3 t)
+    (sub-depth t)
+    (mul-t21 t)
+    (shared-slice-read-t23 t)
+    (since-requires t)
+    (after-delay-requires t)
+    (readings-requires t)
+    (slice-aggregate-part-of t)
+    (wide32-requires t)
+    (part-of-requires t)
+    (loop-holds t)
+    (mul-leaves t)
+    (shared-slice-read-leaves t)
+    (leaves-requires t)
+    (guard-holds-requires t)
+    (after-edge-requires t)
+    (sub-least-from t)
+    (least-from-requires t)
+    (cast-with-edge t)
+    (with-edge-requires t)
+    (returns-2 t)
+    (add-e t)
+    (loop-less t)
+    (loop-again t)
+    (no-edges-requires-2 t)
+    (returns-3 t)

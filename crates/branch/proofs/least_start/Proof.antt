@@ -12,42 +12,42 @@ use Rattle.branch.proofs.Starts.{starting_none}
 use Rattle.branch.proofs.least_start.Statement.{statement}
 use Rattle.branch.proofs.least_start.Tie as tie
 
-abbrev invariant_loop : tie.invariant_loop
-invariant_loop edges grain symbols stamps given starts l₀ l =
+abbrev invariant-loop : tie.invariant-loop
+invariant-loop edges grain symbols stamps given starts l₀ l =
     Begins given.head symbols stamps × Starting given.head edges given.grain symbols stamps starts l
 
-abbrev decreases_loop : tie.decreases_loop
-decreases_loop edges grain symbols stamps given starts l₀ l = most_locations - l
+abbrev decreases-loop : tie.decreases-loop
+decreases-loop edges grain symbols stamps given starts l₀ l = most_locations - l
 
-wide32_requires : tie.Need-wide32-requires invariant_loop decreases_loop
-wide32_requires c κs = search rules
+wide32-requires : tie.Need-wide32-requires invariant-loop decreases-loop
+wide32-requires c κs = search rules
 
-loop_holds : tie.Need-loop-init invariant_loop decreases_loop
-loop_holds c = (c.before.before.before.before.requires, starting _ _ _ _ _ _ c.wide32.ensures.0)
+loop-holds : tie.Need-loop-init invariant-loop decreases-loop
+loop-holds c = (c.before.before.before.before.requires, starting _ _ _ _ _ _ c.wide32.ensures.0)
 
-has-bit-requires : tie.Need-has-bit-requires invariant_loop decreases_loop
+has-bit-requires : tie.Need-has-bit-requires invariant-loop decreases-loop
 has-bit-requires c κs = search rules
 
-cast-start-at : tie.Need-overflow-cast-start-at invariant_loop decreases_loop
+cast-start-at : tie.Need-overflow-cast-start-at invariant-loop decreases-loop
 cast-start-at c = search rules
 
-start-at-requires : tie.Need-start-at-requires invariant_loop decreases_loop
+start-at-requires : tie.Need-start-at-requires invariant-loop decreases-loop
 start-at-requires c κs = search rules
 
-least_from_requires : tie.Need-least-from-requires invariant_loop decreases_loop
-least_from_requires c κs =
-    (omega arith, start_ready _ _ _ _ c.before.before.before.before.loop.invariant.0 c.start_at.ensures.1)
+least-from-requires : tie.Need-least-from-requires invariant-loop decreases-loop
+least-from-requires c κs =
+    (omega arith, start_ready _ _ _ _ c.before.before.before.before.loop.invariant.0 c.start-at.ensures.1)
 
-cast-with-start : tie.Need-overflow-cast-with-start invariant_loop decreases_loop
+cast-with-start : tie.Need-overflow-cast-with-start invariant-loop decreases-loop
 cast-with-start c = search rules
 
-with-start-requires : tie.Need-with-start-requires invariant_loop decreases_loop
+with-start-requires : tie.Need-with-start-requires invariant-loop decreases-loop
 with-start-requires c κs = search rules
 
-returns : tie.Need-returns invariant_loop decreases_loop
+returns : tie.Need-returns invariant-loop decreases-loop
 returns c =
     let run = c.before.before in
-    let from = run.before.start_at in
+    let from = run.before.start-at in
     let bit = run.before.before.before in
     let test = bit.before in
     let l = test.before.loop in
@@ -66,14 +66,14 @@ returns c =
     run.least-from.ensures
     c.before.if2.true
 
-add-l : tie.Need-overflow-add-l invariant_loop decreases_loop
+add-l : tie.Need-overflow-add-l invariant-loop decreases-loop
 add-l c = search rules
 
-loop_less : tie.Need-loop-smaller invariant_loop decreases_loop
-loop_less c = search rules
+loop-less : tie.Need-loop-smaller invariant-loop decreases-loop
+loop-less c = search rules
 
-loop_again : tie.Need-loop-preserved invariant_loop decreases_loop
-loop_again c =
+loop-again : tie.Need-loop-preserved invariant-loop decreases-loop
+loop-again c =
     let at = c.before.before.before in
     let a = at.before.before.before.before.before.args in
     let l = at.loop in
@@ -90,11 +90,11 @@ loop_again c =
           c.if1.branch,
     )
 
-no-branch-requires : tie.Need-no-branch-requires invariant_loop decreases_loop
+no-branch-requires : tie.Need-no-branch-requires invariant-loop decreases-loop
 no-branch-requires c κs = search rules
 
-returns_2 : tie.Need-returns-2 invariant_loop decreases_loop
-returns_2 c =
+returns-2 : tie.Need-returns-2 invariant-loop decreases-loop
+returns-2 c =
     let at = c.before.before in
     let a = at.before.before.before.before.before.args in
     let none = starting_none a.head a.edges.now a.grain a.symbols.now a.stamps.now at.loop.invariant.1
@@ -105,19 +105,19 @@ pub least-start-spec : {M : Type 1} → statement M
 least-start-spec =
     tie.close
     (tie.spec
-    invariant_loop
-    decreases_loop
-    wide32_requires
-    loop_holds
+    invariant-loop
+    decreases-loop
+    wide32-requires
+    loop-holds
     has-bit-requires
     cast-start-at
     start-at-requires
-    least_from_requires
+    least-from-requires
     cast-with-start
     with-start-requires
     returns
     add-l
-    loop_less
-    loop_again
+    loop-less
+    loop-again
     no-branch-requires
-    returns_2)
+    returns-2)

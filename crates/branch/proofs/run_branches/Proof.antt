@@ -55,8 +55,8 @@ check-word-requires c κs = search rules
 no-branch-requires-2 : tie.Need-no-branch-requires-2
 no-branch-requires-2 c κs = search rules
 
-returns_2 : tie.Need-returns-2
-returns_2 c =
+returns-2 : tie.Need-returns-2
+returns-2 c =
     let word = c.before.before.before in
     let left = word.before in
     let rule = left.before.before in
@@ -76,8 +76,8 @@ least-start-requires c κs =
     let a = c.before.before.before.before.before.before.before.before.before.args in
     begins a.head a.edges.now a.grain a.symbols.now a.stamps.now (checked c)
 
-returns_3 : tie.Need-returns-3
-returns_3 c =
+returns-3 : tie.Need-returns-3
+returns-3 c =
     let least = c.before in
     let passed = least.before in
     let a = passed.before.before.before.before.before.before.before.before.before.args in
@@ -131,9 +131,9 @@ run-branches-spec =
     cast-check-word
     check-word-requires
     no-branch-requires-2
-    returns_2
+    returns-2
     least-start-requires
-    returns_3
+    returns-3
     held-back-requires
     with-held-requires
     returns-4)

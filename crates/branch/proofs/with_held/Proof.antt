@@ -12,8 +12,8 @@ enum_told c = search rules
 returns : tie.Need-returns
 returns c = search rules
 
-returns_2 : tie.Need-returns-2
-returns_2 c = rw c.before.answer.given.1
+returns-2 : tie.Need-returns-2
+returns-2 c = rw c.before.answer.given.1
 
 pub with-held-spec : {M : Type 1} → statement M
-with-held-spec = tie.close (tie.spec enum-known-answer enum_told returns returns_2)
+with-held-spec = tie.close (tie.spec enum-known-answer enum_told returns returns-2)

@@ -1,6 +1,6 @@
 -- `checks::atoms_ok` meets its contract, by the kind of the text.
 use borrow.Author.Rules.{rules}
-use borrow.Author.Tests.{eq-eqb, ne_eqb}
+use borrow.Author.Tests.{eq_eqb, ne_eqb}
 use Rattle.model.specs.Rules.{plain_edge}
 use Rattle.checks.proofs.atoms_ok.Statement.{statement}
 use Rattle.checks.proofs.atoms_ok.Tie as tie
@@ -14,9 +14,9 @@ returns c = rw (eq-eqb c.before.before.before.args.kind plain_edge c.before.if1.
 atoms-ok-requires-2 : tie.Need-atoms-ok-requires-2
 atoms-ok-requires-2 c κs = search rules
 
-returns_2 : tie.Need-returns-2
-returns_2 c =
+returns-2 : tie.Need-returns-2
+returns-2 c =
     rw (ne_eqb c.before.before.before.args.kind plain_edge c.before.if1.false) c.atoms-ok2.ensures
 
 pub atoms-ok-spec : {M : Type 1} → statement M
-atoms-ok-spec = tie.close (tie.spec atoms-ok-requires returns atoms-ok-requires-2 returns_2)
+atoms-ok-spec = tie.close (tie.spec atoms-ok-requires returns atoms-ok-requires-2 returns-2)

@@ -21,7 +21,7 @@ reset_at c =
     let ranged = kept.before.before in
     let fields = ranged.before in
     let text = fields.before in
-    reset_fault _ _ (passed fields.fields-ok.ensures ranged.if1.false) _ _ text.before.kind_of.ensures.0
+    reset_fault _ _ (passed fields.fields-ok.ensures ranged.if1.false) _ _ text.before.kind-of.ensures.0
     text.text_of.ensures (passed kept.before.text-ok.ensures kept.if2.false) _
     atoms.before.wide32.ensures.0 (passed atoms.atoms-ok.ensures met.if3.false) _
     c.before.resets-of.ensures.0 c.integer-reset.ensures
@@ -41,28 +41,28 @@ returns c = fields_fault _ _ (failed c.before.fields-ok.ensures c.if1.true)
 text-ok-requires : tie.Need-text-ok-requires
 text-ok-requires c κs = search rules
 
-returns_2 : tie.Need-returns-2
-returns_2 c =
+returns-2 : tie.Need-returns-2
+returns-2 c =
     let ranged = c.before.before in
     let fields = ranged.before in
     let text = fields.before in
-    text_fault _ _ (passed fields.fields-ok.ensures ranged.if1.false) _ _ text.before.kind_of.ensures.0
+    text_fault _ _ (passed fields.fields-ok.ensures ranged.if1.false) _ _ text.before.kind-of.ensures.0
     text.text_of.ensures (failed c.before.text-ok.ensures c.if2.true)
 
-wide32_requires : tie.Need-wide32-requires
-wide32_requires c κs = search rules
+wide32-requires : tie.Need-wide32-requires
+wide32-requires c κs = search rules
 
 atoms-ok-requires : tie.Need-atoms-ok-requires
 atoms-ok-requires c κs = search rules
 
-returns_3 : tie.Need-returns-3
-returns_3 c =
+returns-3 : tie.Need-returns-3
+returns-3 c =
     let atoms = c.before in
     let kept = atoms.before.before in
     let ranged = kept.before.before in
     let fields = ranged.before in
     let text = fields.before in
-    atoms_fault _ _ (passed fields.fields-ok.ensures ranged.if1.false) _ _ text.before.kind_of.ensures.0
+    atoms_fault _ _ (passed fields.fields-ok.ensures ranged.if1.false) _ _ text.before.kind-of.ensures.0
     text.text_of.ensures (passed kept.before.text-ok.ensures kept.if2.false) _
     atoms.before.wide32.ensures.0 (failed atoms.atoms-ok.ensures c.if3.true)
 
@@ -87,10 +87,10 @@ edge-fault-spec =
     fields-ok-requires
     returns
     text-ok-requires
-    returns_2
-    wide32_requires
+    returns-2
+    wide32-requires
     atoms-ok-requires
-    returns_3
+    returns-3
     resets-of-requires
     integer-reset-requires
     returns-4

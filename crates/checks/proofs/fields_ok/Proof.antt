@@ -4,8 +4,8 @@ use Rattle.checks.proofs.EdgeChecks.{source_high, target_high, symbol_high, mask
 use Rattle.checks.proofs.fields_ok.Statement.{statement}
 use Rattle.checks.proofs.fields_ok.Tie as tie
 
-wide32_requires : tie.Need-wide32-requires
-wide32_requires c κs = search rules
+wide32-requires : tie.Need-wide32-requires
+wide32-requires c κs = search rules
 
 number-at-requires : tie.Need-number-at-requires
 number-at-requires c κs = search rules
@@ -20,8 +20,8 @@ returns c =
 number-at-requires-2 : tie.Need-number-at-requires-2
 number-at-requires-2 c κs = search rules
 
-returns_2 : tie.Need-returns-2
-returns_2 c =
+returns-2 : tie.Need-returns-2
+returns-2 c =
     let target = c.before in
     let source = target.before.before in
     let a = source.before.before.before.args in
@@ -35,8 +35,8 @@ wide32-requires-2 c κs = search rules
 number-at-requires-3 : tie.Need-number-at-requires-3
 number-at-requires-3 c κs = search rules
 
-returns_3 : tie.Need-returns-3
-returns_3 c =
+returns-3 : tie.Need-returns-3
+returns-3 c =
     let symbol = c.before in
     let target = symbol.before.before.before in
     let source = target.before.before in
@@ -72,14 +72,14 @@ pub fields-ok-spec : {M : Type 1} → statement M
 fields-ok-spec =
     tie.close
     (tie.spec
-    wide32_requires
+    wide32-requires
     number-at-requires
     returns
     number-at-requires-2
-    returns_2
+    returns-2
     wide32-requires-2
     number-at-requires-3
-    returns_3
+    returns-3
     number-at-requires-4
     wide32-requires-3
     mask-ok-requires

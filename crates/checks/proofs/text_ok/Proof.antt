@@ -1,6 +1,6 @@
 -- `checks::text_ok` meets its contract: the group rules are asked of kind 6 alone.
 use borrow.Author.Rules.{rules}
-use borrow.Author.Tests.{eq-eqb, ne_eqb}
+use borrow.Author.Tests.{eq_eqb, ne_eqb}
 use Rattle.model.specs.Rules.{grouped_edge}
 use Rattle.checks.proofs.text_ok.Statement.{statement}
 use Rattle.checks.proofs.text_ok.Tie as tie
@@ -12,8 +12,8 @@ returns : tie.Need-returns
 returns c =
     rw (eq-eqb c.before.before.before.args.kind grouped_edge c.before.if1.true) c.groups-ok.ensures
 
-returns_2 : tie.Need-returns-2
-returns_2 c = rw (ne_eqb c.before.before.args.kind grouped_edge c.if1.false)
+returns-2 : tie.Need-returns-2
+returns-2 c = rw (ne_eqb c.before.before.args.kind grouped_edge c.if1.false)
 
 pub text-ok-spec : {M : Type 1} → statement M
-text-ok-spec = tie.close (tie.spec groups-ok-requires returns returns_2)
+text-ok-spec = tie.close (tie.spec groups-ok-requires returns returns-2)

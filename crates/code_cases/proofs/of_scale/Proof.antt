@@ -4,39 +4,39 @@ use borrow.Author.Rules.{rules}
 use Rattle.code_cases.proofs.of_scale.Statement.{statement}
 use Rattle.code_cases.proofs.of_scale.Tie as tie
 
-abbrev invariant_loop : tie.invariant_loop
-invariant_loop scale tally₀ locations₀ tally locations = locations ≤ 33
+abbrev invariant-loop : tie.invariant-loop
+invariant-loop scale tally₀ locations₀ tally locations = locations ≤ 33
 
-abbrev decreases_loop : tie.decreases_loop
-decreases_loop scale tally₀ locations₀ tally locations = 33 - locations
+abbrev decreases-loop : tie.decreases-loop
+decreases-loop scale tally₀ locations₀ tally locations = 33 - locations
 
-loop_holds : tie.Need-loop-init invariant_loop decreases_loop
-loop_holds c = search rules
+loop-holds : tie.Need-loop-init invariant-loop decreases-loop
+loop-holds c = search rules
 
-of-size-requires : tie.Need-of-size-requires invariant_loop decreases_loop
+of-size-requires : tie.Need-of-size-requires invariant-loop decreases-loop
 of-size-requires c κs = search rules
 
-add-locations : tie.Need-overflow-add-locations invariant_loop decreases_loop
+add-locations : tie.Need-overflow-add-locations invariant-loop decreases-loop
 add-locations c = search rules
 
-loop_less : tie.Need-loop-smaller invariant_loop decreases_loop
-loop_less c = search rules
+loop-less : tie.Need-loop-smaller invariant-loop decreases-loop
+loop-less c = search rules
 
-loop_again : tie.Need-loop-preserved invariant_loop decreases_loop
-loop_again c = search rules
+loop-again : tie.Need-loop-preserved invariant-loop decreases-loop
+loop-again c = search rules
 
-returns : tie.Need-returns invariant_loop decreases_loop
+returns : tie.Need-returns invariant-loop decreases-loop
 returns c = search rules
 
 pub of-scale-spec : {M : Type 1} → statement M
 of-scale-spec =
     tie.close
     (tie.spec
-    invariant_loop
-    decreases_loop
-    loop_holds
+    invariant-loop
+    decreases-loop
+    loop-holds
     of-size-requires
     add-locations
-    loop_less
-    loop_again
+    loop-less
+    loop-again
     returns)

@@ -14,35 +14,35 @@ use Rattle.codes.proofs.Loops.{taking_nothing, digit_most, last_most, unpack_is,
 use Rattle.codes.proofs.unpack.Statement.{statement}
 use Rattle.codes.proofs.unpack.Tie as tie
 
-abbrev invariant_loop : tie.invariant_loop
-invariant_loop code powers clocks weight whole location rest₀ bases₀ k₀ rest bases k =
+abbrev invariant-loop : tie.invariant-loop
+invariant-loop code powers clocks weight whole location rest₀ bases₀ k₀ rest bases k =
     (1 ≤ k) × (k ≤ most_clocks)
     × (Known powers clocks weight → Taking (power_at powers 1) powers clocks code k rest bases)
 
-abbrev decreases_loop : tie.decreases_loop
-decreases_loop code powers clocks weight whole location rest₀ bases₀ k₀ rest bases k = k
+abbrev decreases-loop : tie.decreases-loop
+decreases-loop code powers clocks weight whole location rest₀ bases₀ k₀ rest bases k = k
 
-wide32_requires : tie.Need-wide32-requires invariant_loop decreases_loop
-wide32_requires c κs = search rules
+wide32-requires : tie.Need-wide32-requires invariant-loop decreases-loop
+wide32-requires c κs = search rules
 
-wide32-requires-2 : tie.Need-wide32-requires-2 invariant_loop decreases_loop
+wide32-requires-2 : tie.Need-wide32-requires-2 invariant-loop decreases-loop
 wide32-requires-2 c κs = search rules
 
-wide32-requires-3 : tie.Need-wide32-requires-3 invariant_loop decreases_loop
+wide32-requires-3 : tie.Need-wide32-requires-3 invariant-loop decreases-loop
 wide32-requires-3 c κs = search rules
 
-quotient-requires : tie.Need-quotient-requires invariant_loop decreases_loop
+quotient-requires : tie.Need-quotient-requires invariant-loop decreases-loop
 quotient-requires c κs = search rules
 
-remainder-requires : tie.Need-remainder-requires invariant_loop decreases_loop
+remainder-requires : tie.Need-remainder-requires invariant-loop decreases-loop
 remainder-requires c κs = search rules
 
-loop_holds : tie.Need-loop-init invariant_loop decreases_loop
-loop_holds c =
+loop-holds : tie.Need-loop-init invariant-loop decreases-loop
+loop-holds c =
     let at_whole = c.before.before in
-    let at-weight = at_whole.before in
-    let at-clocks = at-weight.before in
-    let start = at-clocks.before.before in (
+    let at_weight = at_whole.before in
+    let at_clocks = at_weight.before in
+    let start = at_clocks.before.before in (
       search rules,
       search rules,
       λ known.
@@ -52,97 +52,97 @@ loop_holds c =
 
 -- what is known where the scale is one of powers
 known :
-    (c : tie.At-loop invariant_loop decreases_loop)
-    → let at-weight = c.before.before.before.before in
-    let at-clocks = at-weight.before in
-    let z = at-clocks.before.before.args.scale in
-    Powered z → Known z.powers at-clocks.wide32.result at-weight.wide322.result
+    (c : tie.At-loop invariant-loop decreases-loop)
+    → let at_weight = c.before.before.before.before in
+    let at_clocks = at_weight.before in
+    let z = at_clocks.before.before.args.scale in
+    Powered z → Known z.powers at_clocks.wide32.result at_weight.wide322.result
 known c powered =
-    let at-weight = c.before.before.before.before in
-    known_of powered at-weight.before.wide32.ensures.0 at-weight.wide322.ensures.0
+    let at_weight = c.before.before.before.before in
+    known_of powered at_weight.before.wide32.ensures.0 at_weight.wide322.ensures.0
 
 -- the pair, once the bases are all out
 all_out :
-    (c : tie.At-loop invariant_loop decreases_loop)
+    (c : tie.At-loop invariant-loop decreases-loop)
     → let at_quotient = c.before.before in
-    let at-clocks = at_quotient.before.before.before in
-    let a = at-clocks.before.before.args in
-    (bases : List ℕ) → bases ≡ bases_in a.scale.powers at-clocks.wide32.result a.code
+    let at_clocks = at_quotient.before.before.before in
+    let a = at_clocks.before.before.args in
+    (bases : List ℕ) → bases ≡ bases_in a.scale.powers at_clocks.wide32.result a.code
     → ◌≡◌ {A = Pair} (record { location = at_quotient.quotient.result; bases = bases })
     (unpacked a.scale a.code)
 all_out c bases e =
     let at_quotient = c.before.before in
     let at_whole = at_quotient.before in
-    let at-weight = at_whole.before in
-    let at-clocks = at-weight.before in
-    let a = at-clocks.before.before.args in
-    unpack_is a.scale a.code _ _ _ _ bases at-clocks.wide32.ensures.0 at-weight.wide322.ensures.0
+    let at_weight = at_whole.before in
+    let at_clocks = at_weight.before in
+    let a = at_clocks.before.before.args in
+    unpack_is a.scale a.code _ _ _ _ bases at_clocks.wide32.ensures.0 at_weight.wide322.ensures.0
     at_whole.wide323.ensures.0
     at_quotient.quotient.ensures
     e
 
-returns : tie.Need-returns invariant_loop decreases_loop
+returns : tie.Need-returns invariant-loop decreases-loop
 returns c powered =
-    let at-loop = c.before.before in
-    all_out at-loop _ (taking_nothing (at-loop.loop.invariant.2 (known at-loop powered)) c.if1.true)
+    let at_loop = c.before.before in
+    all_out at_loop _ (taking_nothing (at_loop.loop.invariant.2 (known at_loop powered)) c.if1.true)
 
-sub-k : tie.Need-overflow-sub-k invariant_loop decreases_loop
+sub-k : tie.Need-overflow-sub-k invariant-loop decreases-loop
 sub-k c = search rules
 
-mul-wide32 : tie.Need-overflow-mul-wide32 invariant_loop decreases_loop
+mul-wide32 : tie.Need-overflow-mul-wide32 invariant-loop decreases-loop
 mul-wide32 c = search rules
 
-array-read-wide32 : tie.Need-array-read-wide32 invariant_loop decreases_loop
+array-read-wide32 : tie.Need-array-read-wide32 invariant-loop decreases-loop
 array-read-wide32 c = search rules
 
-wide32-requires-4 : tie.Need-wide32-requires-4 invariant_loop decreases_loop
+wide32-requires-4 : tie.Need-wide32-requires-4 invariant-loop decreases-loop
 wide32-requires-4 c κs = search rules
 
-quotient-requires-2 : tie.Need-quotient-requires-2 invariant_loop decreases_loop
+quotient-requires-2 : tie.Need-quotient-requires-2 invariant-loop decreases-loop
 quotient-requires-2 c κs = search rules
 
-narrow16-requires : tie.Need-narrow16-requires invariant_loop decreases_loop
+narrow16-requires : tie.Need-narrow16-requires invariant-loop decreases-loop
 narrow16-requires c κs = search rules
 
-mul-bases : tie.Need-overflow-mul-bases invariant_loop decreases_loop
+mul-bases : tie.Need-overflow-mul-bases invariant-loop decreases-loop
 mul-bases c = search rules
 
-array-write-bases : tie.Need-array-write-bases invariant_loop decreases_loop
+array-write-bases : tie.Need-array-write-bases invariant-loop decreases-loop
 array-write-bases c = search rules
 
-remainder-requires-2 : tie.Need-remainder-requires-2 invariant_loop decreases_loop
+remainder-requires-2 : tie.Need-remainder-requires-2 invariant-loop decreases-loop
 remainder-requires-2 c κs = search rules
 
-loop_less : tie.Need-loop-smaller invariant_loop decreases_loop
-loop_less c = search rules
+loop-less : tie.Need-loop-smaller invariant-loop decreases-loop
+loop-less c = search rules
 
-loop_again : tie.Need-loop-preserved invariant_loop decreases_loop
-loop_again c =
-    let at-digit = c.before in
-    let at_quotient = at-digit.before in
+loop-again : tie.Need-loop-preserved invariant-loop decreases-loop
+loop-again c =
+    let at_digit = c.before in
+    let at_quotient = at_digit.before in
     let at_test = at_quotient.before.before in
-    let at-power = at_test.before in
-    let l = at-power.before.before.before.loop in
+    let at_power = at_test.before in
+    let l = at_power.before.before.before.loop in
     let e : l.k ≡ suc (l.k - 1) = omega (arith, l.invariant.0) in
     let h = at_test.if2.true in
-    let p = at-power.wide324.ensures.0 in
+    let p = at_power.wide324.ensures.0 in
     let q = at_quotient.quotient2.ensures in (
       search rules,
       search rules,
       λ known.
           let inv = l.invariant.2 known in
           let small : at_quotient.quotient2.result < 2 ^ 16 = rw q (digit_most inv (l.k - 1) _ e h p) in
-          taking_off inv (l.k - 1) _ _ _ e (search rules) h p (at-digit.narrow16.ensures.1 small ∙ q)
+          taking_off inv (l.k - 1) _ _ _ e (search rules) h p (at_digit.narrow16.ensures.1 small ∙ q)
           c.remainder2.ensures,
     )
 
-loop-less-2 : tie.Need-loop-smaller-2 invariant_loop decreases_loop
+loop-less-2 : tie.Need-loop-smaller-2 invariant-loop decreases-loop
 loop-less-2 c = search rules
 
-loop-again-2 : tie.Need-loop-preserved-2 invariant_loop decreases_loop
+loop-again-2 : tie.Need-loop-preserved-2 invariant-loop decreases-loop
 loop-again-2 c =
-    let at-power = c.before in
-    let l = at-power.before.before.before.loop in
+    let at_power = c.before in
+    let l = at_power.before.before.before.loop in
     let e : l.k ≡ suc (l.k - 1) = omega (arith, l.invariant.0) in (
       search rules,
       search rules,
@@ -150,35 +150,35 @@ loop-again-2 c =
           let inv = l.invariant.2 known in
           ⊎_elim
           (λ w. taking_small inv (l.k - 1) _ e
-          (search rules) w.0.taken at-power.wide324.ensures.0 (search rules))
+          (search rules) w.0.taken at_power.wide324.ensures.0 (search rules))
           (λ w. taking_past inv (l.k - 1) e (search rules) w.left)
           c.if2.branch,
     )
 
-narrow16-requires-2 : tie.Need-narrow16-requires-2 invariant_loop decreases_loop
+narrow16-requires-2 : tie.Need-narrow16-requires-2 invariant-loop decreases-loop
 narrow16-requires-2 c κs = search rules
 
-array-write-bases-2 : tie.Need-array-write-bases-2 invariant_loop decreases_loop
+array-write-bases-2 : tie.Need-array-write-bases-2 invariant-loop decreases-loop
 array-write-bases-2 c = search rules
 
-returns_2 : tie.Need-returns-2 invariant_loop decreases_loop
-returns_2 c powered =
-    let at-loop = c.before.before in
-    let inv = at-loop.loop.invariant.2 (known at-loop powered) in
-    all_out at-loop _ (taking_end inv _ (search rules) (c.narrow162.ensures.1 (last_most inv (search rules))))
+returns-2 : tie.Need-returns-2 invariant-loop decreases-loop
+returns-2 c powered =
+    let at_loop = c.before.before in
+    let inv = at_loop.loop.invariant.2 (known at_loop powered) in
+    all_out at_loop _ (taking_end inv _ (search rules) (c.narrow162.ensures.1 (last_most inv (search rules))))
 
 pub unpack-spec : {M : Type 1} → statement M
 unpack-spec =
     tie.close
     (tie.spec
-    invariant_loop
-    decreases_loop
-    wide32_requires
+    invariant-loop
+    decreases-loop
+    wide32-requires
     wide32-requires-2
     wide32-requires-3
     quotient-requires
     remainder-requires
-    loop_holds
+    loop-holds
     returns
     sub-k
     mul-wide32
@@ -189,10 +189,10 @@ unpack-spec =
     mul-bases
     array-write-bases
     remainder-requires-2
-    loop_less
-    loop_again
+    loop-less
+    loop-again
     loop-less-2
     loop-again-2
     narrow16-requires-2
     array-write-bases-2
-    returns_2)
+    returns-2)

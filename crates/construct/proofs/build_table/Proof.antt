@@ -12,22 +12,22 @@ not-built-requires c κs = search rules
 
 returns : tie.Need-returns
 returns c =
-    let after-check-rule = c.before.before.before in
-    let s = after-check-rule.before.before.before.before.before.before in
+    let after_check_rule = c.before.before.before in
+    let s = after_check_rule.before.before.before.before.before.before in
     builds_as _
     (builds_unread s.args.head s.args.edges.now s.args.scratch.now s.args.cells.now
     s.args.rows.now
-    s.args.pool.now after-check-rule.check-rule.result after-check-rule.check-rule.ensures
+    s.args.pool.now after_check_rule.check-rule.result after_check_rule.check-rule.ensures
     c.before.if1.true)
     c.not-built.ensures
 
 build-checked-requires : tie.Need-build-checked-requires
 build-checked-requires c κs =
-    let at-if1 = c.before.before.before.before in
-    let after-check-rule = at-if1.before.before in
-    let start = after-check-rule.before.before.before.before.before.before in
-    rule_passes start.args.head start.args.edges.now _ after-check-rule.check-rule.ensures
-    at-if1.if1.false
+    let at_if1 = c.before.before.before.before in
+    let after_check_rule = at_if1.before.before in
+    let start = after_check_rule.before.before.before.before.before.before in
+    rule_passes start.args.head start.args.edges.now _ after_check_rule.check-rule.ensures
+    at_if1.if1.false
 
 same_length : tie.Need-same-length
 same_length c = search rules
@@ -41,8 +41,8 @@ same-length-3 c = search rules
 same-length-4 : tie.Need-same-length-4
 same-length-4 c = search rules
 
-returns_2 : tie.Need-returns-2
-returns_2 c = c.before.before.before.before.before.before.before.before.build-checked.ensures
+returns-2 : tie.Need-returns-2
+returns-2 c = c.before.before.before.before.before.before.before.before.build-checked.ensures
 
 pub build-table-spec : {M : Type 1} → statement M
 build-table-spec =
@@ -56,4 +56,4 @@ build-table-spec =
     same-length-2
     same-length-3
     same-length-4
-    returns_2)
+    returns-2)

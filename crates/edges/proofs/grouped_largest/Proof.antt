@@ -10,36 +10,36 @@ use Rattle.edges.proofs.Laws.{largest_from, largest_next, largest_end, larger_le
 use Rattle.edges.proofs.grouped_largest.Statement.{statement}
 use Rattle.edges.proofs.grouped_largest.Tie as tie
 
-abbrev invariant_loop : tie.invariant_loop
-invariant_loop text least most₀ at₀ most at =
+abbrev invariant-loop : tie.invariant-loop
+invariant-loop text least most₀ at₀ most at =
     Left (largest_from most) (atoms_past 0) text at (largest_from least (atoms_past 0 text))
 
-abbrev decreases_loop : tie.decreases_loop
-decreases_loop text least most₀ at₀ most at = length text + 1 - at
+abbrev decreases-loop : tie.decreases-loop
+decreases-loop text least most₀ at₀ most at = length text + 1 - at
 
-next-atom-requires : tie.Need-next-atom-requires invariant_loop decreases_loop
+next-atom-requires : tie.Need-next-atom-requires invariant-loop decreases-loop
 next-atom-requires c κs = search rules
 
-loop_holds : tie.Need-loop-init invariant_loop decreases_loop
-loop_holds c = left_start (largest_from _) _ _ _ c.next-atom.ensures
+loop-holds : tie.Need-loop-init invariant-loop decreases-loop
+loop-holds c = left_start (largest_from _) _ _ _ c.next-atom.ensures
 
-add-number-at : tie.Need-overflow-add-number-at invariant_loop decreases_loop
+add-number-at : tie.Need-overflow-add-number-at invariant-loop decreases-loop
 add-number-at c = search rules
 
-number-at-requires : tie.Need-number-at-requires invariant_loop decreases_loop
+number-at-requires : tie.Need-number-at-requires invariant-loop decreases-loop
 number-at-requires c κs = search rules
 
-add-next-atom : tie.Need-overflow-add-next-atom invariant_loop decreases_loop
+add-next-atom : tie.Need-overflow-add-next-atom invariant-loop decreases-loop
 add-next-atom c = search rules
 
-next-atom-requires-2 : tie.Need-next-atom-requires-2 invariant_loop decreases_loop
+next-atom-requires-2 : tie.Need-next-atom-requires-2 invariant-loop decreases-loop
 next-atom-requires-2 c κs = search rules
 
-loop_less : tie.Need-loop-smaller invariant_loop decreases_loop
-loop_less c = left_less _ _ _ _ c.before.before.before.loop-test.true c.next-atom2.ensures
+loop-less : tie.Need-loop-smaller invariant-loop decreases-loop
+loop-less c = left_less _ _ _ _ c.before.before.before.loop-test.true c.next-atom2.ensures
 
-loop_again : tie.Need-loop-preserved invariant_loop decreases_loop
-loop_again c =
+loop-again : tie.Need-loop-preserved invariant-loop decreases-loop
+loop-again c =
     let n = c.before.before in
     let l = n.before.before.loop in
     let h = n.before.loop-test.true in
@@ -51,21 +51,21 @@ loop_again c =
     (λ w. largest_next l.most l.invariant _ k _ h known (w.1 ∙ larger_least l.most k w.0.left) found)
     c.before.if1.branch
 
-returns : tie.Need-returns invariant_loop decreases_loop
+returns : tie.Need-returns invariant-loop decreases-loop
 returns c = largest_end c.before.loop.most c.before.loop.invariant c.loop-test.false
 
 pub grouped-largest-spec : {M : Type 1} → statement M
 grouped-largest-spec =
     tie.close
     (tie.spec
-    invariant_loop
-    decreases_loop
+    invariant-loop
+    decreases-loop
     next-atom-requires
-    loop_holds
+    loop-holds
     add-number-at
     number-at-requires
     add-next-atom
     next-atom-requires-2
-    loop_less
-    loop_again
+    loop-less
+    loop-again
     returns)

@@ -1,6 +1,6 @@
 -- `edges::largest_in` meets its contract, by the kind of the text.
 use borrow.Author.Rules.{rules}
-use borrow.Author.Tests.{eq-eqb, ne_eqb}
+use borrow.Author.Tests.{eq_eqb, ne_eqb}
 use Rattle.model.specs.Rules.{plain_edge}
 use Rattle.edges.proofs.largest_in.Statement.{statement}
 use Rattle.edges.proofs.largest_in.Tie as tie
@@ -15,9 +15,9 @@ returns c =
 grouped-largest-requires : tie.Need-grouped-largest-requires
 grouped-largest-requires c κs = search rules
 
-returns_2 : tie.Need-returns-2
-returns_2 c =
+returns-2 : tie.Need-returns-2
+returns-2 c =
     rw (ne_eqb c.before.before.before.args.kind plain_edge c.before.if1.false) c.grouped-largest.ensures
 
 pub largest-in-spec : {M : Type 1} → statement M
-largest-in-spec = tie.close (tie.spec plain-largest-requires returns grouped-largest-requires returns_2)
+largest-in-spec = tie.close (tie.spec plain-largest-requires returns grouped-largest-requires returns-2)

@@ -10,8 +10,8 @@ returns c = shift_long c.before.args.mask c.before.args.bits (search rules) c.if
 shr-result : tie.Need-overflow-shr-result
 shr-result c = search rules
 
-returns_2 : tie.Need-returns-2
-returns_2 c = shifted_out c.before.args.mask c.before.args.bits
+returns-2 : tie.Need-returns-2
+returns-2 c = shifted_out c.before.args.mask c.before.args.bits
 
 pub mask-ok-spec : {M : Type 1} → statement M
-mask-ok-spec = tie.close (tie.spec returns shr-result returns_2)
+mask-ok-spec = tie.close (tie.spec returns shr-result returns-2)

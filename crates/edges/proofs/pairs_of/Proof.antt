@@ -5,8 +5,8 @@ use Rattle.edges.proofs.Sizes.{pairs_locations, pairs_clocks, pairs_top, pairs_f
 use Rattle.edges.proofs.pairs_of.Statement.{statement}
 use Rattle.edges.proofs.pairs_of.Tie as tie
 
-wide32_requires : tie.Need-wide32-requires
-wide32_requires c κs = search rules
+wide32-requires : tie.Need-wide32-requires
+wide32-requires c κs = search rules
 
 returns : tie.Need-returns
 returns c =
@@ -19,8 +19,8 @@ returns c =
 wide32-requires-2 : tie.Need-wide32-requires-2
 wide32-requires-2 c κs = search rules
 
-returns_2 : tie.Need-returns-2
-returns_2 c =
+returns-2 : tie.Need-returns-2
+returns-2 c =
     let wide322 = c.before.wide322 in
     let if1 = c.before.before.if1 in
     let wide32 = c.before.before.before.wide32 in
@@ -33,8 +33,8 @@ returns_2 c =
 top-of-requires : tie.Need-top-of-requires
 top-of-requires c κs = search rules
 
-returns_3 : tie.Need-returns-3
-returns_3 c =
+returns-3 : tie.Need-returns-3
+returns-3 c =
     let top_of = c.before.top_of in
     let if2 = c.before.before.if2 in
     let wide322 = c.before.before.before.wide322 in
@@ -81,12 +81,12 @@ pub pairs-of-spec : {M : Type 1} → statement M
 pairs-of-spec =
     tie.close
     (tie.spec
-    wide32_requires
+    wide32-requires
     returns
     wide32-requires-2
-    returns_2
+    returns-2
     top-of-requires
-    returns_3
+    returns-3
     add-power
     power-requires
     mul-result

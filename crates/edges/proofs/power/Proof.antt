@@ -7,14 +7,14 @@ use Rattle.edges.proofs.power.Tie as tie
 returns : tie.Need-returns
 returns c = base_high c.before.args.base c.before.args.exponent c.if1.true
 
-returns_2 : tie.Need-returns-2
-returns_2 c = exponent_high _ _ c.before.if1.false c.if2.true
+returns-2 : tie.Need-returns-2
+returns-2 c = exponent_high _ _ c.before.if1.false c.if2.true
 
 small-power-requires : tie.Need-small-power-requires
 small-power-requires c κs = search rules
 
-returns_3 : tie.Need-returns-3
-returns_3 c = power_is _ _ _ c.before.before.if1.false c.before.if2.false c.small_power.ensures
+returns-3 : tie.Need-returns-3
+returns-3 c = power_is _ _ _ c.before.before.if1.false c.before.if2.false c.small_power.ensures
 
 pub power-spec : {M : Type 1} → statement M
-power-spec = tie.close (tie.spec returns returns_2 small-power-requires returns_3)
+power-spec = tie.close (tie.spec returns returns-2 small-power-requires returns-3)

@@ -8,28 +8,28 @@ in-range-requires : tie.Need-in-range-requires
 in-range-requires c κs = search rules
 
 returns : tie.Need-returns
-returns c = rw (failed c.before.in_range.ensures c.if1.true)
+returns c = rw (failed c.before.in-range.ensures c.if1.true)
 
 in-range-requires-2 : tie.Need-in-range-requires-2
 in-range-requires-2 c κs = search rules
 
-returns_2 : tie.Need-returns-2
-returns_2 c =
-    let in-range2 = c.before.in-range2 in
+returns-2 : tie.Need-returns-2
+returns-2 c =
+    let in_range2 = c.before.in-range2 in
     let if1 = c.before.before.if1 in
     let in_range = c.before.before.before.in_range in
-    rw (passed in_range.ensures if1.false, failed in-range2.ensures c.if2.true)
+    rw (passed in_range.ensures if1.false, failed in_range2.ensures c.if2.true)
 
 in-range-requires-3 : tie.Need-in-range-requires-3
 in-range-requires-3 c κs = search rules
 
-returns_3 : tie.Need-returns-3
-returns_3 c =
+returns-3 : tie.Need-returns-3
+returns-3 c =
     let if2 = c.before.if2 in
-    let in-range2 = c.before.before.in-range2 in
+    let in_range2 = c.before.before.in-range2 in
     let if1 = c.before.before.before.if1 in
     let in_range = c.before.before.before.before.in_range in
-    rw (passed in_range.ensures if1.false, passed in-range2.ensures if2.false) c.in-range3.ensures
+    rw (passed in_range.ensures if1.false, passed in_range2.ensures if2.false) c.in-range3.ensures
 
 pub sizes-ok-spec : {M : Type 1} → statement M
 sizes-ok-spec =
@@ -38,6 +38,6 @@ sizes-ok-spec =
     in-range-requires
     returns
     in-range-requires-2
-    returns_2
+    returns-2
     in-range-requires-3
-    returns_3)
+    returns-3)

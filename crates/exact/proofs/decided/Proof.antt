@@ -6,8 +6,8 @@ use Rattle.exact.proofs.decided.Tie as tie
 returns : tie.Need-returns
 returns c = yes_is c.before.args.yes c.if1.true
 
-returns_2 : tie.Need-returns-2
-returns_2 c = no_is c.before.args.yes c.if1.false
+returns-2 : tie.Need-returns-2
+returns-2 c = no_is c.before.args.yes c.if1.false
 
 pub decided-spec : {M : Type 1} → statement M
-decided-spec = tie.close (tie.spec returns returns_2)
+decided-spec = tie.close (tie.spec returns returns-2)

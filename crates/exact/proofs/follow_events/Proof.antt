@@ -9,18 +9,18 @@ use Rattle.exact.proofs.Running.{step_ready, running_full, running_next, final_f
 use Rattle.exact.proofs.follow_events.Statement.{statement}
 use Rattle.exact.proofs.follow_events.Tie as tie
 
-abbrev invariant_loop : tie.invariant_loop
-invariant_loop head edges grain symbols stamps scratch₀ room first clocks other n₀ from₀ last₀ i₀ scratch n from last i =
+abbrev invariant-loop : tie.invariant-loop
+invariant-loop head edges grain symbols stamps scratch₀ room first clocks other n₀ from₀ last₀ i₀ scratch n from last i =
     (clocks ≡ head.clocks) × (other ≡ room * (head.clocks + 1))
     × Running head edges grain symbols stamps room n from last.0 i (length scratch₀) scratch
 
-abbrev decreases_loop : tie.decreases_loop
-decreases_loop head edges grain symbols stamps scratch₀ room first clocks other n₀ from₀ last₀ i₀ scratch n from last i =
+abbrev decreases-loop : tie.decreases-loop
+decreases-loop head edges grain symbols stamps scratch₀ room first clocks other n₀ from₀ last₀ i₀ scratch n from last i =
     length symbols - i
 
 -- the event that is read
 next_at :
-    (c : tie.After-since invariant_loop decreases_loop)
+    (c : tie.After-since invariant-loop decreases-loop)
     → let at = c.before.before.before in
     let a = at.before.before.before.before.before.before.args in
     let l = at.loop in
@@ -37,20 +37,20 @@ next_at c =
       small = omega (arith, c.before.shared-slice-known4.given l.i);
     }
 
-wide32_requires : tie.Need-wide32-requires invariant_loop decreases_loop
-wide32_requires c κs = search rules
+wide32-requires : tie.Need-wide32-requires invariant-loop decreases-loop
+wide32-requires c κs = search rules
 
-add-other : tie.Need-overflow-add-other invariant_loop decreases_loop
+add-other : tie.Need-overflow-add-other invariant-loop decreases-loop
 add-other c = search rules
 
-mul-other : tie.Need-overflow-mul-other invariant_loop decreases_loop
+mul-other : tie.Need-overflow-mul-other invariant-loop decreases-loop
 mul-other c =
     let s = c.before.before.before.before.before in
     let w = c.wide32 in
     omega (arith, other_known s.args.room w.result _ w.ensures.0, s.requires.banks_fit)
 
-loop_holds : tie.Need-loop-init invariant_loop decreases_loop
-loop_holds c =
+loop-holds : tie.Need-loop-init invariant-loop decreases-loop
+loop-holds c =
     let w = c.wide32 in (
       w.ensures.0,
       other_known _ _ _ w.ensures.0,
@@ -58,13 +58,13 @@ loop_holds c =
           c.before.before.before.before.before.requires,
     )
 
-mul_t21 : tie.Need-overflow-mul-t21 invariant_loop decreases_loop
-mul_t21 c = search rules
+mul-t21 : tie.Need-overflow-mul-t21 invariant-loop decreases-loop
+mul-t21 c = search rules
 
-shared-slice-read-t24 : tie.Need-shared-slice-read-t24 invariant_loop decreases_loop
+shared-slice-read-t24 : tie.Need-shared-slice-read-t24 invariant-loop decreases-loop
 shared-slice-read-t24 c = search rules
 
-sub-to : tie.Need-overflow-sub-to invariant_loop decreases_loop
+sub-to : tie.Need-overflow-sub-to invariant-loop decreases-loop
 sub-to c =
     let a = c.before.before.before.before.before.before.before.before.args in
     let l = c.before.before.loop in
@@ -75,16 +75,16 @@ sub-to c =
           a.room l.invariant.2,
     )
 
-since_requires : tie.Need-since-requires invariant_loop decreases_loop
-since_requires c κs = search rules
+since-requires : tie.Need-since-requires invariant-loop decreases-loop
+since-requires c κs = search rules
 
-mul-by-configs : tie.Need-overflow-mul-by-configs invariant_loop decreases_loop
+mul-by-configs : tie.Need-overflow-mul-by-configs invariant-loop decreases-loop
 mul-by-configs c = search rules
 
-shared-slice-read-by-configs : tie.Need-shared-slice-read-by-configs invariant_loop decreases_loop
+shared-slice-read-by-configs : tie.Need-shared-slice-read-by-configs invariant-loop decreases-loop
 shared-slice-read-by-configs c = search rules
 
-by-configs-requires : tie.Need-by-configs-requires invariant_loop decreases_loop
+by-configs-requires : tie.Need-by-configs-requires invariant-loop decreases-loop
 by-configs-requires c κs =
     let since = c.before.before in
     let at = since.before.before.before in
@@ -92,25 +92,25 @@ by-configs-requires c κs =
     step_ready a.head a.edges.now a.grain a.symbols.now a.stamps.now a.room at.loop.invariant.2
     (next_at since)
 
-enum-known-added : tie.Need-enum-known-added invariant_loop decreases_loop
+enum-known-added : tie.Need-enum-known-added invariant-loop decreases-loop
 enum-known-added c = search rules
 
-enum_told : tie.Need-enum-told invariant_loop decreases_loop
+enum_told : tie.Need-enum-told invariant-loop decreases-loop
 enum_told c = search rules
 
-add-full : tie.Need-overflow-add-full invariant_loop decreases_loop
+add-full : tie.Need-overflow-add-full invariant-loop decreases-loop
 add-full c = search rules
 
-full-requires : tie.Need-full-requires invariant_loop decreases_loop
+full-requires : tie.Need-full-requires invariant-loop decreases-loop
 full-requires c κs = search rules
 
-same_length : tie.Need-same-length invariant_loop decreases_loop
+same_length : tie.Need-same-length invariant-loop decreases-loop
 same_length c =
     let made = c.before.before.before.before.before in
     made.by-configs.auto.1.1.1.1.1.0
     ∙ made.before.before.before.before.before.before.loop.invariant.2.length_is
 
-returns : tie.Need-returns invariant_loop decreases_loop
+returns : tie.Need-returns invariant-loop decreases-loop
 returns c =
     let made = c.before.before.before.before.before in
     let since = made.before.before.before in
@@ -126,14 +126,14 @@ returns c =
     c.before.enum_told.given.1
     c.full.ensures
 
-add-i : tie.Need-overflow-add-i invariant_loop decreases_loop
+add-i : tie.Need-overflow-add-i invariant-loop decreases-loop
 add-i c = search rules
 
-loop_less : tie.Need-loop-smaller invariant_loop decreases_loop
-loop_less c = search rules
+loop-less : tie.Need-loop-smaller invariant-loop decreases-loop
+loop-less c = search rules
 
-loop_again : tie.Need-loop-preserved invariant_loop decreases_loop
-loop_again c =
+loop-again : tie.Need-loop-preserved invariant-loop decreases-loop
+loop-again c =
     let made = c.before.before.before.before.before in
     let since = made.before.before.before in
     let at = since.before.before.before in
@@ -150,7 +150,7 @@ loop_again c =
     made.by-configs.auto.1.1.1.1.1.0 in
     (l.invariant.0, l.invariant.1, next)
 
-some-final-requires : tie.Need-some-final-requires invariant_loop decreases_loop
+some-final-requires : tie.Need-some-final-requires invariant-loop decreases-loop
 some-final-requires c κs =
     let a = c.before.before.before.before.before.before.before.before.args in
     let l = c.before.before.loop in (
@@ -163,14 +163,14 @@ some-final-requires c κs =
       ),
     )
 
-decided-requires : tie.Need-decided-requires invariant_loop decreases_loop
+decided-requires : tie.Need-decided-requires invariant-loop decreases-loop
 decided-requires c κs = search rules
 
-same-length-2 : tie.Need-same-length-2 invariant_loop decreases_loop
+same-length-2 : tie.Need-same-length-2 invariant-loop decreases-loop
 same-length-2 c = c.before.before.before.before.loop.invariant.2.length_is
 
-returns_2 : tie.Need-returns-2 invariant_loop decreases_loop
-returns_2 c =
+returns-2 : tie.Need-returns-2 invariant-loop decreases-loop
+returns-2 c =
     let a = c.before.before.before.before.before.before.before.before.before.before.args in
     let l = c.before.before.before.before.loop in
     let final = c.before.some-final in
@@ -183,16 +183,16 @@ pub follow-events-spec : {M : Type 1} → statement M
 follow-events-spec =
     tie.close
     (tie.spec
-    invariant_loop
-    decreases_loop
-    wide32_requires
+    invariant-loop
+    decreases-loop
+    wide32-requires
     add-other
     mul-other
-    loop_holds
-    mul_t21
+    loop-holds
+    mul-t21
     shared-slice-read-t24
     sub-to
-    since_requires
+    since-requires
     mul-by-configs
     shared-slice-read-by-configs
     by-configs-requires
@@ -203,9 +203,9 @@ follow-events-spec =
     same_length
     returns
     add-i
-    loop_less
-    loop_again
+    loop-less
+    loop-again
     some-final-requires
     decided-requires
     same-length-2
-    returns_2)
+    returns-2)

@@ -5,8 +5,8 @@ use borrow.Author.Rules.{rules}
 use Rattle.exact.proofs.run_events.Statement.{statement}
 use Rattle.exact.proofs.run_events.Tie as tie
 
-wide32_requires : tie.Need-wide32-requires
-wide32_requires c κs = search rules
+wide32-requires : tie.Need-wide32-requires
+wide32-requires c κs = search rules
 
 add-room : tie.Need-overflow-add-room
 add-room c = search rules
@@ -64,8 +64,8 @@ same-length-2 c =
     done.follow-events.auto.1.1.1.1.1.0
     ∙ done.before.before.before.before.before.before.before.start-configs.auto.1.0
 
-returns_2 : tie.Need-returns-2
-returns_2 c =
+returns-2 : tie.Need-returns-2
+returns-2 c =
     let done = c.before.before in
     let made = done.before.before.before.before.before.before.before in
     let w = made.before.before.wide32 in
@@ -77,7 +77,7 @@ pub run-events-spec : {M : Type 1} → statement M
 run-events-spec =
     tie.close
     (tie.spec
-    wide32_requires
+    wide32-requires
     add-room
     mul-room
     div-room
@@ -89,4 +89,4 @@ run-events-spec =
     returns
     follow-events-requires
     same-length-2
-    returns_2)
+    returns-2)

@@ -45,8 +45,8 @@ cast-check-word c = search rules
 check-word-requires : tie.Need-check-word-requires
 check-word-requires c κs = search rules
 
-returns_2 : tie.Need-returns-2
-returns_2 c =
+returns-2 : tie.Need-returns-2
+returns-2 c =
     let word = c.before.before in
     let left = word.before in
     let rule = left.before.before in
@@ -75,8 +75,8 @@ same_length c =
     let done = c.before.before in
     done.cleared.auto.1.0 ∙ done.before.before.before.before.run-events.auto.1.1.1.1.1.0
 
-returns_3 : tie.Need-returns-3
-returns_3 c =
+returns-3 : tie.Need-returns-3
+returns-3 c =
     let done = c.before.before in
     let ran = done.before.before.before.before in
     let left = ran.before.before in
@@ -98,8 +98,8 @@ run-exact-spec =
     returns
     cast-check-word
     check-word-requires
-    returns_2
+    returns-2
     run-events-requires
     cleared-requires
     same_length
-    returns_3)
+    returns-3)

@@ -9,33 +9,33 @@ use borrow.Author.Rules.{rules}
 use Rattle.exact.proofs.some_final.Statement.{statement}
 use Rattle.exact.proofs.some_final.Tie as tie
 
-abbrev invariant_loop : tie.invariant_loop
-invariant_loop set scratch from clocks n width at₀ i₀ at i =
+abbrev invariant-loop : tie.invariant-loop
+invariant-loop set scratch from clocks n width at₀ i₀ at i =
     (width ≡ clocks + 1) × (from + n * (clocks + 1) ≤ length scratch) × Passing set clocks n from i at scratch
 
-abbrev decreases_loop : tie.decreases_loop
-decreases_loop set scratch from clocks n width at₀ i₀ at i = n - i
+abbrev decreases-loop : tie.decreases-loop
+decreases-loop set scratch from clocks n width at₀ i₀ at i = n - i
 
-add-width : tie.Need-overflow-add-width invariant_loop decreases_loop
+add-width : tie.Need-overflow-add-width invariant-loop decreases-loop
 add-width c = search rules
 
-loop_holds : tie.Need-loop-init invariant_loop decreases_loop
-loop_holds c = (search rules, search rules, passing _ _ _ _ _)
+loop-holds : tie.Need-loop-init invariant-loop decreases-loop
+loop-holds c = (search rules, search rules, passing _ _ _ _ _)
 
-entry-at-requires : tie.Need-entry-at-requires invariant_loop decreases_loop
+entry-at-requires : tie.Need-entry-at-requires invariant-loop decreases-loop
 entry-at-requires c κs = search rules
 
-has_location_requires : tie.Need-has-location-requires invariant_loop decreases_loop
-has_location_requires c κs = search rules
+has-location-requires : tie.Need-has-location-requires invariant-loop decreases-loop
+has-location-requires c κs = search rules
 
-returns : tie.Need-returns invariant_loop decreases_loop
+returns : tie.Need-returns invariant-loop decreases-loop
 returns c =
     pass_found c.before.before.before.before.loop.invariant.2 c.before.before.before.loop-test.true _ _
     c.before.before.entry_at.ensures
     c.before.has-location.ensures
     c.if1.true
 
-add_at : tie.Need-overflow-add-at invariant_loop decreases_loop
+add_at : tie.Need-overflow-add-at invariant-loop decreases-loop
 add_at c =
     let a = c.before.before.before.before.before.before.args in
     let l = c.before.before.before.before.loop in
@@ -46,14 +46,14 @@ add_at c =
           l.invariant.2.place_is l.invariant.1,
     )
 
-add-i : tie.Need-overflow-add-i invariant_loop decreases_loop
+add-i : tie.Need-overflow-add-i invariant-loop decreases-loop
 add-i c = search rules
 
-loop_less : tie.Need-loop-smaller invariant_loop decreases_loop
-loop_less c = search rules
+loop-less : tie.Need-loop-smaller invariant-loop decreases-loop
+loop-less c = search rules
 
-loop_again : tie.Need-loop-preserved invariant_loop decreases_loop
-loop_again c =
+loop-again : tie.Need-loop-preserved invariant-loop decreases-loop
+loop-again c =
     let l = c.before.before.before.before.loop in (
       l.invariant.0,
       l.invariant.1,
@@ -64,22 +64,22 @@ loop_again c =
           c.if1.false,
     )
 
-returns_2 : tie.Need-returns-2 invariant_loop decreases_loop
-returns_2 c = pass_none c.before.loop.invariant.2 c.loop-test.false
+returns-2 : tie.Need-returns-2 invariant-loop decreases-loop
+returns-2 c = pass_none c.before.loop.invariant.2 c.loop-test.false
 
 pub some-final-spec : {M : Type 1} → statement M
 some-final-spec =
     tie.close
     (tie.spec
-    invariant_loop
-    decreases_loop
+    invariant-loop
+    decreases-loop
     add-width
-    loop_holds
+    loop-holds
     entry-at-requires
-    has_location_requires
+    has-location-requires
     returns
     add_at
     add-i
-    loop_less
-    loop_again
-    returns_2)
+    loop-less
+    loop-again
+    returns-2)

@@ -11,47 +11,47 @@ use borrow.Author.Rules.{rules}
 use Rattle.exact.proofs.start_configs.Statement.{statement}
 use Rattle.exact.proofs.start_configs.Tie as tie
 
-abbrev invariant_loop : tie.invariant_loop
-invariant_loop bank₀ room clocks starts n₀ l₀ bank n l = Starting clocks starts room n l (length bank₀) bank
+abbrev invariant-loop : tie.invariant-loop
+invariant-loop bank₀ room clocks starts n₀ l₀ bank n l = Starting clocks starts room n l (length bank₀) bank
 
-abbrev decreases_loop : tie.decreases_loop
-decreases_loop bank₀ room clocks starts n₀ l₀ bank n l = most_locations - l
+abbrev decreases-loop : tie.decreases-loop
+decreases-loop bank₀ room clocks starts n₀ l₀ bank n l = most_locations - l
 
-wide32_requires : tie.Need-wide32-requires invariant_loop decreases_loop
-wide32_requires c κs = search rules
+wide32-requires : tie.Need-wide32-requires invariant-loop decreases-loop
+wide32-requires c κs = search rules
 
-wide32-requires-2 : tie.Need-wide32-requires-2 invariant_loop decreases_loop
+wide32-requires-2 : tie.Need-wide32-requires-2 invariant-loop decreases-loop
 wide32-requires-2 c κs = search rules
 
-loop_holds : tie.Need-loop-init invariant_loop decreases_loop
-loop_holds c =
+loop-holds : tie.Need-loop-init invariant-loop decreases-loop
+loop-holds c =
     starting _ _ _ _ (roomy_known _ _ _ _ _ c.before.wide32.ensures.0 c.before.before.before.requires)
 
-has-bit-requires : tie.Need-has-bit-requires invariant_loop decreases_loop
+has-bit-requires : tie.Need-has-bit-requires invariant-loop decreases-loop
 has-bit-requires c κs = search rules
 
-cast-start-at : tie.Need-overflow-cast-start-at invariant_loop decreases_loop
+cast-start-at : tie.Need-overflow-cast-start-at invariant-loop decreases-loop
 cast-start-at c = search rules
 
-start-at-requires : tie.Need-start-at-requires invariant_loop decreases_loop
+start-at-requires : tie.Need-start-at-requires invariant-loop decreases-loop
 start-at-requires c κs = search rules
 
-append-requires : tie.Need-append-requires invariant_loop decreases_loop
+append-requires : tie.Need-append-requires invariant-loop decreases-loop
 append-requires c κs = c.before.before.before.before.before.loop.invariant.roomy
 
-enum-known-added : tie.Need-enum-known-added invariant_loop decreases_loop
+enum-known-added : tie.Need-enum-known-added invariant-loop decreases-loop
 enum-known-added c = search rules
 
-enum_told : tie.Need-enum-told invariant_loop decreases_loop
+enum_told : tie.Need-enum-told invariant-loop decreases-loop
 enum_told c = search rules
 
-same_length : tie.Need-same-length invariant_loop decreases_loop
+same_length : tie.Need-same-length invariant-loop decreases-loop
 same_length c = search rules
 
-returns : tie.Need-returns invariant_loop decreases_loop
+returns : tie.Need-returns invariant-loop decreases-loop
 returns c =
     let added = c.before.before.before.before in
-    let from = added.before.start_at in
+    let from = added.before.start-at in
     let test = added.before.before.before.before in
     let at = test.before.before in
     let starts = at.before.wide322 in
@@ -75,14 +75,14 @@ returns c =
     starts.ensures.0
     over
 
-add-l : tie.Need-overflow-add-l invariant_loop decreases_loop
+add-l : tie.Need-overflow-add-l invariant-loop decreases-loop
 add-l c = search rules
 
-loop_less : tie.Need-loop-smaller invariant_loop decreases_loop
-loop_less c = search rules
+loop-less : tie.Need-loop-smaller invariant-loop decreases-loop
+loop-less c = search rules
 
-loop_again : tie.Need-loop-preserved invariant_loop decreases_loop
-loop_again c =
+loop-again : tie.Need-loop-preserved invariant-loop decreases-loop
+loop-again c =
     let at = c.before.before.before in
     let a = at.before.before.before.before.args in
     let clocks = at.before.before.wide32.result in
@@ -97,11 +97,11 @@ loop_again c =
     (λ w. rw (w.1, w.2) (starting_other clocks starts a.room at.loop.invariant test _ set w.0.left))
     c.if1.branch
 
-same-length-2 : tie.Need-same-length-2 invariant_loop decreases_loop
+same-length-2 : tie.Need-same-length-2 invariant-loop decreases-loop
 same-length-2 c = c.before.loop.invariant.length_is
 
-returns_2 : tie.Need-returns-2 invariant_loop decreases_loop
-returns_2 c =
+returns-2 : tie.Need-returns-2 invariant-loop decreases-loop
+returns-2 c =
     let at = c.before in
     let a = at.before.before.before.before.args in
     let clocks = at.before.before.wide32 in
@@ -113,11 +113,11 @@ pub start-configs-spec : {M : Type 1} → statement M
 start-configs-spec =
     tie.close
     (tie.spec
-    invariant_loop
-    decreases_loop
-    wide32_requires
+    invariant-loop
+    decreases-loop
+    wide32-requires
     wide32-requires-2
-    loop_holds
+    loop-holds
     has-bit-requires
     cast-start-at
     start-at-requires
@@ -127,7 +127,7 @@ start-configs-spec =
     same_length
     returns
     add-l
-    loop_less
-    loop_again
+    loop-less
+    loop-again
     same-length-2
-    returns_2)
+    returns-2)

@@ -14,8 +14,8 @@ print-reading-requires c κs = search rules
 returns : tie.Need-returns
 returns c = search rules
 
-returns_2 : tie.Need-returns-2
-returns_2 c = search rules
+returns-2 : tie.Need-returns-2
+returns-2 c = search rules
 
 pub print-cut-spec : {M : Type 1} → statement M
-print-cut-spec = tie.close (tie.spec slice-aggregate-cut print-reading-requires returns returns_2)
+print-cut-spec = tie.close (tie.spec slice-aggregate-cut print-reading-requires returns returns-2)

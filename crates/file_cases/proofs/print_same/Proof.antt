@@ -20,8 +20,8 @@ cast-print-pair c = search rules
 print-pair-requires : tie.Need-print-pair-requires
 print-pair-requires c κs = search rules
 
-returns_2 : tie.Need-returns-2
-returns_2 c = search rules
+returns-2 : tie.Need-returns-2
+returns-2 c = search rules
 
 pub print-same-spec : {M : Type 1} → statement M
 print-same-spec =
@@ -32,4 +32,4 @@ print-same-spec =
     same-requires
     cast-print-pair
     print-pair-requires
-    returns_2)
+    returns-2)

@@ -2,7 +2,7 @@
 use mathlib.Core.Path.{◌≡◌, sym, ◌∙◌, ap}
 use mathlib.Core.Bool.{true}
 use Prim.Native.Nat.{suc, ◌+◌}
-use native.Mathlib.Numerals.{add-one}
+use native.Mathlib.Numerals.{add_one}
 use borrow.Author.Rules.{rules}
 use Rattle.model.specs.Words.{most_grain, grain_ok}
 use Rattle.model.specs.Promises.{event}
@@ -61,8 +61,8 @@ strayed-requires c κs = within_least 1 most_grain _ (grain_at c)
 answered-requires-2 : tie.Need-answered-requires-2
 answered-requires-2 c κs = search rules
 
-returns_2 : tie.Need-returns-2
-returns_2 c =
+returns-2 : tie.Need-returns-2
+returns-2 c =
     let a = c.before.before.before.before.before.args in
     c.answered2.ensures
     ∙ stray a.built a.follower (event a.symbol a.stamp) (grain_at c.before.before.before)
@@ -74,11 +74,11 @@ cast-if3 c = search rules
 answered-requires-3 : tie.Need-answered-requires-3
 answered-requires-3 c κs = search rules
 
-returns_3 : tie.Need-returns-3
-returns_3 c = c.answered3.ensures ∙ full (sound_at c.before.before.before) c.before.if3.true
+returns-3 : tie.Need-returns-3
+returns-3 c = c.answered3.ensures ∙ full (sound_at c.before.before.before) c.before.if3.true
 
-wide32_requires : tie.Need-wide32-requires
-wide32_requires c κs = search rules
+wide32-requires : tie.Need-wide32-requires
+wide32-requires c κs = search rules
 
 add-event : tie.Need-overflow-add-event
 add-event c = search rules
@@ -120,11 +120,11 @@ check-event-spec =
     returns
     strayed-requires
     answered-requires-2
-    returns_2
+    returns-2
     cast-if3
     answered-requires-3
-    returns_3
-    wide32_requires
+    returns-3
+    wide32-requires
     add-event
     wide32-requires-2
     wide16-requires

@@ -19,11 +19,11 @@ returns c =
 at-start-requires-2 : tie.Need-at-start-requires-2
 at-start-requires-2 c κs = search rules
 
-returns_2 : tie.Need-returns-2
-returns_2 c =
+returns-2 : tie.Need-returns-2
+returns-2 c =
     let grain = sym c.before.before.grain-ok.ensures ∙ c.before.if1.false in
     record { answer_is = begins_not c.before.before.before.args.grain _ grain c.at-start2.ensures }
 
 pub start-follower-spec : {M : Type 1} → statement M
 start-follower-spec =
-    tie.close (tie.spec grain-ok-requires at-start-requires returns at-start-requires-2 returns_2)
+    tie.close (tie.spec grain-ok-requires at-start-requires returns at-start-requires-2 returns-2)

@@ -13,16 +13,16 @@ returns c =
     let a = c.before.before.args in
     row_out a.rows a.follower c.if1.true
 
-returns_2 : tie.Need-returns-2
-returns_2 c =
+returns-2 : tie.Need-returns-2
+returns-2 c =
     let a = (given c.before).args in
     reset_late a.rows a.follower c.before.if1.false c.if2.true
 
 rem-if3 : tie.Need-nonzero-rem-if3
 rem-if3 c = search rules
 
-returns_3 : tie.Need-returns-3
-returns_3 c =
+returns-3 : tie.Need-returns-3
+returns-3 c =
     let k = c.before.before in
     let start = given k.before in
     reset_between start.args.rows start.args.follower k.before.if1.false k.if2.false start.pre
@@ -39,4 +39,4 @@ returns-4 c =
     c.before.if3.false
 
 pub strayed-spec : {M : Type 1} → statement M
-strayed-spec = tie.close (tie.spec returns returns_2 rem-if3 returns_3 cast-result returns-4)
+strayed-spec = tie.close (tie.spec returns returns-2 rem-if3 returns-3 cast-result returns-4)

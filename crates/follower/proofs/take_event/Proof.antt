@@ -44,11 +44,11 @@ moved-requires c κs =
 verdict-requires : tie.Need-verdict-requires
 verdict-requires c κs = search rules
 
-returns_2 : tie.Need-returns-2
-returns_2 c pool =
+returns-2 : tie.Need-returns-2
+returns-2 c pool =
     goes_on _ _ _ pool _ _ (passed c.before.before) c.before.moved.ensures c.verdict.ensures
 
 pub take-event-spec : {M : Type 1} → statement M
 take-event-spec =
     tie.close
-    (tie.spec check-event-requires kept-requires returns moved-requires verdict-requires returns_2)
+    (tie.spec check-event-requires kept-requires returns moved-requires verdict-requires returns-2)

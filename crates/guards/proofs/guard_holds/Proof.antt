@@ -43,12 +43,12 @@ guard-of-requires c κs = search rules
 met-requires : tie.Need-met-requires
 met-requires c κs = search rules
 
-returns_2 : tie.Need-returns-2
-returns_2 c =
+returns-2 : tie.Need-returns-2
+returns-2 c =
     let s = c.before.before.before.before.before.before.before.before in
     c.met.ensures
     ∙ ap is_met
-    (c.before.guard_of_lem.ensures
+    (c.before.guard-of.ensures
     ∙ ap₂ (λ (rs es : List ℕ). guard s.args.unit rs (guard_of (edge_at s.args.e es)))
     (lent_anew s.args.readings.now) (lent_anew s.args.edges.now))
 
@@ -67,4 +67,4 @@ guard-holds-spec =
     part-guard-of-end-2
     guard-of-requires
     met-requires
-    returns_2)
+    returns-2)

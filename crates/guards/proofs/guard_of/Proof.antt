@@ -22,19 +22,19 @@ returns c =
     let k = c.before.before in
     c.first_plain.ensures
     ∙ ap (guard s.args.unit s.args.readings.now)
-    (guard_plain (edge_at s.args.e s.args.edges.now) _ _ k.kind_of.ensures.0
+    (guard_plain (edge_at s.args.e s.args.edges.now) _ _ k.kind-of.ensures.0
     k.before.text_of.ensures c.before.if1.true)
 
 first-member-requires : tie.Need-first-member-requires
 first-member-requires c κs = search rules
 
-returns_2 : tie.Need-returns-2
-returns_2 c =
+returns-2 : tie.Need-returns-2
+returns-2 c =
     let s = c.before.before.before.before.before.before in
     let k = c.before.before in
     c.first_member.ensures
     ∙ ap (guard s.args.unit s.args.readings.now)
-    (guard_grouped (edge_at s.args.e s.args.edges.now) _ _ k.kind_of.ensures.0
+    (guard_grouped (edge_at s.args.e s.args.edges.now) _ _ k.kind-of.ensures.0
     k.before.text_of.ensures c.before.if1.false)
 
 pub guard-of-spec : {M : Type 1} → statement M
@@ -46,4 +46,4 @@ guard-of-spec =
     first-plain-requires
     returns
     first-member-requires
-    returns_2)
+    returns-2)

@@ -6,8 +6,8 @@ use Rattle.guards.proofs.Plain.{whole_is}
 use Rattle.guards.proofs.is_plain.Statement.{statement}
 use Rattle.guards.proofs.is_plain.Tie as tie
 
-wide32_requires : tie.Need-wide32-requires
-wide32_requires c κs = search rules
+wide32-requires : tie.Need-wide32-requires
+wide32-requires c κs = search rules
 
 mul-place : tie.Need-overflow-mul-place
 mul-place c = search rules
@@ -30,8 +30,8 @@ shared-slice-read-wide16 c = search rules
 wide16-requires : tie.Need-wide16-requires
 wide16-requires c κs = search rules
 
-returns_2 : tie.Need-returns-2
-returns_2 c h = no_way h
+returns-2 : tie.Need-returns-2
+returns-2 c h = no_way h
 
 add-wide16-2 : tie.Need-overflow-add-wide16-2
 add-wide16-2 c = search rules
@@ -45,8 +45,8 @@ shared-slice-read-wide16-2 c = search rules
 wide16-requires-2 : tie.Need-wide16-requires-2
 wide16-requires-2 c κs = search rules
 
-returns_3 : tie.Need-returns-3
-returns_3 c h =
+returns-3 : tie.Need-returns-3
+returns-3 c h =
     let s = c.before.before.before.before.before.before.before.before in
     whole_is s.args.edges.now s.args.e _ _ c.wide162.result _ (search rules) (search rules)
     c.before.before.before.wide16.ensures.0 c.before.before.if2.false c.wide162.ensures.0 refl h
@@ -55,7 +55,7 @@ pub is-plain-spec : {M : Type 1} → statement M
 is-plain-spec =
     tie.close
     (tie.spec
-    wide32_requires
+    wide32-requires
     mul-place
     add-if1
     returns
@@ -63,9 +63,9 @@ is-plain-spec =
     mul-wide16
     shared-slice-read-wide16
     wide16-requires
-    returns_2
+    returns-2
     add-wide16-2
     mul-wide16-2
     shared-slice-read-wide16-2
     wide16-requires-2
-    returns_3)
+    returns-3)

@@ -7,8 +7,8 @@ use Rattle.guards.proofs.numbers_hold.Tie as tie
 entry-at-requires : tie.Need-entry-at-requires
 entry-at-requires c κs = search rules
 
-wide32_requires : tie.Need-wide32-requires
-wide32_requires c κs = search rules
+wide32-requires : tie.Need-wide32-requires
+wide32-requires c κs = search rules
 
 wide32-requires-2 : tie.Need-wide32-requires-2
 wide32-requires-2 c κs = search rules
@@ -27,7 +27,7 @@ numbers-hold-spec =
     tie.close
     (tie.spec
     entry-at-requires
-    wide32_requires
+    wide32-requires
     wide32-requires-2
     mul-relate
     relate-requires

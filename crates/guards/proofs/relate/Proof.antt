@@ -21,8 +21,8 @@ returns c =
 has-bit-requires-2 : tie.Need-has-bit-requires-2
 has-bit-requires-2 c κs = search rules
 
-returns_2 : tie.Need-returns-2
-returns_2 c =
+returns-2 : tie.Need-returns-2
+returns-2 c =
     let l = c.before.before.before in
     let args = l.before.args in
     c.has-bit2.ensures
@@ -31,8 +31,8 @@ returns_2 c =
 has-bit-requires-3 : tie.Need-has-bit-requires-3
 has-bit-requires-3 c κs = search rules
 
-returns_3 : tie.Need-returns-3
-returns_3 c =
+returns-3 : tie.Need-returns-3
+returns-3 c =
     let l = c.before.before.before in
     let args = l.before.args in
     c.has-bit3.ensures
@@ -46,6 +46,6 @@ relate-spec =
     has-bit-requires
     returns
     has-bit-requires-2
-    returns_2
+    returns-2
     has-bit-requires-3
-    returns_3)
+    returns-3)

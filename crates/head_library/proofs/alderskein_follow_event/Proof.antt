@@ -15,19 +15,19 @@ out-of-shape-requires c κs = search rules
 returns : tie.Need-returns
 returns c =
     let k = c.before in
-    let out = is_false k.before.in_shape_lem.ensures k.if1.true in
-    record { answer_is = c.out_of_shape.ensures ∙ shape_leaves _ _ _ _ _ _ out }
+    let out = is_false k.before.in-shape.ensures k.if1.true in
+    record { answer_is = c.out-of-shape.ensures ∙ shape_leaves _ _ _ _ _ _ out }
 
 take-event-requires : tie.Need-take-event-requires
 take-event-requires c κs = search rules
 
-returns_2 : tie.Need-returns-2
-returns_2 c =
+returns-2 : tie.Need-returns-2
+returns-2 c =
     let k = c.before in
-    let fits = is_true k.before.in_shape_lem.ensures k.if1.false in
+    let fits = is_true k.before.in-shape.ensures k.if1.false in
     record { answer_is = c.take-event.ensures _ ∙ shape_passed _ _ _ _ _ _ fits }
 
 pub alderskein-follow-event-spec : {M : Type 1} → statement M
 alderskein-follow-event-spec =
     tie.close
-    (tie.spec in-shape-requires out-of-shape-requires returns take-event-requires returns_2)
+    (tie.spec in-shape-requires out-of-shape-requires returns take-event-requires returns-2)

@@ -78,8 +78,8 @@ same-length-2 c = search rules
 same-length-3 : tie.Need-same-length-3
 same-length-3 c = search rules
 
-returns_2 : tie.Need-returns-2
-returns_2 c =
+returns-2 : tie.Need-returns-2
+returns-2 c =
     let cleared = c.before.before in
     let done = searched cleared in
     let n = counted done.before in
@@ -106,4 +106,4 @@ check-inclusion-spec =
     same_length
     same-length-2
     same-length-3
-    returns_2)
+    returns-2)

@@ -35,7 +35,7 @@ abbrev counted : tie.Else4 → tie.Else3
 counted c = c.before.before
 
 first_ok : (c : tie.Else1) → in_shape (t c.before) ≡ true
-first_ok c = is_true c.before.in_shape_lem.ensures c.if1.false
+first_ok c = is_true c.before.in-shape.ensures c.if1.false
 
 second_ok : (c : tie.Else2) → in_shape (u (asked c)) ≡ true
 second_ok c = is_true c.before.in-shape2.ensures c.if2.false
@@ -53,19 +53,19 @@ in-shape-requires c κs = search rules
 returns : tie.Need-returns
 returns c =
     first_bad (t c.before) (u c.before) (lent c.before).args.size
-    (is_false c.before.in_shape_lem.ensures c.if1.true)
+    (is_false c.before.in-shape.ensures c.if1.true)
 
 in-shape-requires-2 : tie.Need-in-shape-requires-2
 in-shape-requires-2 c κs = search rules
 
-returns_2 : tie.Need-returns-2
-returns_2 c =
+returns-2 : tie.Need-returns-2
+returns-2 c =
     let k = c.before.before.before in
     second_bad (t k) (u k) (lent k).args.size (first_ok c.before.before)
     (is_false {a = in_shape (u k)} c.before.in-shape2.ensures c.if2.true)
 
-returns_3 : tie.Need-returns-3
-returns_3 c =
+returns-3 : tie.Need-returns-3
+returns-3 c =
     let k = c.before.before.before in
     symbols_bad (t (asked k)) (u (asked k)) (lent (asked k)).args.size (first_ok k.before.before) (second_ok k)
     c.if3.true
@@ -108,8 +108,8 @@ refusal-of-spec =
     in-shape-requires
     returns
     in-shape-requires-2
-    returns_2
-    returns_3
+    returns-2
+    returns-3
     joint-count-requires
     returns-4
     returns-5

@@ -76,8 +76,8 @@ word-room-requires c κs = search rules
 same-length-2 : tie.Need-same-length-2
 same-length-2 c = search rules
 
-returns_2 : tie.Need-returns-2
-returns_2 c =
+returns-2 : tie.Need-returns-2
+returns-2 c =
     let e = c.before.before in
     let k = lent (searched (won e)) in
     record {
@@ -120,8 +120,8 @@ same-length-4 c = search rules
 same-length-5 : tie.Need-same-length-5
 same-length-5 c = search rules
 
-returns_3 : tie.Need-returns-3
-returns_3 c =
+returns-3 : tie.Need-returns-3
+returns-3 c =
     let shown = told c in
     let a = shown.before.before.before in
     let e = roomy a in
@@ -148,7 +148,7 @@ settle-spec =
     depth-requires
     word-room-requires
     same-length-2
-    returns_2
+    returns-2
     slice-relend-prefix-show
     slice-aggregate-show
     slice-relend-prefix-show-2
@@ -157,4 +157,4 @@ settle-spec =
     same-length-3
     same-length-4
     same-length-5
-    returns_3)
+    returns-3)

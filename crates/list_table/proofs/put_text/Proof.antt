@@ -6,47 +6,47 @@ use borrow.Author.Rules.{rules}
 use Rattle.list_table.proofs.put_text.Statement.{statement}
 use Rattle.list_table.proofs.put_text.Tie as tie
 
-abbrev invariant_loop : tie.invariant_loop
-invariant_loop line₀ used text at₀ i₀ line at i = (i ≤ length text) × (length line ≡ length line₀)
+abbrev invariant-loop : tie.invariant-loop
+invariant-loop line₀ used text at₀ i₀ line at i = (i ≤ length text) × (length line ≡ length line₀)
 
-abbrev decreases_loop : tie.decreases_loop
-decreases_loop line₀ used text at₀ i₀ line at i = length text - i
+abbrev decreases-loop : tie.decreases-loop
+decreases-loop line₀ used text at₀ i₀ line at i = length text - i
 
-loop_holds : tie.Need-loop-init invariant_loop decreases_loop
-loop_holds c = search rules
+loop-holds : tie.Need-loop-init invariant-loop decreases-loop
+loop-holds c = search rules
 
-shared-slice-read-put : tie.Need-shared-slice-read-put invariant_loop decreases_loop
+shared-slice-read-put : tie.Need-shared-slice-read-put invariant-loop decreases-loop
 shared-slice-read-put c = search rules
 
-put-requires : tie.Need-put-requires invariant_loop decreases_loop
+put-requires : tie.Need-put-requires invariant-loop decreases-loop
 put-requires c κs = search rules
 
-add-i : tie.Need-overflow-add-i invariant_loop decreases_loop
+add-i : tie.Need-overflow-add-i invariant-loop decreases-loop
 add-i c = search rules
 
-loop_less : tie.Need-loop-smaller invariant_loop decreases_loop
-loop_less c = search rules
+loop-less : tie.Need-loop-smaller invariant-loop decreases-loop
+loop-less c = search rules
 
-loop_again : tie.Need-loop-preserved invariant_loop decreases_loop
-loop_again c = search rules
+loop-again : tie.Need-loop-preserved invariant-loop decreases-loop
+loop-again c = search rules
 
-same_length : tie.Need-same-length invariant_loop decreases_loop
+same_length : tie.Need-same-length invariant-loop decreases-loop
 same_length c = search rules
 
-returns : tie.Need-returns invariant_loop decreases_loop
+returns : tie.Need-returns invariant-loop decreases-loop
 returns c = search rules
 
 pub put-text-spec : {M : Type 1} → statement M
 put-text-spec =
     tie.close
     (tie.spec
-    invariant_loop
-    decreases_loop
-    loop_holds
+    invariant-loop
+    decreases-loop
+    loop-holds
     shared-slice-read-put
     put-requires
     add-i
-    loop_less
-    loop_again
+    loop-less
+    loop-again
     same_length
     returns)

@@ -61,8 +61,8 @@ returns c =
     let refused = is_false asked.size_ok.ensures c.before.if1.true in
     record { answer_is = c.answer.ensures ∙ size_refused _ _ refused }
 
-wide32_requires : tie.Need-wide32-requires
-wide32_requires c κs = search rules
+wide32-requires : tie.Need-wide32-requires
+wide32-requires c κs = search rules
 
 in-list-requires : tie.Need-in-list-requires
 in-list-requires c κs = search rules
@@ -70,8 +70,8 @@ in-list-requires c κs = search rules
 answer-requires-2 : tie.Need-answer-requires-2
 answer-requires-2 c κs = search rules
 
-returns_2 : tie.Need-returns-2
-returns_2 c =
+returns-2 : tie.Need-returns-2
+returns-2 c =
     let asked = c.before.before in
     let count = counted asked in
     let a = (called asked).args in
@@ -105,8 +105,8 @@ raise-requires c κs = next_raising (found c.before) c.if3.true
 answer-requires-3 : tie.Need-answer-requires-3
 answer-requires-3 c κs = search rules
 
-returns_3 : tie.Need-returns-3
-returns_3 c =
+returns-3 : tie.Need-returns-3
+returns-3 c =
     let test = c.before.before in
     let k = found test.before in
     record { answer_is = c.answer3.ensures ∙ next_raised k test.if3.true c.before.raise.ensures }
@@ -141,10 +141,10 @@ next-word-spec =
     size-ok-requires
     answer-requires
     returns
-    wide32_requires
+    wide32-requires
     in-list-requires
     answer-requires-2
-    returns_2
+    returns-2
     wide32-requires-2
     wide32-requires-3
     mul-top
@@ -152,7 +152,7 @@ next-word-spec =
     sub-raise
     raise-requires
     answer-requires-3
-    returns_3
+    returns-3
     answer-requires-4
     returns-4
     add-t19

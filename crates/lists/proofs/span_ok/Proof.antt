@@ -5,8 +5,8 @@ use Rattle.lists.proofs.Fitting.{many_events, seconds_decide}
 use Rattle.lists.proofs.span_ok.Statement.{statement}
 use Rattle.lists.proofs.span_ok.Tie as tie
 
-wide32_requires : tie.Need-wide32-requires
-wide32_requires c κs = search rules
+wide32-requires : tie.Need-wide32-requires
+wide32-requires c κs = search rules
 
 returns : tie.Need-returns
 returns c =
@@ -16,10 +16,10 @@ returns c =
 wide32-requires-2 : tie.Need-wide32-requires-2
 wide32-requires-2 c κs = search rules
 
-returns_2 : tie.Need-returns-2
-returns_2 c =
+returns-2 : tie.Need-returns-2
+returns-2 c =
     let arg = c.before.before.before.args in
     seconds_decide arg.events arg.seconds c.wide322.ensures.0 (omega (arith, c.before.before.wide32.ensures.0))
 
 pub span-ok-spec : {M : Type 1} → statement M
-span-ok-spec = tie.close (tie.spec wide32_requires returns wide32-requires-2 returns_2)
+span-ok-spec = tie.close (tie.spec wide32-requires returns wide32-requires-2 returns-2)

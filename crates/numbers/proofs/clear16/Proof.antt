@@ -11,38 +11,38 @@ use Rattle.model.specs.Basics.{zeros}
 use Rattle.numbers.proofs.clear16.Statement.{statement}
 use Rattle.numbers.proofs.clear16.Tie as tie
 
-abbrev invariant_loop : tie.invariant_loop
-invariant_loop table₀ i₀ table i =
+abbrev invariant-loop : tie.invariant-loop
+invariant-loop table₀ i₀ table i =
     (i ≤ length table₀) × (length table ≡ length table₀) × (table ≡ zeros i ++ drop i table₀)
 
-abbrev decreases_loop : tie.decreases_loop
-decreases_loop table₀ i₀ table i = length table₀ - i
+abbrev decreases-loop : tie.decreases-loop
+decreases-loop table₀ i₀ table i = length table₀ - i
 
-loop_holds : tie.Need-loop-init invariant_loop decreases_loop
-loop_holds c = search rules
+loop-holds : tie.Need-loop-init invariant-loop decreases-loop
+loop-holds c = search rules
 
-mul-table : tie.Need-overflow-mul-table invariant_loop decreases_loop
+mul-table : tie.Need-overflow-mul-table invariant-loop decreases-loop
 mul-table c = search rules
 
-slice-write-table : tie.Need-slice-write-table invariant_loop decreases_loop
+slice-write-table : tie.Need-slice-write-table invariant-loop decreases-loop
 slice-write-table c = search rules
 
-add-i : tie.Need-overflow-add-i invariant_loop decreases_loop
+add-i : tie.Need-overflow-add-i invariant-loop decreases-loop
 add-i c = search rules
 
-loop_less : tie.Need-loop-smaller invariant_loop decreases_loop
-loop_less c = search rules
+loop-less : tie.Need-loop-smaller invariant-loop decreases-loop
+loop-less c = search rules
 
-loop_again : tie.Need-loop-preserved invariant_loop decreases_loop
-loop_again c =
+loop-again : tie.Need-loop-preserved invariant-loop decreases-loop
+loop-again c =
     let l = c.before.loop in
     let a = c.before.before.args in
     (search rules, search rules, rw l.invariant.2 (fill_more l.i 0 a.table.now (search rules)))
 
-same_length : tie.Need-same-length invariant_loop decreases_loop
+same_length : tie.Need-same-length invariant-loop decreases-loop
 same_length c = search rules
 
-returns : tie.Need-returns invariant_loop decreases_loop
+returns : tie.Need-returns invariant-loop decreases-loop
 returns c =
     let l = c.before.loop in
     let a = c.before.before.args in
@@ -53,13 +53,13 @@ pub clear16-spec : {M : Type 1} → statement M
 clear16-spec =
     tie.close
     (tie.spec
-    invariant_loop
-    decreases_loop
-    loop_holds
+    invariant-loop
+    decreases-loop
+    loop-holds
     mul-table
     slice-write-table
     add-i
-    loop_less
-    loop_again
+    loop-less
+    loop-again
     same_length
     returns)

@@ -10,8 +10,8 @@ returns c = bit_past 64 c.before.args.place c.before.args.mask (search rules) c.
 shr-result : tie.Need-overflow-shr-result
 shr-result c = search rules
 
-returns_2 : tie.Need-returns-2
-returns_2 c = search rules
+returns-2 : tie.Need-returns-2
+returns-2 c = search rules
 
 pub has-bit-spec : {M : Type 1} → statement M
-has-bit-spec = tie.close (tie.spec returns shr-result returns_2)
+has-bit-spec = tie.close (tie.spec returns shr-result returns-2)

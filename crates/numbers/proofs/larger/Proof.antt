@@ -6,8 +6,8 @@ use Rattle.numbers.proofs.larger.Tie as tie
 returns : tie.Need-returns
 returns c = larger_second c.before.args.a c.before.args.b c.if1.true
 
-returns_2 : tie.Need-returns-2
-returns_2 c = larger_first c.before.args.a c.before.args.b c.if1.false
+returns-2 : tie.Need-returns-2
+returns-2 c = larger_first c.before.args.a c.before.args.b c.if1.false
 
 pub larger-spec : {M : Type 1} → statement M
-larger-spec = tie.close (tie.spec returns returns_2)
+larger-spec = tie.close (tie.spec returns returns-2)

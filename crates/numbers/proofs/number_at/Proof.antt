@@ -17,9 +17,9 @@ shared-slice-read-wide16 c = search rules
 wide16-requires : tie.Need-wide16-requires
 wide16-requires c κs = search rules
 
-returns_2 : tie.Need-returns-2
-returns_2 c = search rules
+returns-2 : tie.Need-returns-2
+returns-2 c = search rules
 
 pub number-at-spec : {M : Type 1} → statement M
 number-at-spec =
-    tie.close (tie.spec returns mul-wide16 shared-slice-read-wide16 wide16-requires returns_2)
+    tie.close (tie.spec returns mul-wide16 shared-slice-read-wide16 wide16-requires returns-2)

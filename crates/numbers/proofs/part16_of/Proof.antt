@@ -33,8 +33,8 @@ part-result-start-2 c = search rules
 part-result-end-2 : tie.Need-slice-bounds-result-end-2
 part-result-end-2 c = search rules
 
-returns_2 : tie.Need-returns-2
-returns_2 c =
+returns-2 : tie.Need-returns-2
+returns-2 c =
     let a = c.before.before.before.args in
     part_short a.table.now a.start a.count (search rules)
 
@@ -53,8 +53,8 @@ part-result-start-3 c = search rules
 part-result-end-3 : tie.Need-slice-bounds-result-end-3
 part-result-end-3 c = search rules
 
-returns_3 : tie.Need-returns-3
-returns_3 c =
+returns-3 : tie.Need-returns-3
+returns-3 c =
     let a = c.before.before.before.args in
     part_whole a.table.now a.start a.count
 
@@ -71,10 +71,10 @@ part16-of-spec =
     sub-result-2
     part-result-start-2
     part-result-end-2
-    returns_2
+    returns-2
     add-past
     mul-result-2
     sub-result-3
     part-result-start-3
     part-result-end-3
-    returns_3)
+    returns-3)

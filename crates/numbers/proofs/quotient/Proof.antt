@@ -12,8 +12,8 @@ returns c = search rules
 div-result : tie.Need-nonzero-div-result
 div-result c = search rules
 
-returns_2 : tie.Need-returns-2
-returns_2 c = sym (quotient_is _ _ (omega (arith, c.if1.false)))
+returns-2 : tie.Need-returns-2
+returns-2 c = sym (quotient_is _ _ (omega (arith, c.if1.false)))
 
 pub quotient-spec : {M : Type 1} → statement M
-quotient-spec = tie.close (tie.spec returns div-result returns_2)
+quotient-spec = tie.close (tie.spec returns div-result returns-2)

@@ -12,8 +12,8 @@ returns c = search rules
 rem-result : tie.Need-nonzero-rem-result
 rem-result c = search rules
 
-returns_2 : tie.Need-returns-2
-returns_2 c = sym (remainder_is _ _ (omega (arith, c.if1.false)))
+returns-2 : tie.Need-returns-2
+returns-2 c = sym (remainder_is _ _ (omega (arith, c.if1.false)))
 
 pub remainder-spec : {M : Type 1} → statement M
-remainder-spec = tie.close (tie.spec returns rem-result returns_2)
+remainder-spec = tie.close (tie.spec returns rem-result returns-2)

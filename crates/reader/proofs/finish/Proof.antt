@@ -16,18 +16,18 @@ pairs-of-requires c κs = search rules
 refused-requires-2 : tie.Need-refused-requires-2
 refused-requires-2 c κs = search rules
 
-returns_2 : tie.Need-returns-2
-returns_2 c =
+returns-2 : tie.Need-returns-2
+returns-2 c =
     let if2 = c.before.if2 in
     let pairs_of = c.before.before.pairs_of in
     let if1 = c.before.before.before.if1 in
     λ r state. ends_too_many state if1.false pairs_of.ensures if2.true c.refused2.ensures
 
-returns_3 : tie.Need-returns-3
-returns_3 c =
+returns-3 : tie.Need-returns-3
+returns-3 c =
     λ r state. ends_read state c.before.before.if1.false c.before.pairs_of.ensures c.if2.false
 
 pub finish_spec : {M : Type 1} → statement M
 finish_spec =
     tie.close
-    (tie.spec refused-requires returns pairs-of-requires refused-requires-2 returns_2 returns_3)
+    (tie.spec refused-requires returns pairs-of-requires refused-requires-2 returns-2 returns-3)

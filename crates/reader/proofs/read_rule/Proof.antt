@@ -30,8 +30,8 @@ clear16-requires-2 c κs = search rules
 same_length : tie.Need-same-length
 same_length c = search rules
 
-returns_2 : tie.Need-returns-2
-returns_2 c =
+returns-2 : tie.Need-returns-2
+returns-2 c =
     let again = c.before.before in
     let refused = again.before.before in
     let read = refused.before.before.before.before in
@@ -45,8 +45,8 @@ returns_2 c =
 same-length-2 : tie.Need-same-length-2
 same-length-2 c = search rules
 
-returns_3 : tie.Need-returns-3
-returns_3 c =
+returns-3 : tie.Need-returns-3
+returns-3 c =
     let read = c.before.before.before.before in
     let cleared = read.before.before.before.before in
     let long = cleared.before.before in
@@ -64,6 +64,6 @@ read-rule-spec =
     read-records-requires
     clear16-requires-2
     same_length
-    returns_2
+    returns-2
     same-length-2
-    returns_3)
+    returns-3)

@@ -11,12 +11,12 @@ returns c = answers_short _ _ (search rules)
 readable-requires : tie.Need-readable-requires
 readable-requires c κs = search rules
 
-returns_2 : tie.Need-returns-2
-returns_2 c =
+returns-2 : tie.Need-returns-2
+returns-2 c =
     answers_pass _ _ c.before.before.if1.false (sym c.before.readable.ensures ∙ c.if2.true)
 
-returns_3 : tie.Need-returns-3
-returns_3 c = answers_not _ _ c.before.before.if1.false (sym c.before.readable.ensures ∙ c.if2.false)
+returns-3 : tie.Need-returns-3
+returns-3 c = answers_not _ _ c.before.before.if1.false (sym c.before.readable.ensures ∙ c.if2.false)
 
 pub check-rule-spec : {M : Type 1} → statement M
-check-rule-spec = tie.close (tie.spec returns readable-requires returns_2 returns_3)
+check-rule-spec = tie.close (tie.spec returns readable-requires returns-2 returns-3)

@@ -1,5 +1,5 @@
 -- `rule::count_ok` meets its contract: the bound of a count by its kind.
-use borrow.Author.Tests.{eq-eqb, ne_eqb}
+use borrow.Author.Tests.{eq_eqb, ne_eqb}
 use Rattle.model.specs.Rules.{plain_edge, grouped_edge}
 use Rattle.rule.proofs.count_ok.Statement.{statement}
 use Rattle.rule.proofs.count_ok.Tie as tie
@@ -7,15 +7,15 @@ use Rattle.rule.proofs.count_ok.Tie as tie
 returns : tie.Need-returns
 returns c = rw (eq-eqb c.before.args.kind plain_edge c.if1.true)
 
-returns_2 : tie.Need-returns-2
-returns_2 c =
+returns-2 : tie.Need-returns-2
+returns-2 c =
     let kind = c.before.before.args.kind in
     rw (ne_eqb kind plain_edge c.before.if1.false, ne_eqb kind grouped_edge c.if2.true)
 
-returns_3 : tie.Need-returns-3
-returns_3 c =
+returns-3 : tie.Need-returns-3
+returns-3 c =
     let kind = c.before.before.args.kind in
     rw (ne_eqb kind plain_edge c.before.if1.false, eq-eqb kind grouped_edge c.if2.false)
 
 pub count-ok-spec : {M : Type 1} → statement M
-count-ok-spec = tie.close (tie.spec returns returns_2 returns_3)
+count-ok-spec = tie.close (tie.spec returns returns-2 returns-3)

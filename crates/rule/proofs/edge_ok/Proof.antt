@@ -17,7 +17,7 @@ count_at :
     → let edge = c.before.before.before.before.args.edge.now in
     c.count-ok.result ≡ count_ok (get_or edge 0 0) (get_or edge 5 0)
 count_at c =
-    c.count-ok.ensures ∙ ap₂ count_ok c.before.before.kind_of.ensures.0 c.before.count_of.ensures.0
+    c.count-ok.ensures ∙ ap₂ count_ok c.before.before.kind-of.ensures.0 c.before.count_of.ensures.0
 
 -- the text ends inside the edge's places
 text_at : (c : tie.After-text-of) → edge_fields + length c.text_of.result.now ≤ edge_width
@@ -43,8 +43,8 @@ returns c = miscounted _ _ (failed (count_at c.before) c.if1.true)
 edge-fault-requires : tie.Need-edge-fault-requires
 edge-fault-requires c κs = search rules
 
-returns_2 : tie.Need-returns-2
-returns_2 c =
+returns-2 : tie.Need-returns-2
+returns-2 c =
     let right = c.before.before in
     faulty _ _ (passed (count_at right.before) right.if1.false) _ c.before.edge-fault.ensures (omega arith)
 
@@ -69,8 +69,8 @@ part-all-zero-end c = omega (arith, text_at c)
 all-zero-requires : tie.Need-all-zero-requires
 all-zero-requires c κs = search rules
 
-returns_3 : tie.Need-returns-3
-returns_3 c =
+returns-3 : tie.Need-returns-3
+returns-3 c =
     let text = c.before.before in
     let right = text.before.before.before in
     let count = right.before in
@@ -87,7 +87,7 @@ edge-ok-spec =
     count-ok-requires
     returns
     edge-fault-requires
-    returns_2
+    returns-2
     text-of-requires
     add-past
     mul-all-zero
@@ -95,4 +95,4 @@ edge-ok-spec =
     part-all-zero-start
     part-all-zero-end
     all-zero-requires
-    returns_3)
+    returns-3)

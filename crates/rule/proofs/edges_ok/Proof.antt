@@ -5,100 +5,100 @@ use Rattle.rule.proofs.Laws.{Edges, edges_start, edges_fall, edges_fail, edges_n
 use Rattle.rule.proofs.edges_ok.Statement.{statement}
 use Rattle.rule.proofs.edges_ok.Tie as tie
 
-abbrev invariant_loop : tie.invariant_loop
-invariant_loop head edges count last₀ e₀ last e = Edges head count e last edges
+abbrev invariant-loop : tie.invariant-loop
+invariant-loop head edges count last₀ e₀ last e = Edges head count e last edges
 
-abbrev decreases_loop : tie.decreases_loop
-decreases_loop head edges count last₀ e₀ last e = count - e
+abbrev decreases-loop : tie.decreases-loop
+decreases-loop head edges count last₀ e₀ last e = count - e
 
-wide32_requires : tie.Need-wide32-requires invariant_loop decreases_loop
-wide32_requires c κs = search rules
+wide32-requires : tie.Need-wide32-requires invariant-loop decreases-loop
+wide32-requires c κs = search rules
 
-loop_holds : tie.Need-loop-init invariant_loop decreases_loop
-loop_holds c = edges_start _ _ _
+loop-holds : tie.Need-loop-init invariant-loop decreases-loop
+loop-holds c = edges_start _ _ _
 
-mul_at : tie.Need-overflow-mul-at invariant_loop decreases_loop
+mul_at : tie.Need-overflow-mul-at invariant-loop decreases-loop
 mul_at c = search rules
 
-add-end : tie.Need-overflow-add-end invariant_loop decreases_loop
+add-end : tie.Need-overflow-add-end invariant-loop decreases-loop
 add-end c = search rules
 
-mul-edge : tie.Need-overflow-mul-edge invariant_loop decreases_loop
+mul-edge : tie.Need-overflow-mul-edge invariant-loop decreases-loop
 mul-edge c = search rules
 
-sub-edge : tie.Need-overflow-sub-edge invariant_loop decreases_loop
+sub-edge : tie.Need-overflow-sub-edge invariant-loop decreases-loop
 sub-edge c = search rules
 
-part-edge-start : tie.Need-slice-bounds-edge-start invariant_loop decreases_loop
+part-edge-start : tie.Need-slice-bounds-edge-start invariant-loop decreases-loop
 part-edge-start c = search rules
 
-part-edge-end : tie.Need-slice-bounds-edge-end invariant_loop decreases_loop
+part-edge-end : tie.Need-slice-bounds-edge-end invariant-loop decreases-loop
 part-edge-end c = search rules
 
-kind-of-requires : tie.Need-kind-of-requires invariant_loop decreases_loop
+kind-of-requires : tie.Need-kind-of-requires invariant-loop decreases-loop
 kind-of-requires c κs = search rules
 
-returns : tie.Need-returns invariant_loop decreases_loop
+returns : tie.Need-returns invariant-loop decreases-loop
 returns c =
     let kind = c.before in
-    let at-loop = kind.before.before.before in
-    edges_fall at-loop.loop.invariant (search rules) (search rules) _ kind.kind_of.ensures.0 c.if1.true
-    at-loop.before.wide32.ensures.0
+    let at_loop = kind.before.before.before in
+    edges_fall at_loop.loop.invariant (search rules) (search rules) _ kind.kind-of.ensures.0 c.if1.true
+    at_loop.before.wide32.ensures.0
 
-edge-ok-requires : tie.Need-edge-ok-requires invariant_loop decreases_loop
+edge-ok-requires : tie.Need-edge-ok-requires invariant-loop decreases-loop
 edge-ok-requires c κs = search rules
 
-returns_2 : tie.Need-returns-2 invariant_loop decreases_loop
-returns_2 c =
+returns-2 : tie.Need-returns-2 invariant-loop decreases-loop
+returns-2 c =
     let high = c.before.before in
-    let at-loop = high.before.before.before.before in
-    edges_fail at-loop.loop.invariant (search rules) (search rules) _ high.before.kind_of.ensures.0
-    high.if1.false c.before.edge-ok.ensures c.if2.true at-loop.before.wide32.ensures.0
+    let at_loop = high.before.before.before.before in
+    edges_fail at_loop.loop.invariant (search rules) (search rules) _ high.before.kind-of.ensures.0
+    high.if1.false c.before.edge-ok.ensures c.if2.true at_loop.before.wide32.ensures.0
 
-add_e : tie.Need-overflow-add-e invariant_loop decreases_loop
-add_e c = search rules
+add-e : tie.Need-overflow-add-e invariant-loop decreases-loop
+add-e c = search rules
 
-loop_less : tie.Need-loop-smaller invariant_loop decreases_loop
-loop_less c = search rules
+loop-less : tie.Need-loop-smaller invariant-loop decreases-loop
+loop-less c = search rules
 
-loop_again : tie.Need-loop-preserved invariant_loop decreases_loop
-loop_again c =
+loop-again : tie.Need-loop-preserved invariant-loop decreases-loop
+loop-again c =
     let high = c.before.before in
-    let at-loop = high.before.before.before.before in
-    edges_next at-loop.loop.invariant (search rules) (search rules) _ high.before.kind_of.ensures.0
+    let at_loop = high.before.before.before.before in
+    edges_next at_loop.loop.invariant (search rules) (search rules) _ high.before.kind-of.ensures.0
     high.if1.false c.before.edge-ok.ensures c.if2.false
 
-mul-past : tie.Need-overflow-mul-past invariant_loop decreases_loop
+mul-past : tie.Need-overflow-mul-past invariant-loop decreases-loop
 mul-past c = search rules
 
-mul-all-zero : tie.Need-overflow-mul-all-zero invariant_loop decreases_loop
+mul-all-zero : tie.Need-overflow-mul-all-zero invariant-loop decreases-loop
 mul-all-zero c = search rules
 
-sub-all-zero : tie.Need-overflow-sub-all-zero invariant_loop decreases_loop
+sub-all-zero : tie.Need-overflow-sub-all-zero invariant-loop decreases-loop
 sub-all-zero c = search rules
 
-part-all-zero-start : tie.Need-slice-bounds-all-zero-start invariant_loop decreases_loop
+part-all-zero-start : tie.Need-slice-bounds-all-zero-start invariant-loop decreases-loop
 part-all-zero-start c = search rules
 
-part-all-zero-end : tie.Need-slice-bounds-all-zero-end invariant_loop decreases_loop
+part-all-zero-end : tie.Need-slice-bounds-all-zero-end invariant-loop decreases-loop
 part-all-zero-end c = search rules
 
-all-zero-requires : tie.Need-all-zero-requires invariant_loop decreases_loop
+all-zero-requires : tie.Need-all-zero-requires invariant-loop decreases-loop
 all-zero-requires c κs = search rules
 
-returns_3 : tie.Need-returns-3 invariant_loop decreases_loop
-returns_3 c =
-    let at-loop = c.before.before.before in
-    edges_end at-loop.loop.invariant (search rules) c.all-zero.ensures at-loop.before.wide32.ensures.0
+returns-3 : tie.Need-returns-3 invariant-loop decreases-loop
+returns-3 c =
+    let at_loop = c.before.before.before in
+    edges_end at_loop.loop.invariant (search rules) c.all-zero.ensures at_loop.before.wide32.ensures.0
 
 pub edges-ok-spec : {M : Type 1} → statement M
 edges-ok-spec =
     tie.close
     (tie.spec
-    invariant_loop
-    decreases_loop
-    wide32_requires
-    loop_holds
+    invariant-loop
+    decreases-loop
+    wide32-requires
+    loop-holds
     mul_at
     add-end
     mul-edge
@@ -108,14 +108,14 @@ edges-ok-spec =
     kind-of-requires
     returns
     edge-ok-requires
-    returns_2
-    add_e
-    loop_less
-    loop_again
+    returns-2
+    add-e
+    loop-less
+    loop-again
     mul-past
     mul-all-zero
     sub-all-zero
     part-all-zero-start
     part-all-zero-end
     all-zero-requires
-    returns_3)
+    returns-3)

@@ -39,8 +39,8 @@ ends_at c =
     mask_known c.mask-ok2.ensures c.before.wide325.ensures.0
     sizes.before.before.before.wide32.ensures.0
 
-wide32_requires : tie.Need-wide32-requires
-wide32_requires c κs = search rules
+wide32-requires : tie.Need-wide32-requires
+wide32-requires c κs = search rules
 
 wide32-requires-2 : tie.Need-wide32-requires-2
 wide32-requires-2 c κs = search rules
@@ -61,9 +61,9 @@ wide32-requires-4 c κs = search rules
 mask-ok-requires : tie.Need-mask-ok-requires
 mask-ok-requires c κs = search rules
 
-returns_2 : tie.Need-returns-2
+returns-2 : tie.Need-returns-2
 unfolding head_good
-returns_2 c =
+returns-2 c =
     let starts = c.before in
     let sizes = starts.before.before.before in
     rw (
@@ -77,9 +77,9 @@ wide32-requires-5 c κs = search rules
 mask-ok-requires-2 : tie.Need-mask-ok-requires-2
 mask-ok-requires-2 c κs = search rules
 
-returns_3 : tie.Need-returns-3
+returns-3 : tie.Need-returns-3
 unfolding head_good
-returns_3 c =
+returns-3 c =
     let ends = c.before in
     let starts = ends.before.before.before in
     let sizes = starts.before.before.before in
@@ -109,16 +109,16 @@ pub head-ok-spec : {M : Type 1} → statement M
 head-ok-spec =
     tie.close
     (tie.spec
-    wide32_requires
+    wide32-requires
     wide32-requires-2
     wide32-requires-3
     sizes-ok-requires
     returns
     wide32-requires-4
     mask-ok-requires
-    returns_2
+    returns-2
     wide32-requires-5
     mask-ok-requires-2
-    returns_3
+    returns-3
     wide32-requires-6
     returns-4)

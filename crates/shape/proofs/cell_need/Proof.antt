@@ -5,8 +5,8 @@ use Rattle.shape.proofs.Sizes.{row_cells_most, cells_fit, need_is}
 use Rattle.shape.proofs.cell_need.Statement.{statement}
 use Rattle.shape.proofs.cell_need.Tie as tie
 
-wide32_requires : tie.Need-wide32-requires
-wide32_requires c κs = search rules
+wide32-requires : tie.Need-wide32-requires
+wide32-requires c κs = search rules
 
 wide32-requires-2 : tie.Need-wide32-requires-2
 wide32-requires-2 c κs = search rules
@@ -49,7 +49,7 @@ pub cell-need-spec : {M : Type 1} → statement M
 cell-need-spec =
     tie.close
     (tie.spec
-    wide32_requires
+    wide32-requires
     wide32-requires-2
     wide32-requires-3
     mul-result

@@ -19,15 +19,15 @@ resets-ok-requires c κs = search rules
 returns : tie.Need-returns
 returns c cm =
     let a = c.before.before.before.before.args in
-    held c.before.before.codes_below.ensures c.before.if1.true c.resets-ok.ensures refl
+    held c.before.before.codes-below.ensures c.before.if1.true c.resets-ok.ensures refl
     ∙ cells_are cm a.rows 0 a.cells.now
 
-returns_2 : tie.Need-returns-2
-returns_2 c cm =
+returns-2 : tie.Need-returns-2
+returns-2 c cm =
     let a = c.before.before.before.args in
-    failed (resets_ok 0 a.cells.now) c.before.codes_below.ensures c.if1.false refl
+    failed (resets_ok 0 a.cells.now) c.before.codes-below.ensures c.if1.false refl
     ∙ cells_are cm a.rows 0 a.cells.now
 
 pub cells-ok-spec : {M : Type 1} → statement M
 cells-ok-spec =
-    tie.close (tie.spec mul-codes-below codes-below-requires resets-ok-requires returns returns_2)
+    tie.close (tie.spec mul-codes-below codes-below-requires resets-ok-requires returns returns-2)

@@ -9,10 +9,10 @@ in-shape-requires : tie.Need-in-shape-requires
 in-shape-requires c κs = search rules
 
 returns : tie.Need-returns
-returns c = record { answer_is = shape_passes _ (sym c.before.in_shape_lem.ensures ∙ c.if1.true) }
+returns c = record { answer_is = shape_passes _ (sym c.before.in-shape.ensures ∙ c.if1.true) }
 
-returns_2 : tie.Need-returns-2
-returns_2 c = record { answer_is = shape_refused _ (sym c.before.in_shape_lem.ensures ∙ c.if1.false) }
+returns-2 : tie.Need-returns-2
+returns-2 c = record { answer_is = shape_refused _ (sym c.before.in-shape.ensures ∙ c.if1.false) }
 
 pub check-table-spec : {M : Type 1} → statement M
-check-table-spec = tie.close (tie.spec in-shape-requires returns returns_2)
+check-table-spec = tie.close (tie.spec in-shape-requires returns returns-2)

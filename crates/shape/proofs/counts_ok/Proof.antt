@@ -18,8 +18,8 @@ within-requires c κs = search rules
 returns : tie.Need-returns
 returns c = held refl (le-leb _ _ c.before.if1.true) c.within.ensures refl
 
-returns_2 : tie.Need-returns-2
-returns_2 c = failed _ refl (lt-leb _ _ c.if1.false) refl
+returns-2 : tie.Need-returns-2
+returns-2 c = failed _ refl (lt-leb _ _ c.if1.false) refl
 
 pub counts-ok-spec : {M : Type 1} → statement M
-counts-ok-spec = tie.close (tie.spec cast-if1 cast-within within-requires returns returns_2)
+counts-ok-spec = tie.close (tie.spec cast-if1 cast-within within-requires returns returns-2)

@@ -9,8 +9,8 @@ use Rattle.shape.proofs.Sizes.{sizes_are}
 use Rattle.shape.proofs.in_range.Statement.{statement}
 use Rattle.shape.proofs.in_range.Tie as tie
 
-wide32_requires : tie.Need-wide32-requires
-wide32_requires c κs = search rules
+wide32-requires : tie.Need-wide32-requires
+wide32-requires c κs = search rules
 
 wide32-requires-2 : tie.Need-wide32-requires-2
 wide32-requires-2 c κs = search rules
@@ -41,17 +41,17 @@ returns c =
     let top = ap (λ (n : ℕ). leb n most_constant) c.before.before.wide324.ensures.0 in
     held (sizes_at c.before) c.if1.true top refl
 
-returns_2 : tie.Need-returns-2
-returns_2 c = failed _ (sizes_at c.before) c.if1.false refl
+returns-2 : tie.Need-returns-2
+returns-2 c = failed _ (sizes_at c.before) c.if1.false refl
 
 pub in-range-spec : {M : Type 1} → statement M
 in-range-spec =
     tie.close
     (tie.spec
-    wide32_requires
+    wide32-requires
     wide32-requires-2
     wide32-requires-3
     wide32-requires-4
     sizes-ok-requires
     returns
-    returns_2)
+    returns-2)

@@ -31,7 +31,7 @@ chained c = c.before.before
 
 -- what is settled there
 ranged_at : (c : tie.Else1) → sizes_in_range (lent c).args.built ≡ true
-ranged_at c = is_true c.before.in_range.ensures c.if1.false
+ranged_at c = is_true c.before.in-range.ensures c.if1.false
 
 sized_at : (c : tie.Else2) → built_sizes_ok (lent (weighed (counted c)).before).args.built ≡ true
 sized_at c =
@@ -45,7 +45,7 @@ measured_at :
     Sized a.built a.cells.now a.rows.now a.pool.now c.wide32.result
 measured_at c = record {
   sizes = sized_at (measured c);
-  long = is_true c.before.before.long_enough_lem.ensures c.before.if3.false;
+  long = is_true c.before.before.long-enough.ensures c.before.if3.false;
   total_is = c.wide32.ensures.0;
 }
 
@@ -57,7 +57,7 @@ linked_at :
     pairs.pair-count.result
 linked_at c = record {
   sized = measured_at (chained c);
-  rows = is_true c.before.rows_chain_lem.ensures c.if4.false;
+  rows = is_true c.before.rows-chain.ensures c.if4.false;
   pairs_are = (counted (measured (chained c))).pair-count.ensures;
 }
 
@@ -70,7 +70,7 @@ coded_at :
     c.cell-need.result
 coded_at c = record {
   linked = linked_at c.before.before.before.before;
-  codes = is_true c.before.before.codes_below.ensures c.before.if5.false;
+  codes = is_true c.before.before.codes-below.ensures c.before.if5.false;
   need_is = c.cell-need.ensures;
 }
 
@@ -78,7 +78,7 @@ in-range-requires : tie.Need-in-range-requires
 in-range-requires c κs = search rules
 
 returns : tie.Need-returns
-returns c = sizes_out _ (is_false c.before.in_range.ensures c.if1.true)
+returns c = sizes_out _ (is_false c.before.in-range.ensures c.if1.true)
 
 location-weight-requires : tie.Need-location-weight-requires
 location-weight-requires c κs = in_range _ (ranged_at c)
@@ -89,8 +89,8 @@ pair-count-requires c κs = (in_range _ (ranged_at c.before), c.location-weight.
 counts-ok-requires : tie.Need-counts-ok-requires
 counts-ok-requires c κs = search rules
 
-returns_2 : tie.Need-returns-2
-returns_2 c =
+returns-2 : tie.Need-returns-2
+returns-2 c =
     let pairs = c.before.before in
     counts_out _ _ (ranged_at (weighed pairs).before) pairs.pair-count.ensures
     (is_false c.before.counts-ok.ensures c.if2.true)
@@ -98,17 +98,17 @@ returns_2 c =
 long-enough-requires : tie.Need-long-enough-requires
 long-enough-requires c κs = ranges _ (sized_at c)
 
-returns_3 : tie.Need-returns-3
-returns_3 c = too_short _ (sized_at c.before.before) (is_false c.before.long_enough_lem.ensures c.if3.true)
+returns-3 : tie.Need-returns-3
+returns-3 c = too_short _ (sized_at c.before.before) (is_false c.before.long-enough.ensures c.if3.true)
 
-wide32_requires : tie.Need-wide32-requires
-wide32_requires c κs = search rules
+wide32-requires : tie.Need-wide32-requires
+wide32-requires c κs = search rules
 
 rows-chain-requires : tie.Need-rows-chain-requires
 rows-chain-requires c κs = search rules
 
 returns-4 : tie.Need-returns-4
-returns-4 c = rows_out (measured_at c.before.before) (is_false c.before.rows_chain_lem.ensures c.if4.true)
+returns-4 c = rows_out (measured_at c.before.before) (is_false c.before.rows-chain.ensures c.if4.true)
 
 slice-aggregate-codes-below : tie.Need-slice-aggregate-codes-below
 slice-aggregate-codes-below c = pool_part (measured_at (chained c.before))
@@ -118,7 +118,7 @@ codes-below-requires c κs = search rules
 
 returns-5 : tie.Need-returns-5
 returns-5 c =
-    code_out (linked_at c.before.before.before) (is_false c.before.codes_below.ensures c.if5.true)
+    code_out (linked_at c.before.before.before) (is_false c.before.codes-below.ensures c.if5.true)
 
 cell-need-requires : tie.Need-cell-need-requires
 cell-need-requires c κs = ranges _ (measured_at (chained c.before.before.before)).sizes
@@ -131,7 +131,7 @@ cells-ok-requires c κs = rows_most (coded_at c.before)
 
 returns-6 : tie.Need-returns-6
 returns-6 c =
-    cell_out (coded_at c.before.before.before) (is_false (c.before.cells_ok.ensures _) c.if6.true)
+    cell_out (coded_at c.before.before.before) (is_false (c.before.cells-ok.ensures _) c.if6.true)
 
 verdicts-ok-requires : tie.Need-verdicts-ok-requires
 verdicts-ok-requires c κs =
@@ -140,9 +140,9 @@ verdicts-ok-requires c κs =
 
 returns-7 : tie.Need-returns-7
 returns-7 c =
-    c.verdicts_ok_lem.ensures
+    c.verdicts-ok.ensures
     ∙ all_but_verdicts (coded_at c.before.before.before.before)
-    (is_true (c.before.before.cells_ok.ensures _) c.before.if6.false)
+    (is_true (c.before.before.cells-ok.ensures _) c.before.if6.false)
 
 pub in-shape-spec : {M : Type 1} → statement M
 in-shape-spec =
@@ -153,10 +153,10 @@ in-shape-spec =
     location-weight-requires
     pair-count-requires
     counts-ok-requires
-    returns_2
+    returns-2
     long-enough-requires
-    returns_3
-    wide32_requires
+    returns-3
+    wide32-requires
     rows-chain-requires
     returns-4
     slice-aggregate-codes-below

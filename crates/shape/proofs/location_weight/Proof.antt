@@ -4,8 +4,8 @@ use Rattle.shape.proofs.Sizes.{weight_is}
 use Rattle.shape.proofs.location_weight.Statement.{statement}
 use Rattle.shape.proofs.location_weight.Tie as tie
 
-wide32_requires : tie.Need-wide32-requires
-wide32_requires c κs = search rules
+wide32-requires : tie.Need-wide32-requires
+wide32-requires c κs = search rules
 
 add-power : tie.Need-overflow-add-power
 add-power c = search rules
@@ -23,4 +23,4 @@ returns c =
     c.power.ensures
 
 pub location-weight-spec : {M : Type 1} → statement M
-location-weight-spec = tie.close (tie.spec wide32_requires add-power wide32-requires-2 power-requires returns)
+location-weight-spec = tie.close (tie.spec wide32-requires add-power wide32-requires-2 power-requires returns)

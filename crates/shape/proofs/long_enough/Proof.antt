@@ -12,8 +12,8 @@ use Rattle.shape.proofs.long_enough.Tie as tie
 cell-need-requires : tie.Need-cell-need-requires
 cell-need-requires c κs = search rules
 
-wide32_requires : tie.Need-wide32-requires
-wide32_requires c κs = search rules
+wide32-requires : tie.Need-wide32-requires
+wide32-requires c κs = search rules
 
 -- where the cells' number is known: what was lent
 abbrev lent : tie.After-cell-need → tie.Start
@@ -28,11 +28,11 @@ returns c =
     let second = ap (λ (n : ℕ). leb n (length pool)) c.wide32.ensures.0 in
     held first (le-leb _ _ c.before.if1.true) second refl
 
-returns_2 : tie.Need-returns-2
-returns_2 c =
+returns-2 : tie.Need-returns-2
+returns-2 c =
     let cells = (lent c.before).args.cells.now in
     let first = ap (λ (n : ℕ). leb n (length cells)) c.before.cell-need.ensures in
     failed _ first (lt-leb _ _ c.if1.false) refl
 
 pub long-enough-spec : {M : Type 1} → statement M
-long-enough-spec = tie.close (tie.spec cell-need-requires wide32_requires returns returns_2)
+long-enough-spec = tie.close (tie.spec cell-need-requires wide32-requires returns returns-2)

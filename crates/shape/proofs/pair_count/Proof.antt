@@ -6,8 +6,8 @@ use Rattle.shape.proofs.Sizes.{pairs_are, pairs_fit}
 use Rattle.shape.proofs.pair_count.Statement.{statement}
 use Rattle.shape.proofs.pair_count.Tie as tie
 
-wide32_requires : tie.Need-wide32-requires
-wide32_requires c κs = search rules
+wide32-requires : tie.Need-wide32-requires
+wide32-requires c κs = search rules
 
 fits_at : (c : tie.After-wide32) → c.wide32.result * c.before.args.weight < 2 ^ 32
 fits_at c =
@@ -23,4 +23,4 @@ returns : tie.Need-returns
 returns c = pairs_are c.before.args.built c.before.requires.0 _ _ c.wide32.ensures.0 c.before.requires.1
 
 pub pair-count-spec : {M : Type 1} → statement M
-pair-count-spec = tie.close (tie.spec wide32_requires mul-pairs cast-result returns)
+pair-count-spec = tie.close (tie.spec wide32-requires mul-pairs cast-result returns)

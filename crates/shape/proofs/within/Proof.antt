@@ -8,8 +8,8 @@ use Rattle.shape.proofs.within.Tie as tie
 returns : tie.Need-returns
 returns c = held refl (le-leb _ _ c.if1.true) refl refl
 
-returns_2 : tie.Need-returns-2
-returns_2 c = failed _ refl (lt-leb _ _ c.if1.false) refl
+returns-2 : tie.Need-returns-2
+returns-2 c = failed _ refl (lt-leb _ _ c.if1.false) refl
 
 pub within-spec : {M : Type 1} → statement M
-within-spec = tie.close (tie.spec returns returns_2)
+within-spec = tie.close (tie.spec returns returns-2)

@@ -11,101 +11,101 @@ use Rattle.shares.proofs.BatchLaws.{found_none, found_some, ends, standing_next}
 use Rattle.shares.proofs.check_tables.Statement.{statement}
 use Rattle.shares.proofs.check_tables.Tie as tie
 
-abbrev invariant_loop : tie.invariant_loop
-invariant_loop cells rows pool events seconds tables count at₀ i₀ at i =
+abbrev invariant-loop : tie.invariant-loop
+invariant-loop cells rows pool events seconds tables count at₀ i₀ at i =
     Standing tables count cells rows pool events seconds at i
 
-abbrev decreases_loop : tie.decreases_loop
-decreases_loop cells rows pool events seconds tables count at₀ i₀ at i = count - i
+abbrev decreases-loop : tie.decreases-loop
+decreases-loop cells rows pool events seconds tables count at₀ i₀ at i = count - i
 
 -- the call, from the loop; the loop, from where a table's fault is known
-abbrev called : tie.At-loop invariant_loop decreases_loop → tie.Start invariant_loop decreases_loop
+abbrev called : tie.At-loop invariant-loop decreases-loop → tie.Start invariant-loop decreases-loop
 called c = c.before.before.before.before.before.before
 
-abbrev turned : tie.After-table-fault invariant_loop decreases_loop → tie.In-loop invariant_loop decreases_loop
+abbrev turned : tie.After-table-fault invariant-loop decreases-loop → tie.In-loop invariant-loop decreases-loop
 turned c = c.before.before.before.before.before
 
-abbrev t : tie.At-loop invariant_loop decreases_loop → Tables
+abbrev t : tie.At-loop invariant-loop decreases-loop → Tables
 t c =
     let a = (called c).args in
     table_at (get_or a.batch.tables c.loop.i no_built) a.cells.now a.rows.now a.pool.now c.loop.at
 
 -- no fault was found
 passed :
-    (c : tie.Else1 invariant_loop decreases_loop)
+    (c : tie.Else1 invariant-loop decreases-loop)
     → let at = (turned c.before).before in
     Sound (t at) (called at).args.events (called at).args.seconds
 passed c =
     let turn = turned c.before in
     found_none turn.before.loop.inv turn.loop-test.taken c.before.table-fault.ensures c.if1.false
 
-wide32_requires : tie.Need-wide32-requires invariant_loop decreases_loop
-wide32_requires c κs = search rules
+wide32-requires : tie.Need-wide32-requires invariant-loop decreases-loop
+wide32-requires c κs = search rules
 
-loop_holds : tie.Need-loop-init invariant_loop decreases_loop
-loop_holds c =
+loop-holds : tie.Need-loop-init invariant-loop decreases-loop
+loop-holds c =
     let s = c.before.before.before.before.before in
     standing_first _ _ _ _ _ _ _
     (omega (arith, sixteen s.args.batch _ s.well-formed.0, c.wide32.ensures.0, s.requires.count_most))
 
-mul-built : tie.Need-overflow-mul-built invariant_loop decreases_loop
+mul-built : tie.Need-overflow-mul-built invariant-loop decreases-loop
 mul-built c = search rules
 
-array-copy-out-built : tie.Need-array-copy-out-built invariant_loop decreases_loop
+array-copy-out-built : tie.Need-array-copy-out-built invariant-loop decreases-loop
 array-copy-out-built c =
     let s = called c.before in
     omega (arith, sixteen s.args.batch _ s.good.0, c.before.loop.invariant.room, c.loop-test.true)
 
-mul-table-fault : tie.Need-overflow-mul-table-fault invariant_loop decreases_loop
+mul-table-fault : tie.Need-overflow-mul-table-fault invariant-loop decreases-loop
 mul-table-fault c = search rules
 
-sub-table-fault : tie.Need-overflow-sub-table-fault invariant_loop decreases_loop
+sub-table-fault : tie.Need-overflow-sub-table-fault invariant-loop decreases-loop
 sub-table-fault c = search rules
 
-part-table-fault-start : tie.Need-slice-bounds-table-fault-start invariant_loop decreases_loop
+part-table-fault-start : tie.Need-slice-bounds-table-fault-start invariant-loop decreases-loop
 part-table-fault-start c = search rules
 
-part-table-fault-end : tie.Need-slice-bounds-table-fault-end invariant_loop decreases_loop
+part-table-fault-end : tie.Need-slice-bounds-table-fault-end invariant-loop decreases-loop
 part-table-fault-end c = search rules
 
-mul-table-fault-2 : tie.Need-overflow-mul-table-fault-2 invariant_loop decreases_loop
+mul-table-fault-2 : tie.Need-overflow-mul-table-fault-2 invariant-loop decreases-loop
 mul-table-fault-2 c = search rules
 
-sub-table-fault-2 : tie.Need-overflow-sub-table-fault-2 invariant_loop decreases_loop
+sub-table-fault-2 : tie.Need-overflow-sub-table-fault-2 invariant-loop decreases-loop
 sub-table-fault-2 c = search rules
 
-part-table-fault-start-2 : tie.Need-slice-bounds-table-fault-start-2 invariant_loop decreases_loop
+part-table-fault-start-2 : tie.Need-slice-bounds-table-fault-start-2 invariant-loop decreases-loop
 part-table-fault-start-2 c = search rules
 
-part-table-fault-end-2 : tie.Need-slice-bounds-table-fault-end-2 invariant_loop decreases_loop
+part-table-fault-end-2 : tie.Need-slice-bounds-table-fault-end-2 invariant-loop decreases-loop
 part-table-fault-end-2 c = search rules
 
-mul-table-fault-3 : tie.Need-overflow-mul-table-fault-3 invariant_loop decreases_loop
+mul-table-fault-3 : tie.Need-overflow-mul-table-fault-3 invariant-loop decreases-loop
 mul-table-fault-3 c = search rules
 
-sub-table-fault-3 : tie.Need-overflow-sub-table-fault-3 invariant_loop decreases_loop
+sub-table-fault-3 : tie.Need-overflow-sub-table-fault-3 invariant-loop decreases-loop
 sub-table-fault-3 c = search rules
 
-part-table-fault-start-3 : tie.Need-slice-bounds-table-fault-start-3 invariant_loop decreases_loop
+part-table-fault-start-3 : tie.Need-slice-bounds-table-fault-start-3 invariant-loop decreases-loop
 part-table-fault-start-3 c = search rules
 
-part-table-fault-end-3 : tie.Need-slice-bounds-table-fault-end-3 invariant_loop decreases_loop
+part-table-fault-end-3 : tie.Need-slice-bounds-table-fault-end-3 invariant-loop decreases-loop
 part-table-fault-end-3 c = search rules
 
-table-fault-requires : tie.Need-table-fault-requires invariant_loop decreases_loop
+table-fault-requires : tie.Need-table-fault-requires invariant-loop decreases-loop
 table-fault-requires c κs = search rules
 
-add-t35 : tie.Need-overflow-add-t35 invariant_loop decreases_loop
+add-t35 : tie.Need-overflow-add-t35 invariant-loop decreases-loop
 add-t35 c = search rules
 
-returns : tie.Need-returns invariant_loop decreases_loop
+returns : tie.Need-returns invariant-loop decreases-loop
 returns c =
     let turn = turned c.before in
     let at = turn.before in
     found_some at.loop.inv turn.loop-test.taken (called at).args.batch refl at.before.wide32.ensures.0
     c.before.table-fault.ensures c.if1.true
 
-part-behind-requires : tie.Need-part-behind-requires invariant_loop decreases_loop
+part-behind-requires : tie.Need-part-behind-requires invariant-loop decreases-loop
 part-behind-requires c κs =
     let turn = turned c.before in
     let e = ends turn.before.loop.inv turn.loop-test.taken (passed c) in (
@@ -117,19 +117,19 @@ part-behind-requires c κs =
       },
     )
 
-add-i : tie.Need-overflow-add-i invariant_loop decreases_loop
+add-i : tie.Need-overflow-add-i invariant-loop decreases-loop
 add-i c = search rules
 
-loop_less : tie.Need-loop-smaller invariant_loop decreases_loop
-loop_less c = search rules
+loop-less : tie.Need-loop-smaller invariant-loop decreases-loop
+loop-less c = search rules
 
-loop_again : tie.Need-loop-preserved invariant_loop decreases_loop
-loop_again c =
+loop-again : tie.Need-loop-preserved invariant-loop decreases-loop
+loop-again c =
     let turn = turned c.before.before in
     standing_next turn.before.loop.inv turn.loop-test.taken (passed c.before) c.part-behind.ensures
 
-returns_2 : tie.Need-returns-2 invariant_loop decreases_loop
-returns_2 c =
+returns-2 : tie.Need-returns-2 invariant-loop decreases-loop
+returns-2 c =
     let at = c.before in
     standing_last at.loop.invariant c.loop-test.false (called at).args.batch refl at.before.wide32.ensures.0
 
@@ -137,10 +137,10 @@ pub check-tables-spec : {M : Type 1} → statement M
 check-tables-spec =
     tie.close
     (tie.spec
-    invariant_loop
-    decreases_loop
-    wide32_requires
-    loop_holds
+    invariant-loop
+    decreases-loop
+    wide32-requires
+    loop-holds
     mul-built
     array-copy-out-built
     mul-table-fault
@@ -160,6 +160,6 @@ check-tables-spec =
     returns
     part-behind-requires
     add-i
-    loop_less
-    loop_again
-    returns_2)
+    loop-less
+    loop-again
+    returns-2)

@@ -37,8 +37,8 @@ asked_is c =
     asked_of a.batch a.events a.seconds (count_some c.before.before) (count_most c.before.before)
     (is_true c.before.span-ok.ensures c.if3.false)
 
-wide32_requires : tie.Need-wide32-requires
-wide32_requires c κs = search rules
+wide32-requires : tie.Need-wide32-requires
+wide32-requires c κs = search rules
 
 refused-requires : tie.Need-refused-requires
 refused-requires c κs = search rules
@@ -50,8 +50,8 @@ returns c =
 refused-requires-2 : tie.Need-refused-requires-2
 refused-requires-2 c κs = search rules
 
-returns_2 : tie.Need-returns-2
-returns_2 c =
+returns-2 : tie.Need-returns-2
+returns-2 c =
     let counted_is = c.before.before.before.wide32.ensures.0 in
     too_many (omega (arith, counted_is, c.before.before.if1.false))
     (omega (arith, counted_is, c.before.if2.true)) c.refused2.ensures
@@ -62,8 +62,8 @@ span-ok-requires c κs = search rules
 refused-requires-3 : tie.Need-refused-requires-3
 refused-requires-3 c κs = search rules
 
-returns_3 : tie.Need-returns-3
-returns_3 c =
+returns-3 : tie.Need-returns-3
+returns-3 c =
     let d = c.before.before.before in
     span_wrong (count_some d) (count_most d) (is_false c.before.before.span-ok.ensures c.before.if3.true)
     c.refused3.ensures
@@ -108,14 +108,14 @@ pub count-shares-spec : {M : Type 1} → statement M
 count-shares-spec =
     tie.close
     (tie.spec
-    wide32_requires
+    wide32-requires
     refused-requires
     returns
     refused-requires-2
-    returns_2
+    returns-2
     span-ok-requires
     refused-requires-3
-    returns_3
+    returns-3
     check-tables-requires
     refused-requires-4
     returns-4

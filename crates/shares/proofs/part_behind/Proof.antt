@@ -20,8 +20,8 @@ cells_are c =
     need_is (called c).args.at (called c).args.built _ _ c.before.wide322.ensures.0 c.width.ensures _
     c.before.before.wide32.ensures.0
 
-wide32_requires : tie.Need-wide32-requires
-wide32_requires c κs = search rules
+wide32-requires : tie.Need-wide32-requires
+wide32-requires c κs = search rules
 
 wide32-requires-2 : tie.Need-wide32-requires-2
 wide32-requires-2 c κs = search rules
@@ -57,17 +57,17 @@ add-t9 c = search rules
 
 returns : tie.Need-returns
 returns c =
-    let rows-read = c.before.before.before in
-    let need = rows-read.before.before in
+    let rows_read = c.before.before.before in
+    let need = rows_read.before.before in
     behind_is (called need).args.at (called need).args.built _ _ need.before.wide322.ensures.0
-    need.width.ensures _ need.before.before.wide32.ensures.0 _ _ rows-read.wide323.ensures.0
+    need.width.ensures _ need.before.before.wide32.ensures.0 _ _ rows_read.wide323.ensures.0
     c.before.wide324.ensures.0
 
 pub part-behind-spec : {M : Type 1} → statement M
 part-behind-spec =
     tie.close
     (tie.spec
-    wide32_requires
+    wide32-requires
     wide32-requires-2
     width-requires
     mul-need

@@ -5,8 +5,8 @@ use Rattle.model.specs.Tables.{row_length}
 use Rattle.tables.proofs.row_length.Statement.{statement}
 use Rattle.tables.proofs.row_length.Tie as tie
 
-wide32_requires : tie.Need-wide32-requires
-wide32_requires c κs = search rules
+wide32-requires : tie.Need-wide32-requires
+wide32-requires c κs = search rules
 
 mul-entry-at : tie.Need-overflow-mul-entry-at
 mul-entry-at c = search rules
@@ -32,7 +32,7 @@ pub row-length-spec : {M : Type 1} → statement M
 row-length-spec =
     tie.close
     (tie.spec
-    wide32_requires
+    wide32-requires
     mul-entry-at
     add-entry-at
     entry-at-requires

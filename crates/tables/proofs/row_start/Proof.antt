@@ -5,8 +5,8 @@ use Rattle.model.specs.Tables.{row_start}
 use Rattle.tables.proofs.row_start.Statement.{statement}
 use Rattle.tables.proofs.row_start.Tie as tie
 
-wide32_requires : tie.Need-wide32-requires
-wide32_requires c κs = search rules
+wide32-requires : tie.Need-wide32-requires
+wide32-requires c κs = search rules
 
 mul-entry-at : tie.Need-overflow-mul-entry-at
 mul-entry-at c = search rules
@@ -27,4 +27,4 @@ returns c =
 
 pub row-start-spec : {M : Type 1} → statement M
 row-start-spec =
-    tie.close (tie.spec wide32_requires mul-entry-at entry-at-requires wide32-requires-2 returns)
+    tie.close (tie.spec wide32-requires mul-entry-at entry-at-requires wide32-requires-2 returns)

@@ -5,8 +5,8 @@ use Rattle.model.specs.Tables.{row_verdict}
 use Rattle.tables.proofs.row_verdict.Statement.{statement}
 use Rattle.tables.proofs.row_verdict.Tie as tie
 
-wide32_requires : tie.Need-wide32-requires
-wide32_requires c κs = search rules
+wide32-requires : tie.Need-wide32-requires
+wide32-requires c κs = search rules
 
 mul-entry-at : tie.Need-overflow-mul-entry-at
 mul-entry-at c = search rules
@@ -26,7 +26,7 @@ pub row-verdict-spec : {M : Type 1} → statement M
 row-verdict-spec =
     tie.close
     (tie.spec
-    wide32_requires
+    wide32-requires
     mul-entry-at
     add-entry-at
     entry-at-requires

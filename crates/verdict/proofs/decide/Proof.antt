@@ -31,7 +31,7 @@ same_length c = search rules
 
 returns : tie.Need-returns
 returns c =
-    rw c.handed_on_lem.ensures
+    rw c.handed-on.ensures
     (unread _ _ _ _ _ _ _ _ _ _ _ (read c.before.before).read-rule.ensures c.before.if1.true)
 
 build-table-requires : tie.Need-build-table-requires
@@ -55,8 +55,8 @@ same-length-5 c = search rules
 same-length-6 : tie.Need-same-length-6
 same-length-6 c = search rules
 
-returns_2 : tie.Need-returns-2
-returns_2 c =
+returns-2 : tie.Need-returns-2
+returns-2 c =
     let table = made c.before.before in
     let rule = passed table in
     rw c.handed-on2.ensures
@@ -82,8 +82,8 @@ same-length-10 c = search rules
 same-length-11 : tie.Need-same-length-11
 same-length-11 c = search rules
 
-returns_3 : tie.Need-returns-3
-returns_3 c =
+returns-3 : tie.Need-returns-3
+returns-3 c =
     let table = made (roomed c).before in
     let rule = passed table in
     decided _ _ _ _ _ _ _ _ _ _ _ _ _ _ _ _ (read rule.before).read-rule.ensures rule.if1.left
@@ -107,11 +107,11 @@ decide-spec =
     same-length-4
     same-length-5
     same-length-6
-    returns_2
+    returns-2
     run-table-requires
     same-length-7
     same-length-8
     same-length-9
     same-length-10
     same-length-11
-    returns_3)
+    returns-3)

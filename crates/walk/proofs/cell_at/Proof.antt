@@ -23,8 +23,8 @@ read_at c = record {
   symbol_is = c.wide16.ensures.0;
 }
 
-wide32_requires : tie.Need-wide32-requires
-wide32_requires c κs = search rules
+wide32-requires : tie.Need-wide32-requires
+wide32-requires c κs = search rules
 
 mul-width : tie.Need-overflow-mul-width
 mul-width c = search rules
@@ -65,8 +65,8 @@ add-entry-at c = omega (arith, in_table (read_at c.before) _ c.if1.false)
 entry-at-requires : tie.Need-entry-at-requires
 entry-at-requires c κs = search rules
 
-returns_2 : tie.Need-returns-2
-returns_2 c =
+returns-2 : tie.Need-returns-2
+returns-2 c =
     let a = (given c.before.before).args in
     c.entry_at.ensures ∙ entry_is (read_at c.before.before) a.cells.now a.interval.0
 
@@ -74,7 +74,7 @@ pub cell-at-spec : {M : Type 1} → statement M
 cell-at-spec =
     tie.close
     (tie.spec
-    wide32_requires
+    wide32-requires
     mul-width
     add-width
     wide32-requires-2
@@ -87,4 +87,4 @@ cell-at-spec =
     mul-entry-at
     add-entry-at
     entry-at-requires
-    returns_2)
+    returns-2)

@@ -17,8 +17,8 @@ use Rattle.walk.proofs.run_table.Tie as tie
 abbrev lent : tie.Else1 → tie.Start
 lent c = c.before.before.before.before.before.before.before.before
 
-abbrev in_shape_lem : tie.Else2 → tie.Else1
-in_shape_lem c = c.before.before.before
+abbrev in-shape : tie.Else2 → tie.Else1
+in-shape c = c.before.before.before
 
 shaped :
     (c : tie.Else1)
@@ -28,14 +28,14 @@ shaped c = sym (number_is _ 0 c.before.before.check-table.ensures.answer_is) ∙
 
 spelt :
     (c : tie.Else2)
-    → let a = (lent (in_shape_lem c)).args in
+    → let a = (lent (in-shape c)).args in
     (word_refusal a.built.symbols a.grain most_events a.symbols.now a.stamps.now).number ≡ 0
 spelt c = sym (number_is _ 0 c.before.before.check-word.ensures.answer_is) ∙ c.if2.false
 
 -- the answer by the verdict of the row that is reached
 answers :
     (c : tie.After-verdict) (said : Bool) → c.verdict.result ≡ said
-    → let a = (lent (in_shape_lem c.before.before)).args in
+    → let a = (lent (in-shape c.before.before)).args in
     RunsTable a.built a.cells.now a.rows.now a.pool.now a.grain a.symbols.now a.stamps.now
     (record { number = 0; place = 0; value = one_if said })
 answers c said e =
@@ -60,8 +60,8 @@ cast-check-word c = search rules
 check-word-requires : tie.Need-check-word-requires
 check-word-requires c κs = search rules
 
-returns_2 : tie.Need-returns-2
-returns_2 c =
+returns-2 : tie.Need-returns-2
+returns-2 c =
     let word = c.before.before in
     let answer = word.check-word.ensures.answer_is in
     record { answer_is = word_refuses _ _ _ _ _ _ _ (shaped word.before) answer c.if2.true }
@@ -72,8 +72,8 @@ walk-all-requires c κs = counts_equal _ _ _ _ _ (spelt c)
 verdict-requires : tie.Need-verdict-requires
 verdict-requires c κs = search rules
 
-returns_3 : tie.Need-returns-3
-returns_3 c = answers c.before true c.if3.true
+returns-3 : tie.Need-returns-3
+returns-3 c = answers c.before true c.if3.true
 
 returns-4 : tie.Need-returns-4
 returns-4 c = answers c.before false c.if3.false
@@ -86,8 +86,8 @@ run-table-spec =
     returns
     cast-check-word
     check-word-requires
-    returns_2
+    returns-2
     walk-all-requires
     verdict-requires
-    returns_3
+    returns-3
     returns-4)

@@ -24,8 +24,8 @@ returns c = passed_all c.before.good-events.ensures.passed c.if1.true
 add-event : tie.Need-overflow-add-event
 add-event c = search rules
 
-wide32_requires : tie.Need-wide32-requires
-wide32_requires c κs = search rules
+wide32-requires : tie.Need-wide32-requires
+wide32-requires c κs = search rules
 
 mul-wide16 : tie.Need-overflow-mul-wide16
 mul-wide16 c = search rules
@@ -36,11 +36,11 @@ shared-slice-read-wide16 c = search rules
 wide16-requires : tie.Need-wide16-requires
 wide16-requires c κs = search rules
 
-returns_2 : tie.Need-returns-2
-returns_2 c = at_symbol (stopped c.before).passed (search rules) (search rules) (search rules)
+returns-2 : tie.Need-returns-2
+returns-2 c = at_symbol (stopped c.before).passed (search rules) (search rules) (search rules)
 
-returns_3 : tie.Need-returns-3
-returns_3 c =
+returns-3 : tie.Need-returns-3
+returns-3 c =
     let s = stopped c.before in
     at_stamp s.passed (search rules) (search rules) (search rules) (s.stamp_falls (search rules) (search rules))
 
@@ -51,9 +51,9 @@ check-events-spec =
     good-events-requires
     returns
     add-event
-    wide32_requires
+    wide32-requires
     mul-wide16
     shared-slice-read-wide16
     wide16-requires
-    returns_2
-    returns_3)
+    returns-2
+    returns-3)

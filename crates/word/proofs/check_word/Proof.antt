@@ -21,18 +21,18 @@ returns c =
     let grain = is_false c.before.grain-ok.ensures c.if1.true in
     record { answer_is = grain_refused _ _ _ _ _ grain }
 
-wide32_requires : tie.Need-wide32-requires
-wide32_requires c κs = search rules
+wide32-requires : tie.Need-wide32-requires
+wide32-requires c κs = search rules
 
-returns_2 : tie.Need-returns-2
-returns_2 c =
+returns-2 : tie.Need-returns-2
+returns-2 c =
     let grain = is_true c.before.before.grain-ok.ensures c.before.if1.false in
     ⊎_elim (λ w. record { answer_is = counts_differ _ _ _ _ _ grain w.taken })
     (λ w. record { answer_is = too_many _ _ _ _ _ grain (omega (arith, ltb-true)) })
     c.if2.branch
 
-returns_3 : tie.Need-returns-3
-returns_3 c =
+returns-3 : tie.Need-returns-3
+returns-3 c =
     let known = c.before.before.before.before in
     let grain = is_true known.before.grain-ok.ensures known.if1.false in
     record {
@@ -42,4 +42,4 @@ returns_3 c =
 pub check-word-spec : {M : Type 1} → statement M
 check-word-spec =
     tie.close
-    (tie.spec grain-ok-requires returns wide32_requires returns_2 check-events-requires returns_3)
+    (tie.spec grain-ok-requires returns wide32-requires returns-2 check-events-requires returns-3)

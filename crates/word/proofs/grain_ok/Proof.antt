@@ -10,8 +10,8 @@ cast-result c = search rules
 returns : tie.Need-returns
 returns c = grain_rest _ c.if1.true
 
-returns_2 : tie.Need-returns-2
-returns_2 c = grain_low _ c.if1.false
+returns-2 : tie.Need-returns-2
+returns-2 c = grain_low _ c.if1.false
 
 pub grain-ok-spec : {M : Type 1} → statement M
-grain-ok-spec = tie.close (tie.spec cast-result returns returns_2)
+grain-ok-spec = tie.close (tie.spec cast-result returns returns-2)

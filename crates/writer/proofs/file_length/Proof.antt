@@ -4,8 +4,8 @@ use borrow.Author.Rules.{rules}
 use Rattle.writer.proofs.file_length.Statement.{statement}
 use Rattle.writer.proofs.file_length.Tie as tie
 
-wide32_requires : tie.Need-wide32-requires
-wide32_requires c κs = search rules
+wide32-requires : tie.Need-wide32-requires
+wide32-requires c κs = search rules
 
 locations-in-requires : tie.Need-locations-in-requires
 locations-in-requires c κs = search rules
@@ -39,13 +39,13 @@ returns c =
     let starts = ends.before.before in
     let a = starts.before.before.before.args in
     whole_length a.head a.edges.now starts.before.wide32.ensures.0 ends.before.wide322.ensures.0
-    starts.locations_in.ensures.0 ends.locations-in2.ensures.0 c.edges_length.ensures.0
+    starts.locations-in.ensures.0 ends.locations-in2.ensures.0 c.edges-length.ensures.0
 
 pub file-length-spec : {M : Type 1} → statement M
 file-length-spec =
     tie.close
     (tie.spec
-    wide32_requires
+    wide32-requires
     locations-in-requires
     wide32-requires-2
     locations-in-requires-2

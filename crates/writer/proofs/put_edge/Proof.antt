@@ -48,7 +48,7 @@ put-numbers-requires-2 c κs =
     let kind = head.before.before in
     let text = kind.before in
     let start = text.before.before.before in
-    text_room start.args.edge.now start.requires.0 text.text_of.ensures kind.kind_of.ensures.0
+    text_room start.args.edge.now start.requires.0 text.text_of.ensures kind.kind-of.ensures.0
     head.put-start.ensures fields.put-numbers.ensures start.requires.2
 
 same_length : tie.Need-same-length
@@ -62,7 +62,7 @@ returns c =
     let kind = head.before.before in
     let text = kind.before in
     let start = text.before.before.before in
-    edge_put start.args.edge.now start.requires.0 text.text_of.ensures kind.kind_of.ensures.0
+    edge_put start.args.edge.now start.requires.0 text.text_of.ensures kind.kind-of.ensures.0
     head.put-start.ensures fields.put-numbers.ensures put.put-numbers2.ensures
 
 pub put-edge-spec : {M : Type 1} → statement M

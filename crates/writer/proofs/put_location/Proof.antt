@@ -30,8 +30,8 @@ returns c =
     put_as (location_in a.kind a.mask a.location tested.has-bit.ensures put.before.before.if1.true)
     put.put-single.ensures
 
-returns_2 : tie.Need-returns-2
-returns_2 c =
+returns-2 : tie.Need-returns-2
+returns-2 c =
     let tested = c.before in
     let a = tested.before.before.args in
     none_put_as a.out.now a.at
@@ -45,4 +45,4 @@ put-location-spec =
     put-single-requires
     same_length
     returns
-    returns_2)
+    returns-2)

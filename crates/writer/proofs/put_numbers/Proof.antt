@@ -10,53 +10,53 @@ use borrow.Author.Rules.{rules}
 use Rattle.writer.proofs.put_numbers.Statement.{statement}
 use Rattle.writer.proofs.put_numbers.Tie as tie
 
-abbrev invariant_loop : tie.invariant_loop
-invariant_loop out₀ at table next₀ i₀ out next i =
+abbrev invariant-loop : tie.invariant-loop
+invariant-loop out₀ at table next₀ i₀ out next i =
     (i ≤ length table) × Putting (numbers table) (numbers (drop i table)) out₀ at out next
 
-abbrev decreases_loop : tie.decreases_loop
-decreases_loop out₀ at table next₀ i₀ out next i = length table - i
+abbrev decreases-loop : tie.decreases-loop
+decreases-loop out₀ at table next₀ i₀ out next i = length table - i
 
-loop_holds : tie.Need-loop-init invariant_loop decreases_loop
-loop_holds c =
+loop-holds : tie.Need-loop-init invariant-loop decreases-loop
+loop-holds c =
     let a = c.before.before.args in
     let long = numbers_length a.table.now in
     (search rules, putting_start (numbers a.table.now) a.out.now a.at (omega arith))
 
-mul-wide16 : tie.Need-overflow-mul-wide16 invariant_loop decreases_loop
+mul-wide16 : tie.Need-overflow-mul-wide16 invariant-loop decreases-loop
 mul-wide16 c = search rules
 
-shared-slice-read-wide16 : tie.Need-shared-slice-read-wide16 invariant_loop decreases_loop
+shared-slice-read-wide16 : tie.Need-shared-slice-read-wide16 invariant-loop decreases-loop
 shared-slice-read-wide16 c = search rules
 
-wide16-requires : tie.Need-wide16-requires invariant_loop decreases_loop
+wide16-requires : tie.Need-wide16-requires invariant-loop decreases-loop
 wide16-requires c κs = search rules
 
-put-number-requires : tie.Need-put-number-requires invariant_loop decreases_loop
+put-number-requires : tie.Need-put-number-requires invariant-loop decreases-loop
 put-number-requires c κs =
     let l = c.before.before.before.before.loop in
     let a = c.before.before.before.before.before.before.before.args in
     (search rules, number_room a.table.now l.i l.invariant.1 (search rules))
 
-add-i : tie.Need-overflow-add-i invariant_loop decreases_loop
+add-i : tie.Need-overflow-add-i invariant-loop decreases-loop
 add-i c = search rules
 
-loop_less : tie.Need-loop-smaller invariant_loop decreases_loop
-loop_less c = search rules
+loop-less : tie.Need-loop-smaller invariant-loop decreases-loop
+loop-less c = search rules
 
-loop_again : tie.Need-loop-preserved invariant_loop decreases_loop
-loop_again c =
-    let put-number = c.before.before.put-number in
+loop-again : tie.Need-loop-preserved invariant-loop decreases-loop
+loop-again c =
+    let put_number = c.before.before.put-number in
     let wide16 = c.before.before.before.wide16 in
     let l = c.before.before.before.before.before.before.before.loop in
     let a = c.before.before.before.before.before.before.before.before.before.before.args in
     let here = wide16.ensures.0 in
-    (search rules, number_next a.table.now l.i l.invariant.1 (search rules) here put-number.ensures)
+    (search rules, number_next a.table.now l.i l.invariant.1 (search rules) here put_number.ensures)
 
-same_length : tie.Need-same-length invariant_loop decreases_loop
+same_length : tie.Need-same-length invariant-loop decreases-loop
 same_length c = c.before.loop.invariant.1.wide
 
-returns : tie.Need-returns invariant_loop decreases_loop
+returns : tie.Need-returns invariant-loop decreases-loop
 returns c =
     let l = c.before.loop in
     let a = c.before.before.before.before.args in
@@ -66,15 +66,15 @@ pub put-numbers-spec : {M : Type 1} → statement M
 put-numbers-spec =
     tie.close
     (tie.spec
-    invariant_loop
-    decreases_loop
-    loop_holds
+    invariant-loop
+    decreases-loop
+    loop-holds
     mul-wide16
     shared-slice-read-wide16
     wide16-requires
     put-number-requires
     add-i
-    loop_less
-    loop_again
+    loop-less
+    loop-again
     same_length
     returns)

@@ -38,8 +38,8 @@ ended_at c =
     let started = c.before.before.before.before.before in
     ends_put _ _ _ (started_at started) c.before.wide325.ensures.0 c.put-locations2.ensures
 
-wide32_requires : tie.Need-wide32-requires
-wide32_requires c κs = search rules
+wide32-requires : tie.Need-wide32-requires
+wide32-requires c κs = search rules
 
 wide32-requires-2 : tie.Need-wide32-requires-2
 wide32-requires-2 c κs = search rules
@@ -96,7 +96,7 @@ pub put-rule-spec : {M : Type 1} → statement M
 put-rule-spec =
     tie.close
     (tie.spec
-    wide32_requires
+    wide32-requires
     wide32-requires-2
     wide32-requires-3
     put-sizes-requires

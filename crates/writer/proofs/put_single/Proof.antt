@@ -15,9 +15,9 @@ same_length c = search rules
 
 returns : tie.Need-returns
 returns c =
-    let put-number = c.before.before.put-number in
-    let put-start = c.before.before.before.before.before.before.put-start in
-    then_put put-start.ensures put-number.ensures
+    let put_number = c.before.before.put-number in
+    let put_start = c.before.before.before.before.before.before.put-start in
+    then_put put_start.ensures put_number.ensures
 
 pub put-single-spec : {M : Type 1} → statement M
 put-single-spec = tie.close (tie.spec put-start-requires put-number-requires same_length returns)

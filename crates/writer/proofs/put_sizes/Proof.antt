@@ -21,13 +21,13 @@ same_length c = search rules
 
 returns : tie.Need-returns
 returns c =
-    let put-number3 = c.before.before.put-number3 in
-    let put-number2 = c.before.before.before.before.before.before.put-number2 in
+    let put_number3 = c.before.before.put-number3 in
+    let put_number2 = c.before.before.before.before.before.before.put-number2 in
     let back = c.before.before.before.before.before.before.before.before.before in
-    let put-number = back.before.put-number in
-    let put-start = back.before.before.before.before.before.put-start in
-    then_put put-start.ensures
-    (then_put put-number.ensures (then_put put-number2.ensures put-number3.ensures))
+    let put_number = back.before.put-number in
+    let put_start = back.before.before.before.before.before.put-start in
+    then_put put_start.ensures
+    (then_put put_number.ensures (then_put put_number2.ensures put_number3.ensures))
 
 pub put-sizes-spec : {M : Type 1} → statement M
 put-sizes-spec =

@@ -15,9 +15,9 @@ same_length c = search rules
 
 returns : tie.Need-returns
 returns c =
-    let put-number2 = c.before.before.put-number2 in
-    let put-number = c.before.before.before.before.before.before.put-number in
-    then_put put-number.ensures put-number2.ensures
+    let put_number2 = c.before.before.put-number2 in
+    let put_number = c.before.before.before.before.before.before.put-number in
+    then_put put_number.ensures put_number2.ensures
 
 pub put-start-spec : {M : Type 1} → statement M
 put-start-spec = tie.close (tie.spec put-number-requires put-number-requires-2 same_length returns)

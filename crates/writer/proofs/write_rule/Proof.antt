@@ -20,13 +20,13 @@ file-length-requires c κs =
     let a = checked.before.before.before.args in
     is_writable a.head a.edges.now checked.check-rule.ensures c.if1.false
 
-returns_2 : tie.Need-returns-2
-returns_2 c =
+returns-2 : tie.Need-returns-2
+returns-2 c =
     let passed = c.before.before in
     let checked = passed.before.before in
     let a = checked.before.before.before.args in
     writes_short a.head a.edges.now a.out.now checked.check-rule.ensures passed.if1.false
-    (omega (arith, c.if2.true, c.before.file_length.ensures))
+    (omega (arith, c.if2.true, c.before.file-length.ensures))
 
 put-rule-requires : tie.Need-put-rule-requires
 put-rule-requires c κs =
@@ -35,21 +35,21 @@ put-rule-requires c κs =
     let a = checked.before.before.before.args in
     record {
       writable = is_writable a.head a.edges.now checked.check-rule.ensures passed.if1.false;
-      room = omega (arith, c.before.if2.false, c.before.before.file_length.ensures);
+      room = omega (arith, c.before.if2.false, c.before.before.file-length.ensures);
     }
 
 same_length : tie.Need-same-length
 same_length c = search rules
 
-returns_3 : tie.Need-returns-3
-returns_3 c =
+returns-3 : tie.Need-returns-3
+returns-3 c =
     let put = c.before.before in
     let fits = put.before.before in
     let passed = fits.before.before in
     let checked = passed.before.before in
     let a = checked.before.before.before.args in
     writes_file a.head a.edges.now a.out.now checked.check-rule.ensures passed.if1.false
-    (omega (arith, fits.if2.false, fits.before.file_length.ensures)) put.put-rule.ensures
+    (omega (arith, fits.if2.false, fits.before.file-length.ensures)) put.put-rule.ensures
 
 pub write-rule-spec : {M : Type 1} → statement M
 write-rule-spec =
@@ -58,7 +58,7 @@ write-rule-spec =
     check-rule-requires
     returns
     file-length-requires
-    returns_2
+    returns-2
     put-rule-requires
     same_length
-    returns_3)
+    returns-3)

@@ -21,8 +21,8 @@ lowest-leaving-requires c κs =
     let begins = c.before.before.before.before.before.before.requires.0 in
     (begins.clocks_most, begins.edges_most, omega (arith, c.shared-slice-known5.given 0))
 
-returns_2 : tie.Need-returns-2
-returns_2 c =
+returns-2 : tie.Need-returns-2
+returns-2 c =
     let some = c.before.before.before in
     let start = some.before.before.before.before in
     let a = start.args in
@@ -39,4 +39,4 @@ held-back-spec =
     shared-slice-read-lowest-leaving
     shared-slice-read-t11
     lowest-leaving-requires
-    returns_2)
+    returns-2)

@@ -11,8 +11,8 @@ source-of-requires c κs = search rules
 cast-has-location : tie.Need-overflow-cast-has-location
 cast-has-location c = search rules
 
-has_location_requires : tie.Need-has-location-requires
-has_location_requires c κs = search rules
+has-location-requires : tie.Need-has-location-requires
+has-location-requires c κs = search rules
 
 returns : tie.Need-returns
 returns c =
@@ -29,8 +29,8 @@ symbol-of-requires c κs = search rules
 wide16-requires : tie.Need-wide16-requires
 wide16-requires c κs = search rules
 
-returns_2 : tie.Need-returns-2
-returns_2 c =
+returns-2 : tie.Need-returns-2
+returns-2 c =
     let test = c.before.before in
     let asked = test.before in
     let source = asked.before in
@@ -39,7 +39,7 @@ returns_2 c =
     source.source_of.ensures.0
     asked.has-location.ensures
     test.if1.false
-    c.before.symbol_of.ensures.0
+    c.before.symbol-of.ensures.0
     c.wide16.ensures.0
 
 pub leaves-some-spec : {M : Type 1} → statement M
@@ -48,8 +48,8 @@ leaves-some-spec =
     (tie.spec
     source-of-requires
     cast-has-location
-    has_location_requires
+    has-location-requires
     returns
     symbol-of-requires
     wide16-requires
-    returns_2)
+    returns-2)

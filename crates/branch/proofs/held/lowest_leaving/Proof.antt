@@ -11,16 +11,16 @@ use Rattle.branch.proofs.Lowest.{lowest_from, Asking, asking, asking_next, askin
 use Rattle.branch.proofs.held.lowest_leaving.Statement.{statement}
 use Rattle.branch.proofs.held.lowest_leaving.Tie as tie
 
-abbrev invariant_loop : tie.invariant_loop
-invariant_loop head edges grain symbol by count e₀ e =
+abbrev invariant-loop : tie.invariant-loop
+invariant-loop head edges grain symbol by count e₀ e =
     (count ≤ most_edges) × Asking head.starts symbol count grain edges by e
 
-abbrev decreases_loop : tie.decreases_loop
-decreases_loop head edges grain symbol by count e₀ e = count - e
+abbrev decreases-loop : tie.decreases-loop
+decreases-loop head edges grain symbol by count e₀ e = count - e
 
 -- what the edges answer over the readings is what they answer over the first event's ages
 told :
-    (c : tie.After-part-of invariant_loop decreases_loop) (g : Guard)
+    (c : tie.After-part-of invariant-loop decreases-loop) (g : Guard)
     → let a = c.before.before.before.before.before.before.before.before.before.args in
     g
     ≡ lowest_from a.head.starts a.symbol a.head.count a.grain a.edges.now c.part_of.result.now 0
@@ -39,7 +39,7 @@ told c g e =
     lowest_is a.head a.edges.now a.grain a.symbol a.stamp.0 a.head.count _ _ _ _ _ _ g
     start.requires.0
     start.requires.2
-    from.start_at.ensures.1
+    from.start-at.ensures.1
     since.since.ensures
     waited.after-delay.ensures
     read.readings.ensures
@@ -48,59 +48,59 @@ told c g e =
     refl
     e
 
-start-at-requires : tie.Need-start-at-requires invariant_loop decreases_loop
+start-at-requires : tie.Need-start-at-requires invariant-loop decreases-loop
 start-at-requires c κs = search rules
 
-since_requires : tie.Need-since-requires invariant_loop decreases_loop
-since_requires c κs = search rules
+since-requires : tie.Need-since-requires invariant-loop decreases-loop
+since-requires c κs = search rules
 
-after_delay_requires : tie.Need-after-delay-requires invariant_loop decreases_loop
-after_delay_requires c κs = search rules
+after-delay-requires : tie.Need-after-delay-requires invariant-loop decreases-loop
+after-delay-requires c κs = search rules
 
-readings_requires : tie.Need-readings-requires invariant_loop decreases_loop
-readings_requires c κs = search rules
+readings-requires : tie.Need-readings-requires invariant-loop decreases-loop
+readings-requires c κs = search rules
 
-slice_aggregate_part_of : tie.Need-slice-aggregate-part-of invariant_loop decreases_loop
-slice_aggregate_part_of c = search rules
+slice-aggregate-part-of : tie.Need-slice-aggregate-part-of invariant-loop decreases-loop
+slice-aggregate-part-of c = search rules
 
-wide32_requires : tie.Need-wide32-requires invariant_loop decreases_loop
-wide32_requires c κs = search rules
+wide32-requires : tie.Need-wide32-requires invariant-loop decreases-loop
+wide32-requires c κs = search rules
 
-part_of_requires : tie.Need-part-of-requires invariant_loop decreases_loop
-part_of_requires c κs = search rules
+part-of-requires : tie.Need-part-of-requires invariant-loop decreases-loop
+part-of-requires c κs = search rules
 
-loop_holds : tie.Need-loop-init invariant_loop decreases_loop
-loop_holds c = (c.before.before.before.before.before.before.before.before.before.requires.1, asking _ _ _ _ _ _)
+loop-holds : tie.Need-loop-init invariant-loop decreases-loop
+loop-holds c = (c.before.before.before.before.before.before.before.before.before.requires.1, asking _ _ _ _ _ _)
 
-leaves-some-requires : tie.Need-leaves-some-requires invariant_loop decreases_loop
+leaves-some-requires : tie.Need-leaves-some-requires invariant-loop decreases-loop
 leaves-some-requires c κs = search rules
 
-guard-of-requires : tie.Need-guard-of-requires invariant_loop decreases_loop
+guard-of-requires : tie.Need-guard-of-requires invariant-loop decreases-loop
 guard-of-requires c κs = search rules
 
-returns : tie.Need-returns invariant_loop decreases_loop
+returns : tie.Need-returns invariant-loop decreases-loop
 returns c =
     let left = c.before.before in
     let at = left.before.before in
     told at.before _
     (asking_found _ _ _ _ _ _ at.loop.invariant.1 left.before.loop-test.true _ left.leaves-some.ensures _
-    c.before.if1.true c.guard_of_lem.ensures)
+    c.before.if1.true c.guard-of.ensures)
 
-add_e : tie.Need-overflow-add-e invariant_loop decreases_loop
-add_e c = search rules
+add-e : tie.Need-overflow-add-e invariant-loop decreases-loop
+add-e c = search rules
 
-loop_less : tie.Need-loop-smaller invariant_loop decreases_loop
-loop_less c = search rules
+loop-less : tie.Need-loop-smaller invariant-loop decreases-loop
+loop-less c = search rules
 
-loop_again : tie.Need-loop-preserved invariant_loop decreases_loop
-loop_again c =
+loop-again : tie.Need-loop-preserved invariant-loop decreases-loop
+loop-again c =
     let at = c.before.before.before in
     let next =
     asking_next _ _ _ _ _ _ at.loop.invariant.1 (search rules) _ c.before.leaves-some.ensures c.if1.false in
     (at.loop.invariant.0, next)
 
-returns_2 : tie.Need-returns-2 invariant_loop decreases_loop
-returns_2 c =
+returns-2 : tie.Need-returns-2 invariant-loop decreases-loop
+returns-2 c =
     let at = c.before in
     told at.before _ (asking_none _ _ _ _ _ _ at.loop.invariant.1 c.loop-test.false)
 
@@ -108,20 +108,20 @@ pub lowest-leaving-spec : {M : Type 1} → statement M
 lowest-leaving-spec =
     tie.close
     (tie.spec
-    invariant_loop
-    decreases_loop
+    invariant-loop
+    decreases-loop
     start-at-requires
-    since_requires
-    after_delay_requires
-    readings_requires
-    slice_aggregate_part_of
-    wide32_requires
-    part_of_requires
-    loop_holds
+    since-requires
+    after-delay-requires
+    readings-requires
+    slice-aggregate-part-of
+    wide32-requires
+    part-of-requires
+    loop-holds
     leaves-some-requires
     guard-of-requires
     returns
-    add_e
-    loop_less
-    loop_again
-    returns_2)
+    add-e
+    loop-less
+    loop-again
+    returns-2)

@@ -10,35 +10,35 @@ use Rattle.checks.proofs.PinLaws.{atom_here, pass_clock, pass_relation, pass_con
 use Rattle.checks.proofs.grouped.has_atom.Statement.{statement}
 use Rattle.checks.proofs.grouped.has_atom.Tie as tie
 
-abbrev invariant_loop : tie.invariant_loop
-invariant_loop text clock relation constant at₀ at =
+abbrev invariant-loop : tie.invariant-loop
+invariant-loop text clock relation constant at₀ at =
     Left (has_atom clock relation constant) outermost text at (has_atom clock relation constant (outermost text))
 
-abbrev decreases_loop : tie.decreases_loop
-decreases_loop text clock relation constant at₀ at = length text + 1 - at
+abbrev decreases-loop : tie.decreases-loop
+decreases-loop text clock relation constant at₀ at = length text + 1 - at
 
-outer-atom-requires : tie.Need-outer-atom-requires invariant_loop decreases_loop
+outer-atom-requires : tie.Need-outer-atom-requires invariant-loop decreases-loop
 outer-atom-requires c κs = search rules
 
-loop_holds : tie.Need-loop-init invariant_loop decreases_loop
-loop_holds c = left_start _ _ _ _ c.outer-atom.ensures
+loop-holds : tie.Need-loop-init invariant-loop decreases-loop
+loop-holds c = left_start _ _ _ _ c.outer-atom.ensures
 
-number-at-requires : tie.Need-number-at-requires invariant_loop decreases_loop
+number-at-requires : tie.Need-number-at-requires invariant-loop decreases-loop
 number-at-requires c κs = search rules
 
-add-number-at : tie.Need-overflow-add-number-at invariant_loop decreases_loop
+add-number-at : tie.Need-overflow-add-number-at invariant-loop decreases-loop
 add-number-at c = search rules
 
-number-at-requires-2 : tie.Need-number-at-requires-2 invariant_loop decreases_loop
+number-at-requires-2 : tie.Need-number-at-requires-2 invariant-loop decreases-loop
 number-at-requires-2 c κs = search rules
 
-add-number-at-2 : tie.Need-overflow-add-number-at-2 invariant_loop decreases_loop
+add-number-at-2 : tie.Need-overflow-add-number-at-2 invariant-loop decreases-loop
 add-number-at-2 c = search rules
 
-number-at-requires-3 : tie.Need-number-at-requires-3 invariant_loop decreases_loop
+number-at-requires-3 : tie.Need-number-at-requires-3 invariant-loop decreases-loop
 number-at-requires-3 c κs = search rules
 
-returns : tie.Need-returns invariant_loop decreases_loop
+returns : tie.Need-returns invariant-loop decreases-loop
 returns c =
     let same_relation = c.before.before in
     let same_clock = same_relation.before.before in
@@ -47,41 +47,41 @@ returns c =
     same_relation.before.number-at2.ensures.0 same_relation.if2.true _ c.before.number-at3.ensures.0
     (left_first inside.before.loop.invariant inside.loop-test.true) c.if3.true
 
-add-outer-atom : tie.Need-overflow-add-outer-atom invariant_loop decreases_loop
+add-outer-atom : tie.Need-overflow-add-outer-atom invariant-loop decreases-loop
 add-outer-atom c = search rules
 
-outer-atom-requires-2 : tie.Need-outer-atom-requires-2 invariant_loop decreases_loop
+outer-atom-requires-2 : tie.Need-outer-atom-requires-2 invariant-loop decreases-loop
 outer-atom-requires-2 c κs = search rules
 
-loop_less : tie.Need-loop-smaller invariant_loop decreases_loop
-loop_less c =
+loop-less : tie.Need-loop-smaller invariant-loop decreases-loop
+loop-less c =
     left_less _ _ _ _ c.before.before.before.loop-test.true c.outer-atom2.ensures
 
-loop_again : tie.Need-loop-preserved invariant_loop decreases_loop
-loop_again c =
+loop-again : tie.Need-loop-preserved invariant-loop decreases-loop
+loop-again c =
     let first = c.before.before in
     let inv = first.before.before.loop.invariant in
     let h = first.before.loop-test.true in
-    let x-is = first.number_at.ensures.0 in
+    let x_is = first.number_at.ensures.0 in
     left_on inv _ h c.outer-atom2.ensures
     (⊎_elim
     (λ w.
-    pass_constant _ _ _ _ _ _ x-is w.0.taken _ w.1.ensures.0 w.2.taken _ w.3.ensures.0 w.4.left)
-    (⊎_elim (λ w. pass_relation _ _ _ _ _ _ x-is w.0.taken _ w.1.ensures.0 w.2.left)
-    (λ w. pass_clock _ _ _ _ _ _ x-is w.left))
+    pass_constant _ _ _ _ _ _ x_is w.0.taken _ w.1.ensures.0 w.2.taken _ w.3.ensures.0 w.4.left)
+    (⊎_elim (λ w. pass_relation _ _ _ _ _ _ x_is w.0.taken _ w.1.ensures.0 w.2.left)
+    (λ w. pass_clock _ _ _ _ _ _ x_is w.left))
     c.before.if1.branch)
 
-returns_2 : tie.Need-returns-2 invariant_loop decreases_loop
-returns_2 c = left_end c.before.loop.invariant c.loop-test.false
+returns-2 : tie.Need-returns-2 invariant-loop decreases-loop
+returns-2 c = left_end c.before.loop.invariant c.loop-test.false
 
 pub has-atom-spec : {M : Type 1} → statement M
 has-atom-spec =
     tie.close
     (tie.spec
-    invariant_loop
-    decreases_loop
+    invariant-loop
+    decreases-loop
     outer-atom-requires
-    loop_holds
+    loop-holds
     number-at-requires
     add-number-at
     number-at-requires-2
@@ -90,6 +90,6 @@ has-atom-spec =
     returns
     add-outer-atom
     outer-atom-requires-2
-    loop_less
-    loop_again
-    returns_2)
+    loop-less
+    loop-again
+    returns-2)

@@ -9,38 +9,38 @@ use Rattle.checks.proofs.PinLaws.{pin_here, no_pin}
 use Rattle.checks.proofs.grouped.is_pinned.Statement.{statement}
 use Rattle.checks.proofs.grouped.is_pinned.Tie as tie
 
-abbrev invariant_loop : tie.invariant_loop
-invariant_loop text place₀ place =
+abbrev invariant-loop : tie.invariant-loop
+invariant-loop text place₀ place =
     Left (any_pins (outermost text)) outermost text place (is_pinned (outermost text))
 
-abbrev decreases_loop : tie.decreases_loop
-decreases_loop text place₀ place = length text + 1 - place
+abbrev decreases-loop : tie.decreases-loop
+decreases-loop text place₀ place = length text + 1 - place
 
-outer-atom-requires : tie.Need-outer-atom-requires invariant_loop decreases_loop
+outer-atom-requires : tie.Need-outer-atom-requires invariant-loop decreases-loop
 outer-atom-requires c κs = search rules
 
-loop_holds : tie.Need-loop-init invariant_loop decreases_loop
-loop_holds c = left_start _ _ _ _ c.outer-atom.ensures
+loop-holds : tie.Need-loop-init invariant-loop decreases-loop
+loop-holds c = left_start _ _ _ _ c.outer-atom.ensures
 
-number-at-requires : tie.Need-number-at-requires invariant_loop decreases_loop
+number-at-requires : tie.Need-number-at-requires invariant-loop decreases-loop
 number-at-requires c κs = search rules
 
-add-number-at : tie.Need-overflow-add-number-at invariant_loop decreases_loop
+add-number-at : tie.Need-overflow-add-number-at invariant-loop decreases-loop
 add-number-at c = search rules
 
-number-at-requires-2 : tie.Need-number-at-requires-2 invariant_loop decreases_loop
+number-at-requires-2 : tie.Need-number-at-requires-2 invariant-loop decreases-loop
 number-at-requires-2 c κs = search rules
 
-add-number-at-2 : tie.Need-overflow-add-number-at-2 invariant_loop decreases_loop
+add-number-at-2 : tie.Need-overflow-add-number-at-2 invariant-loop decreases-loop
 add-number-at-2 c = search rules
 
-number-at-requires-3 : tie.Need-number-at-requires-3 invariant_loop decreases_loop
+number-at-requires-3 : tie.Need-number-at-requires-3 invariant-loop decreases-loop
 number-at-requires-3 c κs = search rules
 
-pins-requires : tie.Need-pins-requires invariant_loop decreases_loop
+pins-requires : tie.Need-pins-requires invariant-loop decreases-loop
 pins-requires c κs = search rules
 
-returns : tie.Need-returns invariant_loop decreases_loop
+returns : tie.Need-returns invariant-loop decreases-loop
 returns c =
     let asked = c.before in
     let third = asked.before in
@@ -49,18 +49,18 @@ returns c =
     pin_here _ _ _ asked.pins.ensures first.number_at.ensures.0 third.before.number-at2.ensures.0
     third.number-at3.ensures.0 (left_first inside.before.loop.invariant inside.loop-test.true) c.if1.true
 
-add-outer-atom : tie.Need-overflow-add-outer-atom invariant_loop decreases_loop
+add-outer-atom : tie.Need-overflow-add-outer-atom invariant-loop decreases-loop
 add-outer-atom c = search rules
 
-outer-atom-requires-2 : tie.Need-outer-atom-requires-2 invariant_loop decreases_loop
+outer-atom-requires-2 : tie.Need-outer-atom-requires-2 invariant-loop decreases-loop
 outer-atom-requires-2 c κs = search rules
 
-loop_less : tie.Need-loop-smaller invariant_loop decreases_loop
-loop_less c =
+loop-less : tie.Need-loop-smaller invariant-loop decreases-loop
+loop-less c =
     left_less _ _ _ _ c.before.before.before.before.before.before.loop-test.true c.outer-atom2.ensures
 
-loop_again : tie.Need-loop-preserved invariant_loop decreases_loop
-loop_again c =
+loop-again : tie.Need-loop-preserved invariant-loop decreases-loop
+loop-again c =
     let asked = c.before.before in
     let third = asked.before in
     let first = third.before.before in
@@ -69,17 +69,17 @@ loop_again c =
     (no_pin _ _ _ asked.pins.ensures first.number_at.ensures.0 third.before.number-at2.ensures.0
     third.number-at3.ensures.0 c.before.if1.false)
 
-returns_2 : tie.Need-returns-2 invariant_loop decreases_loop
-returns_2 c = left_end c.before.loop.invariant c.loop-test.false
+returns-2 : tie.Need-returns-2 invariant-loop decreases-loop
+returns-2 c = left_end c.before.loop.invariant c.loop-test.false
 
 pub is-pinned-spec : {M : Type 1} → statement M
 is-pinned-spec =
     tie.close
     (tie.spec
-    invariant_loop
-    decreases_loop
+    invariant-loop
+    decreases-loop
     outer-atom-requires
-    loop_holds
+    loop-holds
     number-at-requires
     add-number-at
     number-at-requires-2
@@ -89,6 +89,6 @@ is-pinned-spec =
     returns
     add-outer-atom
     outer-atom-requires-2
-    loop_less
-    loop_again
-    returns_2)
+    loop-less
+    loop-again
+    returns-2)

@@ -10,53 +10,53 @@ use Rattle.checks.proofs.PinLaws.{atom_here, pass_clock, pass_relation, pass_con
 use Rattle.checks.proofs.plain.has_atom.Statement.{statement}
 use Rattle.checks.proofs.plain.has_atom.Tie as tie
 
-abbrev invariant_loop : tie.invariant_loop
-invariant_loop text clock relation constant at₀ at =
+abbrev invariant-loop : tie.invariant-loop
+invariant-loop text clock relation constant at₀ at =
     PlainLeft (has_atom clock relation constant) text at (has_atom clock relation constant (plain_atoms text))
 
-abbrev decreases_loop : tie.decreases_loop
-decreases_loop text clock relation constant at₀ at = length text - at
+abbrev decreases-loop : tie.decreases-loop
+decreases-loop text clock relation constant at₀ at = length text - at
 
-loop_holds : tie.Need-loop-init invariant_loop decreases_loop
-loop_holds c = plain_start _ _
+loop-holds : tie.Need-loop-init invariant-loop decreases-loop
+loop-holds c = plain_start _ _
 
-sub-loop : tie.Need-overflow-sub-loop invariant_loop decreases_loop
+sub-loop : tie.Need-overflow-sub-loop invariant-loop decreases-loop
 sub-loop c = search rules
 
-mul-wide16 : tie.Need-overflow-mul-wide16 invariant_loop decreases_loop
+mul-wide16 : tie.Need-overflow-mul-wide16 invariant-loop decreases-loop
 mul-wide16 c = search rules
 
-shared-slice-read-wide16 : tie.Need-shared-slice-read-wide16 invariant_loop decreases_loop
+shared-slice-read-wide16 : tie.Need-shared-slice-read-wide16 invariant-loop decreases-loop
 shared-slice-read-wide16 c = search rules
 
-wide16-requires : tie.Need-wide16-requires invariant_loop decreases_loop
+wide16-requires : tie.Need-wide16-requires invariant-loop decreases-loop
 wide16-requires c κs = search rules
 
-add-wide16 : tie.Need-overflow-add-wide16 invariant_loop decreases_loop
+add-wide16 : tie.Need-overflow-add-wide16 invariant-loop decreases-loop
 add-wide16 c = search rules
 
-mul-wide16-2 : tie.Need-overflow-mul-wide16-2 invariant_loop decreases_loop
+mul-wide16-2 : tie.Need-overflow-mul-wide16-2 invariant-loop decreases-loop
 mul-wide16-2 c = search rules
 
-shared-slice-read-wide16-2 : tie.Need-shared-slice-read-wide16-2 invariant_loop decreases_loop
+shared-slice-read-wide16-2 : tie.Need-shared-slice-read-wide16-2 invariant-loop decreases-loop
 shared-slice-read-wide16-2 c = search rules
 
-wide16-requires-2 : tie.Need-wide16-requires-2 invariant_loop decreases_loop
+wide16-requires-2 : tie.Need-wide16-requires-2 invariant-loop decreases-loop
 wide16-requires-2 c κs = search rules
 
-add-wide16-2 : tie.Need-overflow-add-wide16-2 invariant_loop decreases_loop
+add-wide16-2 : tie.Need-overflow-add-wide16-2 invariant-loop decreases-loop
 add-wide16-2 c = search rules
 
-mul-wide16-3 : tie.Need-overflow-mul-wide16-3 invariant_loop decreases_loop
+mul-wide16-3 : tie.Need-overflow-mul-wide16-3 invariant-loop decreases-loop
 mul-wide16-3 c = search rules
 
-shared-slice-read-wide16-3 : tie.Need-shared-slice-read-wide16-3 invariant_loop decreases_loop
+shared-slice-read-wide16-3 : tie.Need-shared-slice-read-wide16-3 invariant-loop decreases-loop
 shared-slice-read-wide16-3 c = search rules
 
-wide16-requires-3 : tie.Need-wide16-requires-3 invariant_loop decreases_loop
+wide16-requires-3 : tie.Need-wide16-requires-3 invariant-loop decreases-loop
 wide16-requires-3 c κs = search rules
 
-returns : tie.Need-returns invariant_loop decreases_loop
+returns : tie.Need-returns invariant-loop decreases-loop
 returns c =
     let same_relation = c.before.before.before in
     let same_clock = same_relation.before.before.before in
@@ -65,35 +65,35 @@ returns c =
     same_relation.before.wide162.ensures.0 same_relation.if2.true _ c.before.wide163.ensures.0
     (plain_first inside.before.loop.invariant inside.loop-test.true) c.if3.true
 
-add_at : tie.Need-overflow-add-at invariant_loop decreases_loop
+add_at : tie.Need-overflow-add-at invariant-loop decreases-loop
 add_at c = search rules
 
-loop_less : tie.Need-loop-smaller invariant_loop decreases_loop
-loop_less c = search rules
+loop-less : tie.Need-loop-smaller invariant-loop decreases-loop
+loop-less c = search rules
 
-loop_again : tie.Need-loop-preserved invariant_loop decreases_loop
-loop_again c =
+loop-again : tie.Need-loop-preserved invariant-loop decreases-loop
+loop-again c =
     let first = c.before in
     let inside = first.before.before in
-    let x-is = first.wide16.ensures.0 in
+    let x_is = first.wide16.ensures.0 in
     plain_pass inside.before.loop.invariant inside.loop-test.true
     (⊎_elim
     (λ w.
-    pass_constant _ _ _ _ _ _ x-is w.0.taken _ w.2.ensures.0 w.3.taken _ w.5.ensures.0 w.6.left)
-    (⊎_elim (λ w. pass_relation _ _ _ _ _ _ x-is w.0.taken _ w.2.ensures.0 w.3.left)
-    (λ w. pass_clock _ _ _ _ _ _ x-is w.left))
+    pass_constant _ _ _ _ _ _ x_is w.0.taken _ w.2.ensures.0 w.3.taken _ w.5.ensures.0 w.6.left)
+    (⊎_elim (λ w. pass_relation _ _ _ _ _ _ x_is w.0.taken _ w.2.ensures.0 w.3.left)
+    (λ w. pass_clock _ _ _ _ _ _ x_is w.left))
     c.if1.branch)
 
-returns_2 : tie.Need-returns-2 invariant_loop decreases_loop
-returns_2 c = plain_end c.before.loop.invariant c.loop-test.false
+returns-2 : tie.Need-returns-2 invariant-loop decreases-loop
+returns-2 c = plain_end c.before.loop.invariant c.loop-test.false
 
 pub has-atom-spec : {M : Type 1} → statement M
 has-atom-spec =
     tie.close
     (tie.spec
-    invariant_loop
-    decreases_loop
-    loop_holds
+    invariant-loop
+    decreases-loop
+    loop-holds
     sub-loop
     mul-wide16
     shared-slice-read-wide16
@@ -108,6 +108,6 @@ has-atom-spec =
     wide16-requires-3
     returns
     add_at
-    loop_less
-    loop_again
-    returns_2)
+    loop-less
+    loop-again
+    returns-2)

@@ -9,55 +9,55 @@ use Rattle.checks.proofs.PinLaws.{pin_here, no_pin}
 use Rattle.checks.proofs.plain.is_pinned.Statement.{statement}
 use Rattle.checks.proofs.plain.is_pinned.Tie as tie
 
-abbrev invariant_loop : tie.invariant_loop
-invariant_loop text at₀ at = PlainLeft (any_pins (plain_atoms text)) text at (is_pinned (plain_atoms text))
+abbrev invariant-loop : tie.invariant-loop
+invariant-loop text at₀ at = PlainLeft (any_pins (plain_atoms text)) text at (is_pinned (plain_atoms text))
 
-abbrev decreases_loop : tie.decreases_loop
-decreases_loop text at₀ at = length text - at
+abbrev decreases-loop : tie.decreases-loop
+decreases-loop text at₀ at = length text - at
 
-loop_holds : tie.Need-loop-init invariant_loop decreases_loop
-loop_holds c = plain_start _ _
+loop-holds : tie.Need-loop-init invariant-loop decreases-loop
+loop-holds c = plain_start _ _
 
-sub-loop : tie.Need-overflow-sub-loop invariant_loop decreases_loop
+sub-loop : tie.Need-overflow-sub-loop invariant-loop decreases-loop
 sub-loop c = search rules
 
-mul-wide16 : tie.Need-overflow-mul-wide16 invariant_loop decreases_loop
+mul-wide16 : tie.Need-overflow-mul-wide16 invariant-loop decreases-loop
 mul-wide16 c = search rules
 
-shared-slice-read-wide16 : tie.Need-shared-slice-read-wide16 invariant_loop decreases_loop
+shared-slice-read-wide16 : tie.Need-shared-slice-read-wide16 invariant-loop decreases-loop
 shared-slice-read-wide16 c = search rules
 
-wide16-requires : tie.Need-wide16-requires invariant_loop decreases_loop
+wide16-requires : tie.Need-wide16-requires invariant-loop decreases-loop
 wide16-requires c κs = search rules
 
-add-wide16 : tie.Need-overflow-add-wide16 invariant_loop decreases_loop
+add-wide16 : tie.Need-overflow-add-wide16 invariant-loop decreases-loop
 add-wide16 c = search rules
 
-mul-wide16-2 : tie.Need-overflow-mul-wide16-2 invariant_loop decreases_loop
+mul-wide16-2 : tie.Need-overflow-mul-wide16-2 invariant-loop decreases-loop
 mul-wide16-2 c = search rules
 
-shared-slice-read-wide16-2 : tie.Need-shared-slice-read-wide16-2 invariant_loop decreases_loop
+shared-slice-read-wide16-2 : tie.Need-shared-slice-read-wide16-2 invariant-loop decreases-loop
 shared-slice-read-wide16-2 c = search rules
 
-wide16-requires-2 : tie.Need-wide16-requires-2 invariant_loop decreases_loop
+wide16-requires-2 : tie.Need-wide16-requires-2 invariant-loop decreases-loop
 wide16-requires-2 c κs = search rules
 
-add-wide16-2 : tie.Need-overflow-add-wide16-2 invariant_loop decreases_loop
+add-wide16-2 : tie.Need-overflow-add-wide16-2 invariant-loop decreases-loop
 add-wide16-2 c = search rules
 
-mul-wide16-3 : tie.Need-overflow-mul-wide16-3 invariant_loop decreases_loop
+mul-wide16-3 : tie.Need-overflow-mul-wide16-3 invariant-loop decreases-loop
 mul-wide16-3 c = search rules
 
-shared-slice-read-wide16-3 : tie.Need-shared-slice-read-wide16-3 invariant_loop decreases_loop
+shared-slice-read-wide16-3 : tie.Need-shared-slice-read-wide16-3 invariant-loop decreases-loop
 shared-slice-read-wide16-3 c = search rules
 
-wide16-requires-3 : tie.Need-wide16-requires-3 invariant_loop decreases_loop
+wide16-requires-3 : tie.Need-wide16-requires-3 invariant-loop decreases-loop
 wide16-requires-3 c κs = search rules
 
-pins-requires : tie.Need-pins-requires invariant_loop decreases_loop
+pins-requires : tie.Need-pins-requires invariant-loop decreases-loop
 pins-requires c κs = search rules
 
-returns : tie.Need-returns invariant_loop decreases_loop
+returns : tie.Need-returns invariant-loop decreases-loop
 returns c =
     let asked = c.before in
     let third = asked.before in
@@ -67,14 +67,14 @@ returns c =
     pin_here _ _ _ asked.pins.ensures first.wide16.ensures.0 second.wide162.ensures.0
     third.wide163.ensures.0 (plain_first inside.before.loop.invariant inside.loop-test.true) c.if1.true
 
-add_at : tie.Need-overflow-add-at invariant_loop decreases_loop
+add_at : tie.Need-overflow-add-at invariant-loop decreases-loop
 add_at c = search rules
 
-loop_less : tie.Need-loop-smaller invariant_loop decreases_loop
-loop_less c = search rules
+loop-less : tie.Need-loop-smaller invariant-loop decreases-loop
+loop-less c = search rules
 
-loop_again : tie.Need-loop-preserved invariant_loop decreases_loop
-loop_again c =
+loop-again : tie.Need-loop-preserved invariant-loop decreases-loop
+loop-again c =
     let asked = c.before in
     let third = asked.before in
     let second = third.before.before in
@@ -84,16 +84,16 @@ loop_again c =
     (no_pin _ _ _ asked.pins.ensures first.wide16.ensures.0 second.wide162.ensures.0
     third.wide163.ensures.0 c.if1.false)
 
-returns_2 : tie.Need-returns-2 invariant_loop decreases_loop
-returns_2 c = plain_end c.before.loop.invariant c.loop-test.false
+returns-2 : tie.Need-returns-2 invariant-loop decreases-loop
+returns-2 c = plain_end c.before.loop.invariant c.loop-test.false
 
 pub is-pinned-spec : {M : Type 1} → statement M
 is-pinned-spec =
     tie.close
     (tie.spec
-    invariant_loop
-    decreases_loop
-    loop_holds
+    invariant-loop
+    decreases-loop
+    loop-holds
     sub-loop
     mul-wide16
     shared-slice-read-wide16
@@ -109,6 +109,6 @@ is-pinned-spec =
     pins-requires
     returns
     add_at
-    loop_less
-    loop_again
-    returns_2)
+    loop-less
+    loop-again
+    returns-2)

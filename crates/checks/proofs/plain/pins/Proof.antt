@@ -1,6 +1,6 @@
 -- `checks::plain::pins` meets its contract: an equality, else an at-least and its partner.
 use borrow.Author.Rules.{rules}
-use borrow.Author.Tests.{eq-eqb, ne_eqb}
+use borrow.Author.Tests.{eq_eqb, ne_eqb}
 use Rattle.model.specs.Rules.{equal, at_least}
 use Rattle.checks.proofs.plain.pins.Statement.{statement}
 use Rattle.checks.proofs.plain.pins.Tie as tie
@@ -11,8 +11,8 @@ has-atom-requires c κs = search rules
 returns : tie.Need-returns
 returns c = rw (eq-eqb c.before.before.args.relation equal c.if1.true)
 
-returns_2 : tie.Need-returns-2
-returns_2 c =
+returns-2 : tie.Need-returns-2
+returns-2 c =
     let a = c.before.before.before.before.args in
     rw (
       ne_eqb a.relation equal c.before.before.if1.false,
@@ -20,10 +20,10 @@ returns_2 c =
     )
     c.has-atom.ensures
 
-returns_3 : tie.Need-returns-3
-returns_3 c =
+returns-3 : tie.Need-returns-3
+returns-3 c =
     let a = c.before.before.before.args in
     rw (ne_eqb a.relation equal c.before.if1.false, ne_eqb a.relation at_least c.if2.false)
 
 pub pins-spec : {M : Type 1} → statement M
-pins-spec = tie.close (tie.spec has-atom-requires returns returns_2 returns_3)
+pins-spec = tie.close (tie.spec has-atom-requires returns returns-2 returns-3)

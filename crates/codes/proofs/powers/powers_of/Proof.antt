@@ -6,59 +6,59 @@ use Rattle.codes.proofs.PowerLaws.{Raising, raising_start, power_most, raising_n
 use Rattle.codes.proofs.powers.powers_of.Statement.{statement}
 use Rattle.codes.proofs.powers.powers_of.Tie as tie
 
-abbrev invariant_loop : tie.invariant_loop
-invariant_loop top clocks powers₀ power₀ k₀ powers power k =
+abbrev invariant-loop : tie.invariant-loop
+invariant-loop top clocks powers₀ power₀ k₀ powers power k =
     (top ≤ most_constant) × (clocks ≤ most_clocks) × Raising top clocks k power powers
 
-abbrev decreases_loop : tie.decreases_loop
-decreases_loop top clocks powers₀ power₀ k₀ powers power k = clocks - k
+abbrev decreases-loop : tie.decreases-loop
+decreases-loop top clocks powers₀ power₀ k₀ powers power k = clocks - k
 
-array-write-powers : tie.Need-array-write-powers invariant_loop decreases_loop
+array-write-powers : tie.Need-array-write-powers invariant-loop decreases-loop
 array-write-powers c = search rules
 
-loop_holds : tie.Need-loop-init invariant_loop decreases_loop
-loop_holds c = (search rules, search rules, raising_start _ _)
+loop-holds : tie.Need-loop-init invariant-loop decreases-loop
+loop-holds c = (search rules, search rules, raising_start _ _)
 
-add-power : tie.Need-overflow-add-power invariant_loop decreases_loop
+add-power : tie.Need-overflow-add-power invariant-loop decreases-loop
 add-power c = search rules
 
-mul_power : tie.Need-overflow-mul-power invariant_loop decreases_loop
+mul_power : tie.Need-overflow-mul-power invariant-loop decreases-loop
 mul_power c =
     let l = c.before.loop in
     let h : l.power * (_ + 2) ≤ 32 ^ 4 = power_most l.invariant.2 (search rules) (search rules) in
     search rules
 
-add-k : tie.Need-overflow-add-k invariant_loop decreases_loop
+add-k : tie.Need-overflow-add-k invariant-loop decreases-loop
 add-k c = search rules
 
-mul-powers : tie.Need-overflow-mul-powers invariant_loop decreases_loop
+mul-powers : tie.Need-overflow-mul-powers invariant-loop decreases-loop
 mul-powers c = search rules
 
-array-write-powers-2 : tie.Need-array-write-powers-2 invariant_loop decreases_loop
+array-write-powers-2 : tie.Need-array-write-powers-2 invariant-loop decreases-loop
 array-write-powers-2 c = search rules
 
-loop_less : tie.Need-loop-smaller invariant_loop decreases_loop
-loop_less c = search rules
+loop-less : tie.Need-loop-smaller invariant-loop decreases-loop
+loop-less c = search rules
 
-loop_again : tie.Need-loop-preserved invariant_loop decreases_loop
-loop_again c = (search rules, search rules, raising_next c.before.loop.invariant.2 (search rules) (search rules))
+loop-again : tie.Need-loop-preserved invariant-loop decreases-loop
+loop-again c = (search rules, search rules, raising_next c.before.loop.invariant.2 (search rules) (search rules))
 
-returns : tie.Need-returns invariant_loop decreases_loop
+returns : tie.Need-returns invariant-loop decreases-loop
 returns c = raising_end c.before.loop.invariant.2 (search rules)
 
 pub powers-of-spec : {M : Type 1} → statement M
 powers-of-spec =
     tie.close
     (tie.spec
-    invariant_loop
-    decreases_loop
+    invariant-loop
+    decreases-loop
     array-write-powers
-    loop_holds
+    loop-holds
     add-power
     mul_power
     add-k
     mul-powers
     array-write-powers-2
-    loop_less
-    loop_again
+    loop-less
+    loop-again
     returns)

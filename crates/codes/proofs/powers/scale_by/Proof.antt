@@ -20,24 +20,24 @@ returns c =
     let h : most_constant < a.top = rw (← at_top.wide8.ensures.0) c.before.if1.true in
     c.no-scale.ensures ∙ sym (small_top a.top a.clocks h)
 
-wide32_requires : tie.Need-wide32-requires
-wide32_requires c κs = search rules
+wide32-requires : tie.Need-wide32-requires
+wide32-requires c κs = search rules
 
 no-scale-requires-2 : tie.Need-no-scale-requires-2
 no-scale-requires-2 c κs = search rules
 
-returns_2 : tie.Need-returns-2
-returns_2 c =
-    let at-clocks = c.before.before in
-    let a = at-clocks.before.before.before.args in
-    let h : most_clocks < a.clocks = rw (← at-clocks.wide32.ensures.0) c.before.if2.true in
+returns-2 : tie.Need-returns-2
+returns-2 c =
+    let at_clocks = c.before.before in
+    let a = at_clocks.before.before.before.args in
+    let h : most_clocks < a.clocks = rw (← at_clocks.wide32.ensures.0) c.before.if2.true in
     c.no-scale2.ensures ∙ sym (small_clocks a.top a.clocks h)
 
 scale-in-requires : tie.Need-scale-in-requires
 scale-in-requires c κs = search rules
 
-returns_3 : tie.Need-returns-3
-returns_3 c = c.scale_in.ensures ∙ sym (small_is _ _ (search rules) (search rules))
+returns-3 : tie.Need-returns-3
+returns-3 c = c.scale_in.ensures ∙ sym (small_is _ _ (search rules) (search rules))
 
 pub scale-by-spec : {M : Type 1} → statement M
 scale-by-spec =
@@ -46,8 +46,8 @@ scale-by-spec =
     wide8-requires
     no-scale-requires
     returns
-    wide32_requires
+    wide32-requires
     no-scale-requires-2
-    returns_2
+    returns-2
     scale-in-requires
-    returns_3)
+    returns-3)

@@ -4,8 +4,8 @@ use Rattle.codes.proofs.PowerLaws.{scale_is}
 use Rattle.codes.proofs.powers.scale_in.Statement.{statement}
 use Rattle.codes.proofs.powers.scale_in.Tie as tie
 
-wide32_requires : tie.Need-wide32-requires
-wide32_requires c κs = search rules
+wide32-requires : tie.Need-wide32-requires
+wide32-requires c κs = search rules
 
 powers-of-requires : tie.Need-powers-of-requires
 powers-of-requires c κs = search rules
@@ -21,14 +21,14 @@ array-read-t5 c = search rules
 
 returns : tie.Need-returns
 returns c =
-    let at-powers = c.before in
-    let at-clocks = at-powers.before in
-    let a = at-clocks.before.args in
-    scale_is a.top a.clocks at-clocks.wide32.result c.wide322.result _ at-clocks.wide32.ensures.0
+    let at_powers = c.before in
+    let at_clocks = at_powers.before in
+    let a = at_clocks.before.args in
+    scale_is a.top a.clocks at_clocks.wide32.result c.wide322.result _ at_clocks.wide32.ensures.0
     c.wide322.ensures.0
-    at-powers.powers-of.ensures
+    at_powers.powers-of.ensures
 
 pub scale-in-spec : {M : Type 1} → statement M
 scale-in-spec =
     tie.close
-    (tie.spec wide32_requires powers-of-requires wide32-requires-2 mul-t7 array-read-t5 returns)
+    (tie.spec wide32-requires powers-of-requires wide32-requires-2 mul-t7 array-read-t5 returns)

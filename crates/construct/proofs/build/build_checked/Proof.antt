@@ -37,8 +37,8 @@ need w = need_is (rule w) _ (pairs w)
 scale-of-requires : tie.Need-scale-of-requires
 scale-of-requires c κs = search rules
 
-wide32_requires : tie.Need-wide32-requires
-wide32_requires c κs = search rules
+wide32-requires : tie.Need-wide32-requires
+wide32-requires c κs = search rules
 
 wide32-requires-2 : tie.Need-wide32-requires-2
 wide32-requires-2 c κs = search rules
@@ -68,10 +68,10 @@ returns c =
 
 build-in-requires : tie.Need-build-in-requires
 build-in-requires c κs =
-    let at-if1 = c.before.before.before.before in
-    let counted = at-if1.before in
+    let at_if1 = c.before.before.before.before in
+    let counted = at_if1.before in
     let s = Entry counted in
-    (s.pre, (counted.before.before.scale_of.ensures s.pre, omega (arith, at-if1.if1.false, need counted)))
+    (s.pre, (counted.before.before.scale_of.ensures s.pre, omega (arith, at_if1.if1.false, need counted)))
 
 same_length : tie.Need-same-length
 same_length c = search rules
@@ -85,15 +85,15 @@ same-length-3 c = search rules
 same-length-4 : tie.Need-same-length-4
 same-length-4 c = search rules
 
-returns_2 : tie.Need-returns-2
-returns_2 c = c.before.before.before.before.before.before.before.before.build-in.ensures
+returns-2 : tie.Need-returns-2
+returns-2 c = c.before.before.before.before.before.before.before.before.build-in.ensures
 
 pub build-checked-spec : {M : Type 1} → statement M
 build-checked-spec =
     tie.close
     (tie.spec
     scale-of-requires
-    wide32_requires
+    wide32-requires
     wide32-requires-2
     mul-pairs
     sub-if1
@@ -105,4 +105,4 @@ build-checked-spec =
     same-length-2
     same-length-3
     same-length-4
-    returns_2)
+    returns-2)

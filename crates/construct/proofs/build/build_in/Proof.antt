@@ -40,15 +40,15 @@ clear-tables-requires c κs = search rules
 
 fill-tables-requires : tie.Need-fill-tables-requires
 fill-tables-requires c κs =
-    let after-clear-tables = c.before.before.before.before.before.before.before.before.before.before in
-    let after-clear = clear after-clear-tables in
-    let s = Entry after-clear in
+    let after_clear_tables = c.before.before.before.before.before.before.before.before.before.before in
+    let after_clear = clear after_clear_tables in
+    let s = Entry after_clear in
     can_build s.args.head s.args.edges.now s.args.scale s.args.scratch.now _ s.args.cells.now _
     s.args.rows.now _ s.args.pool.now _ s.pre.0 s.pre.1.0 s.pre.1.1
-    after-clear.clear32.ensures
-    after-clear-tables.clear-tables.ensures.0
-    after-clear-tables.clear-tables.ensures.1
-    after-clear-tables.clear-tables.ensures.2
+    after_clear.clear32.ensures
+    after_clear_tables.clear-tables.ensures.0
+    after_clear_tables.clear-tables.ensures.1
+    after_clear_tables.clear-tables.ensures.2
 
 clear-tables-requires-2 : tie.Need-clear-tables-requires-2
 clear-tables-requires-2 c κs = search rules
@@ -61,51 +61,51 @@ not-built-requires c κs = search rules
 
 same_length : tie.Need-same-length
 same_length c =
-    let after-fill-tables = filled (emptied c) in
-    let after-clear = clear (clears after-fill-tables) in
-    after-fill-tables.fill-tables.kept.1.1.1.0 ∙ after-clear.clear32.kept.0
+    let after_fill_tables = filled (emptied c) in
+    let after_clear = clear (clears after_fill_tables) in
+    after_fill_tables.fill-tables.kept.1.1.1.0 ∙ after_clear.clear32.kept.0
 
 same-length-2 : tie.Need-same-length-2
 same-length-2 c =
-    let after-clear-tables2 = emptied c in
-    let after-fill-tables = filled after-clear-tables2 in
-    let after-clear-tables = clears after-fill-tables in
-    after-clear-tables2.clear-tables2.kept.0 ∙
-    (after-fill-tables.fill-tables.kept.1.1.1.1.0 ∙ after-clear-tables.clear-tables.kept.0)
+    let after_clear_tables2 = emptied c in
+    let after_fill_tables = filled after_clear_tables2 in
+    let after_clear_tables = clears after_fill_tables in
+    after_clear_tables2.clear-tables2.kept.0 ∙
+    (after_fill_tables.fill-tables.kept.1.1.1.1.0 ∙ after_clear_tables.clear-tables.kept.0)
 
 same-length-3 : tie.Need-same-length-3
 same-length-3 c =
-    let after-clear-tables2 = emptied c in
-    let after-fill-tables = filled after-clear-tables2 in
-    let after-clear-tables = clears after-fill-tables in
-    after-clear-tables2.clear-tables2.kept.1.0 ∙
-    (after-fill-tables.fill-tables.kept.1.1.1.1.1.0 ∙ after-clear-tables.clear-tables.kept.1.0)
+    let after_clear_tables2 = emptied c in
+    let after_fill_tables = filled after_clear_tables2 in
+    let after_clear_tables = clears after_fill_tables in
+    after_clear_tables2.clear-tables2.kept.1.0 ∙
+    (after_fill_tables.fill-tables.kept.1.1.1.1.1.0 ∙ after_clear_tables.clear-tables.kept.1.0)
 
 same-length-4 : tie.Need-same-length-4
 same-length-4 c =
-    let after-clear-tables2 = emptied c in
-    let after-fill-tables = filled after-clear-tables2 in
-    let after-clear-tables = clears after-fill-tables in
-    after-clear-tables2.clear-tables2.kept.1.1.0 ∙
-    (after-fill-tables.fill-tables.kept.1.1.1.1.1.1.0 ∙ after-clear-tables.clear-tables.kept.1.1.0)
+    let after_clear_tables2 = emptied c in
+    let after_fill_tables = filled after_clear_tables2 in
+    let after_clear_tables = clears after_fill_tables in
+    after_clear_tables2.clear-tables2.kept.1.1.0 ∙
+    (after_fill_tables.fill-tables.kept.1.1.1.1.1.1.0 ∙ after_clear_tables.clear-tables.kept.1.1.0)
 
 returns : tie.Need-returns
 returns c =
-    let after-clear-tables2 = emptied c in
-    let at-if1 = after-clear-tables2.before.before.before.before in
-    let after-fill-tables = at-if1.before.before.before.before.before.before.before.before.before.before in
-    let after-clear-tables = clears after-fill-tables in
-    let after-clear = clear after-clear-tables in
-    let s = Entry after-clear in
-    let first = after-clear-tables.clear-tables in
-    let fill = after-fill-tables.fill-tables in
-    let last = after-clear-tables2.clear-tables2 in
+    let after_clear_tables2 = emptied c in
+    let at_if1 = after_clear_tables2.before.before.before.before in
+    let after_fill_tables = at_if1.before.before.before.before.before.before.before.before.before.before in
+    let after_clear_tables = clears after_fill_tables in
+    let after_clear = clear after_clear_tables in
+    let s = Entry after_clear in
+    let first = after_clear_tables.clear-tables in
+    let fill = after_fill_tables.fill-tables in
+    let last = after_clear_tables2.clear-tables2 in
     builds_as _
     (builds_unfit s.args.head s.args.edges.now s.args.scratch.now s.args.cells.now
     s.args.rows.now
     s.args.pool.now s.pre.0 s.pre.1.1 _ s.pre.1.0
     (ap₂ (row_room (rule_in s.args.head s.args.edges.now)) first.kept.0 first.kept.1.0)
-    after-clear.clear32.kept.0
+    after_clear.clear32.kept.0
     first.kept.0
     (fill.kept.1.1.1.1.1.0 ∙ first.kept.1.0)
     (fill.kept.1.1.1.1.1.1.0 ∙ first.kept.1.1.0)
@@ -113,25 +113,25 @@ returns c =
     _
     _
     _
-    at-if1.if1.taken
+    at_if1.if1.taken
     (last.ensures.0 ∙ ap zeros (fill.kept.1.1.1.1.0 ∙ first.kept.0))
     (last.ensures.1 ∙ ap zeros (fill.kept.1.1.1.1.1.0 ∙ first.kept.1.0))
     (last.ensures.2 ∙ ap zeros (fill.kept.1.1.1.1.1.1.0 ∙ first.kept.1.1.0)))
     (c.not-built.ensures
     ∙ ap (λ (n : ℕ). not_built n 0)
-    (c.before.narrow8.ensures.1 (omega (arith, (fill.ensures.grown.refused at-if1.if1.taken).most))))
+    (c.before.narrow8.ensures.1 (omega (arith, (fill.ensures.grown.refused at_if1.if1.taken).most))))
 
 built-from-requires : tie.Need-built-from-requires
 built-from-requires c κs =
-    let after-fill-tables = c.before.before.before.before.before.before.before.before.before.before in
-    let h = after-fill-tables.fill-tables.ensures.grown.held c.if1.false in
+    let after_fill_tables = c.before.before.before.before.before.before.before.before.before.before in
+    let h = after_fill_tables.fill-tables.ensures.grown.held c.if1.false in
     (omega (arith, h.in_room, h.room_most), omega (arith, h.in_room, h.room_most, h.total_most))
 
 same-length-5 : tie.Need-same-length-5
 same-length-5 c =
-    let after-fill-tables = finished c in
-    let after-clear = clear (clears after-fill-tables) in
-    after-fill-tables.fill-tables.kept.1.1.1.0 ∙ after-clear.clear32.kept.0
+    let after_fill_tables = finished c in
+    let after_clear = clear (clears after_fill_tables) in
+    after_fill_tables.fill-tables.kept.1.1.1.0 ∙ after_clear.clear32.kept.0
 
 same-length-6 : tie.Need-same-length-6
 same-length-6 c =
@@ -145,20 +145,20 @@ same-length-8 : tie.Need-same-length-8
 same-length-8 c =
     (finished c).fill-tables.auto.1.1.1.1.1.1.0 ∙ (clears (finished c)).clear-tables.auto.1.1.0
 
-returns_2 : tie.Need-returns-2
-returns_2 c =
-    let after-fill-tables = finished c in
-    let after-clear-tables = clears after-fill-tables in
-    let after-clear = clear after-clear-tables in
-    let s = Entry after-clear in
-    let first = after-clear-tables.clear-tables in
-    let fill = after-fill-tables.fill-tables in
+returns-2 : tie.Need-returns-2
+returns-2 c =
+    let after_fill_tables = finished c in
+    let after_clear_tables = clears after_fill_tables in
+    let after_clear = clear after_clear_tables in
+    let s = Entry after_clear in
+    let first = after_clear_tables.clear-tables in
+    let fill = after_fill_tables.fill-tables in
     builds_as _
     (builds_done s.args.head s.args.edges.now s.args.scratch.now s.args.cells.now
     s.args.rows.now
     s.args.pool.now s.pre.0 s.pre.1.1 _ s.pre.1.0
     (ap₂ (row_room (rule_in s.args.head s.args.edges.now)) first.kept.0 first.kept.1.0)
-    after-clear.clear32.kept.0
+    after_clear.clear32.kept.0
     first.kept.0
     (fill.kept.1.1.1.1.1.0 ∙ first.kept.1.0)
     (fill.kept.1.1.1.1.1.1.0 ∙ first.kept.1.1.0)
@@ -186,4 +186,4 @@ build-in-spec =
     same-length-6
     same-length-7
     same-length-8
-    returns_2)
+    returns-2)

@@ -19,10 +19,10 @@ narrow32-requires-3 c κs = search rules
 
 returns : tie.Need-returns
 returns c =
-    let after-narrow32 = c.before.before in
-    let after-wide8 = after-narrow32.before in
+    let after_narrow32 = c.before.before in
+    let after_wide8 = after_narrow32.before in
     same_built _ _ _ _ _ _ _ _ _ _ _ _ _ _ refl refl refl
-    (after-narrow32.narrow32.ensures.1 (search rules) ∙ after-wide8.wide8.ensures.0) refl
+    (after_narrow32.narrow32.ensures.1 (search rules) ∙ after_wide8.wide8.ensures.0) refl
     (c.before.narrow322.ensures.1 (search rules))
     (c.narrow323.ensures.1 (search rules))
 

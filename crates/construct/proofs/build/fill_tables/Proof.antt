@@ -13,8 +13,8 @@ use Rattle.construct.proofs.SymbolFilling.{symbols_few}
 use Rattle.construct.proofs.build.fill_tables.Statement.{statement}
 use Rattle.construct.proofs.build.fill_tables.Tie as tie
 
-wide32_requires : tie.Need-wide32-requires
-wide32_requires c κs = search rules
+wide32-requires : tie.Need-wide32-requires
+wide32-requires c κs = search rules
 
 wide8-requires : tie.Need-wide8-requires
 wide8-requires c κs = search rules
@@ -39,20 +39,20 @@ row-room-requires c κs = search rules
 
 place-start-requires : tie.Need-place-start-requires
 place-start-requires c κs =
-    let after-row-room = c.before.before.before in
-    let after-wide8 = after-row-room.before in
-    let after-wide32 = after-wide8.before in
-    let s = after-wide32.before.before.before.before.before.before in
-    let each : ℕ = after-wide32.wide32.result * (2 * after-wide8.wide8.result + 2) in
+    let after_row_room = c.before.before.before in
+    let after_wide8 = after_row_room.before in
+    let after_wide32 = after_wide8.before in
+    let s = after_wide32.before.before.before.before.before.before in
+    let each : ℕ = after_wide32.wide32.result * (2 * after_wide8.wide8.result + 2) in
     record {
       start = can_start s.args.head s.args.edges.now s.args.scale _ s.requires.ready s.requires.marks_zero;
       rows_zero = s.requires.rows_zero;
       pool_zero = s.requires.pool_zero;
       room_in = record {
         most = room_few (length s.args.cells.now) (length s.args.rows.now) each _
-            after-row-room.row_room.ensures;
+            after_row_room.row_room.ensures;
         fits = room_rows (length s.args.cells.now) (length s.args.rows.now) each _
-            after-row-room.row_room.ensures;
+            after_row_room.row_room.ensures;
       };
     }
 
@@ -67,21 +67,21 @@ same-length-3 c = search rules
 
 returns : tie.Need-returns
 returns c =
-    let after-place-start = c.before.before.before.before.before.before.before.before in
-    let after-row-room = after-place-start.before.before.before.before in
-    let after-wide8 = after-row-room.before in
-    let after-wide32 = after-wide8.before in
-    let s = after-wide32.before.before.before.before.before.before in
+    let after_place_start = c.before.before.before.before.before.before.before.before in
+    let after_row_room = after_place_start.before.before.before.before in
+    let after_wide8 = after_row_room.before in
+    let after_wide32 = after_wide8.before in
+    let s = after_wide32.before.before.before.before.before.before in
     start_refused (rule_in s.args.head s.args.edges.now)
     (start_row_lem s.args.head s.args.edges.now s.args.scale s.requires.ready.scaled)
-    after-place-start.place-start.ensures
+    after_place_start.place-start.ensures
     s.args.cells.now
     _
     (room_of (rule_in s.args.head s.args.edges.now) (length s.args.cells.now)
     (length s.args.rows.now) _ _
-    (each_is s.args.head s.args.edges.now _ _ s.requires.ready after-wide32.wide32.ensures.0
-    after-wide8.wide8.ensures.0)
-    after-row-room.row_room.ensures)
+    (each_is s.args.head s.args.edges.now _ _ s.requires.ready after_wide32.wide32.ensures.0
+    after_wide8.wide8.ensures.0)
+    after_row_room.row_room.ensures)
     c.if1.true
 
 link-edges-requires : tie.Need-link-edges-requires
@@ -92,25 +92,25 @@ slice-aggregate-fill-rows c = search rules
 
 fill-rows-requires : tie.Need-fill-rows-requires
 fill-rows-requires c κs =
-    let after-link-edges = c.before.before.before.before.before in
-    let at-if1 = after-link-edges.before in
-    let after-place-start = at-if1.before.before.before.before.before.before.before.before in
-    let after-row-room = after-place-start.before.before.before.before in
-    let after-wide8 = after-row-room.before in
-    let after-wide32 = after-wide8.before in
-    let s = after-wide32.before.before.before.before.before.before in (
+    let after_link_edges = c.before.before.before.before.before in
+    let at_if1 = after_link_edges.before in
+    let after_place_start = at_if1.before.before.before.before.before.before.before.before in
+    let after_row_room = after_place_start.before.before.before.before in
+    let after_wide8 = after_row_room.before in
+    let after_wide32 = after_wide8.before in
+    let s = after_wide32.before.before.before.before.before.before in (
       start_fills (rule_in s.args.head s.args.edges.now)
           (start_row_lem s.args.head s.args.edges.now s.args.scale s.requires.ready.scaled)
-          after-place-start.place-start.ensures
+          after_place_start.place-start.ensures
           _
           s.requires
-          after-place-start.place-start.auto.1.1.0
-          (each_is s.args.head s.args.edges.now _ _ s.requires.ready after-wide32.wide32.ensures.0
-          after-wide8.wide8.ensures.0)
+          after_place_start.place-start.auto.1.1.0
+          (each_is s.args.head s.args.edges.now _ _ s.requires.ready after_wide32.wide32.ensures.0
+          after_wide8.wide8.ensures.0)
           (room_cells (length s.args.cells.now) (length s.args.rows.now) _ _
-          after-row-room.row_room.ensures)
-          at-if1.if1.false,
-      after-link-edges.link-edges.ensures,
+          after_row_room.row_room.ensures)
+          at_if1.if1.false,
+      after_link_edges.link-edges.ensures,
     )
 
 same-length-4 : tie.Need-same-length-4
@@ -125,31 +125,31 @@ same-length-6 c = search rules
 same-length-7 : tie.Need-same-length-7
 same-length-7 c = search rules
 
-returns_2 : tie.Need-returns-2
-returns_2 c =
-    let after-fill-rows = c.before.before.before.before.before.before.before.before in
-    let after-place-start = after-fill-rows.before.before.before.before.before.before.before.before.before.before.before.before.before.before.before in
-    let after-row-room = after-place-start.before.before.before.before in
-    let after-wide8 = after-row-room.before in
-    let after-wide32 = after-wide8.before in
-    let s = after-wide32.before.before.before.before.before.before in
+returns-2 : tie.Need-returns-2
+returns-2 c =
+    let after_fill_rows = c.before.before.before.before.before.before.before.before in
+    let after_place_start = after_fill_rows.before.before.before.before.before.before.before.before.before.before.before.before.before.before.before in
+    let after_row_room = after_place_start.before.before.before.before in
+    let after_wide8 = after_row_room.before in
+    let after_wide32 = after_wide8.before in
+    let s = after_wide32.before.before.before.before.before.before in
     start_done (rule_in s.args.head s.args.edges.now)
     (start_row_lem s.args.head s.args.edges.now s.args.scale s.pre.ready.scaled)
-    after-place-start.place-start.ensures
+    after_place_start.place-start.ensures
     _
-    after-place-start.place-start.kept.1.1.0
+    after_place_start.place-start.kept.1.1.0
     (room_of (rule_in s.args.head s.args.edges.now) (length s.args.cells.now)
     (length s.args.rows.now) _ _
-    (each_is s.args.head s.args.edges.now _ _ s.pre.ready after-wide32.wide32.ensures.0
-    after-wide8.wide8.ensures.0)
-    after-row-room.row_room.ensures)
-    after-fill-rows.fill-rows.ensures
+    (each_is s.args.head s.args.edges.now _ _ s.pre.ready after_wide32.wide32.ensures.0
+    after_wide8.wide8.ensures.0)
+    after_row_room.row_room.ensures)
+    after_fill_rows.fill-rows.ensures
 
 pub fill-tables-spec : {M : Type 1} → statement M
 fill-tables-spec =
     tie.close
     (tie.spec
-    wide32_requires
+    wide32-requires
     wide8-requires
     mul-each
     add-each
@@ -167,4 +167,4 @@ fill-tables-spec =
     same-length-5
     same-length-6
     same-length-7
-    returns_2)
+    returns-2)

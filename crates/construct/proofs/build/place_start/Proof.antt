@@ -11,9 +11,9 @@ mark-starts-requires c κs = search rules
 
 add-row-requires : tie.Need-add-row-requires
 add-row-requires c κs =
-    let after-mark-starts = c.before.before.before.before.before in
-    let start = after-mark-starts.before.before.before.before.before in (
-      after-mark-starts.mark-starts.ensures.in_span,
+    let after_mark_starts = c.before.before.before.before.before in
+    let start = after_mark_starts.before.before.before.before.before in (
+      after_mark_starts.mark-starts.ensures.in_span,
       (held_none _ _ _ start.requires.rows_zero start.requires.pool_zero start.requires.room_in, refl {a = 0}),
     )
 
@@ -31,16 +31,16 @@ same-length-3 c = search rules
 
 returns : tie.Need-returns
 returns c =
-    let after-unmark = c.before.before in
-    let after-add-row = after-unmark.before.before.before.before.before.before in
-    let after-mark-starts = after-add-row.before.before.before.before.before.before in
-    let start = after-mark-starts.before.before.before.before.before in
+    let after_unmark = c.before.before in
+    let after_add_row = after_unmark.before.before.before.before.before.before in
+    let after_mark_starts = after_add_row.before.before.before.before.before.before in
+    let start = after_mark_starts.before.before.before.before.before in
     start_placed start.args.starts start.args.finals.weight start.args.room
-    after-add-row.add_row.result
-    after-mark-starts.mark-starts.auto.1.1.0
-    after-mark-starts.mark-starts.ensures
-    after-add-row.add_row.ensures
-    (after-unmark.unmark.ensures after-mark-starts.mark-starts.ensures.in_span)
+    after_add_row.add_row.result
+    after_mark_starts.mark-starts.auto.1.1.0
+    after_mark_starts.mark-starts.ensures
+    after_add_row.add_row.ensures
+    (after_unmark.unmark.ensures after_mark_starts.mark-starts.ensures.in_span)
 
 pub place-start-spec : {M : Type 1} → statement M
 place-start-spec =

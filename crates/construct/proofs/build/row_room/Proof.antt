@@ -15,9 +15,9 @@ lesser-requires-2 c κs = search rules
 
 returns : tie.Need-returns
 returns c =
-    let after-quotient = c.before.before in
-    let start = after-quotient.before in
-    room_is start.args.cells start.args.rows start.args.each _ _ _ after-quotient.quotient.ensures
+    let after_quotient = c.before.before in
+    let start = after_quotient.before in
+    room_is start.args.cells start.args.rows start.args.each _ _ _ after_quotient.quotient.ensures
     c.before.lesser.ensures c.lesser2.ensures
 
 pub row-room-spec : {M : Type 1} → statement M

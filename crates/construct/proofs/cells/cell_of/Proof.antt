@@ -22,8 +22,8 @@ mul-narrow32-2 c = search rules
 narrow32-requires-2 : tie.Need-narrow32-requires-2
 narrow32-requires-2 c κs = search rules
 
-returns_2 : tie.Need-returns-2
-returns_2 c = cell_kept _ _ _ c.before.if1.false (c.narrow322.ensures.1 (search rules))
+returns-2 : tie.Need-returns-2
+returns-2 c = cell_kept _ _ _ c.before.if1.false (c.narrow322.ensures.1 (search rules))
 
 pub cell-of-spec : {M : Type 1} → statement M
 cell-of-spec =
@@ -35,4 +35,4 @@ cell-of-spec =
     returns
     mul-narrow32-2
     narrow32-requires-2
-    returns_2)
+    returns-2)

@@ -43,7 +43,7 @@ part-mark-next-end c =
     let s = Entry w in
     let a = s.args in
     part_fits a.rows.now a.pool.now a.p a.row _ _ s.pre.0.row-Below
-    w.before.before.start_in.ensures.0
+    w.before.before.start-in.ensures.0
     w.length-in.ensures.0
     (row_within s.pre.0.held)
 
@@ -53,8 +53,8 @@ mark-next-requires c κs = search rules
 place-marks-requires : tie.Need-place-marks-requires
 place-marks-requires c κs = search rules
 
-cell_of_requires : tie.Need-cell-of-requires
-cell_of_requires c κs = search rules
+cell-of-requires : tie.Need-cell-of-requires
+cell-of-requires c κs = search rules
 
 same_length : tie.Need-same-length
 same_length c = search rules
@@ -67,19 +67,19 @@ same-length-3 c = search rules
 
 returns : tie.Need-returns
 returns c =
-    let after-place-marks = c.before.before.before.before.before.before.before in
-    let after-mark-next = after-place-marks.before.before.before.before.before.before in
-    let w = after-mark-next.before.before.before.before in
+    let after_place_marks = c.before.before.before.before.before.before.before in
+    let after_mark_next = after_place_marks.before.before.before.before.before.before in
+    let w = after_mark_next.before.before.before.before in
     let s = Entry w in
     let a = s.args in
     cell_made (rule_in a.head a.edges.now) a.row a.input (rows_in a.p.rows a.rows.now a.pool.now)
-    after-mark-next.mark-next.result after-place-marks.place-marks.result _
+    after_mark_next.mark-next.result after_place_marks.place-marks.result _
     (part_is a.rows.now a.pool.now a.p a.row _ _ s.pre.0.row-Below
-    w.before.before.start_in.ensures.0
+    w.before.before.start-in.ensures.0
     w.length-in.ensures.0)
-    after-mark-next.mark-next.auto.1.1.1.1.1.1.0
-    after-mark-next.mark-next.ensures
-    after-place-marks.place-marks.ensures
+    after_mark_next.mark-next.auto.1.1.1.1.1.1.0
+    after_mark_next.mark-next.ensures
+    after_place_marks.place-marks.ensures
     c.cell-of.ensures
 
 pub make-cell-spec : {M : Type 1} → statement M
@@ -95,7 +95,7 @@ make-cell-spec =
     part-mark-next-end
     mark-next-requires
     place-marks-requires
-    cell_of_requires
+    cell-of-requires
     same_length
     same-length-2
     same-length-3

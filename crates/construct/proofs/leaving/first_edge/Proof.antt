@@ -16,16 +16,16 @@ returns c =
 cast-if2 : tie.Need-overflow-cast-if2
 cast-if2 c = search rules
 
-returns_2 : tie.Need-returns-2
-returns_2 c =
+returns-2 : tie.Need-returns-2
+returns-2 c =
     let a = c.before.before.before.args in
     far_symbol a.count a.location a.symbol a.links.now c.if2.true
 
 mul-number-at : tie.Need-overflow-mul-number-at
 mul-number-at c = search rules
 
-wide32_requires : tie.Need-wide32-requires
-wide32_requires c κs = search rules
+wide32-requires : tie.Need-wide32-requires
+wide32-requires c κs = search rules
 
 add-number-at : tie.Need-overflow-add-number-at
 add-number-at c = search rules
@@ -36,13 +36,13 @@ number-at-requires c κs = search rules
 narrow32-requires : tie.Need-narrow32-requires
 narrow32-requires c κs = search rules
 
-returns_3 : tie.Need-returns-3
-returns_3 c =
-    let after-wide32 = c.before.before in
+returns-3 : tie.Need-returns-3
+returns-3 c =
+    let after_wide32 = c.before.before in
     let a = c.before.before.before.before.before.before.args in
     c.narrow32.ensures.1 (search rules)
     ∙ (c.before.number_at.ensures.0
-    ∙ (ap (λ (k : ℕ). get_or a.links.now (most_symbols * a.location + k) 0) after-wide32.wide32.ensures.0
+    ∙ (ap (λ (k : ℕ). get_or a.links.now (most_symbols * a.location + k) 0) after_wide32.wide32.ensures.0
     ∙ near_link a.count a.location a.symbol a.links.now (search rules) (search rules)))
 
 pub first-edge-spec : {M : Type 1} → statement M
@@ -51,10 +51,10 @@ first-edge-spec =
     (tie.spec
     returns
     cast-if2
-    returns_2
+    returns-2
     mul-number-at
-    wide32_requires
+    wide32-requires
     add-number-at
     number-at-requires
     narrow32-requires
-    returns_3)
+    returns-3)

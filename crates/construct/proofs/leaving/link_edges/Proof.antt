@@ -13,21 +13,21 @@ use Rattle.construct.proofs.EdgeLaws.{edges_of, edges_few, Fields, fields_of}
 use Rattle.construct.proofs.leaving.link_edges.Statement.{statement}
 use Rattle.construct.proofs.leaving.link_edges.Tie as tie
 
-abbrev invariant_loop : tie.invariant_loop
-invariant_loop edges none links₀ e₀ links e = (e ≤ e₀) × LinkedFrom (edges_in e₀ edges) e links
+abbrev invariant-loop : tie.invariant-loop
+invariant-loop edges none links₀ e₀ links e = (e ≤ e₀) × LinkedFrom (edges_in e₀ edges) e links
 
-abbrev decreases_loop : tie.decreases_loop
-decreases_loop edges none links₀ e₀ links e = e
+abbrev decreases-loop : tie.decreases-loop
+decreases-loop edges none links₀ e₀ links e = e
 
-abbrev Entry : tie.After-wide32 invariant_loop decreases_loop → tie.Start invariant_loop decreases_loop
+abbrev Entry : tie.After-wide32 invariant-loop decreases-loop → tie.Start invariant-loop decreases-loop
 Entry w = w.before.before
 
-few : (w : tie.After-wide32 invariant_loop decreases_loop) → (Entry w).args.head.count ≤ most_edges
+few : (w : tie.After-wide32 invariant-loop decreases-loop) → (Entry w).args.head.count ≤ most_edges
 few w = edges_few (Entry w).args.head (Entry w).args.edges.now (Entry w).requires
 
 -- source and symbol of the edge that is linked
 fields :
-    (c : tie.In-loop invariant_loop decreases_loop)
+    (c : tie.In-loop invariant-loop decreases-loop)
     → (let a = (Entry c.before.before.before).args in
     Fields a.edges.now (edges_in a.head.count a.edges.now) (c.before.loop.e - 1))
 fields c =
@@ -35,112 +35,112 @@ fields c =
     fields_of start.args.head start.args.edges.now _ _ start.pre refl
     (omega (arith, c.loop-test.true, c.before.loop.invariant.0))
 
-wide32_requires : tie.Need-wide32-requires invariant_loop decreases_loop
-wide32_requires c κs = search rules
+wide32-requires : tie.Need-wide32-requires invariant-loop decreases-loop
+wide32-requires c κs = search rules
 
-narrow16-requires : tie.Need-narrow16-requires invariant_loop decreases_loop
+narrow16-requires : tie.Need-narrow16-requires invariant-loop decreases-loop
 narrow16-requires c κs = search rules
 
-loop_holds : tie.Need-loop-init invariant_loop decreases_loop
-loop_holds c =
-    let after-wide32 = c.before in
-    let a = (Entry after-wide32).args in
-    let count = after-wide32.wide32.ensures.0 in (
+loop-holds : tie.Need-loop-init invariant-loop decreases-loop
+loop-holds c =
+    let after_wide32 = c.before in
+    let a = (Entry after_wide32).args in
+    let count = after_wide32.wide32.ensures.0 in (
       omega arith,
       linked_none _ _ _ (sym (edges_length a.head.count a.edges.now)) refl
           (λ k h. get_or-replicate link_count k c.narrow16.result 0 h
-          ∙ (c.narrow16.ensures.1 (omega (arith, count, few after-wide32)) ∙ count)),
+          ∙ (c.narrow16.ensures.1 (omega (arith, count, few after_wide32)) ∙ count)),
     )
 
-sub-e : tie.Need-overflow-sub-e invariant_loop decreases_loop
+sub-e : tie.Need-overflow-sub-e invariant-loop decreases-loop
 sub-e c = search rules
 
-source-of-requires : tie.Need-source-of-requires invariant_loop decreases_loop
+source-of-requires : tie.Need-source-of-requires invariant-loop decreases-loop
 source-of-requires c κs = search rules
 
-mul-first : tie.Need-overflow-mul-first invariant_loop decreases_loop
+mul-first : tie.Need-overflow-mul-first invariant-loop decreases-loop
 mul-first c = search rules
 
-symbol-of-requires : tie.Need-symbol-of-requires invariant_loop decreases_loop
+symbol-of-requires : tie.Need-symbol-of-requires invariant-loop decreases-loop
 symbol-of-requires c κs = search rules
 
-add-first : tie.Need-overflow-add-first invariant_loop decreases_loop
+add-first : tie.Need-overflow-add-first invariant-loop decreases-loop
 add-first c = search rules
 
-wide32-requires-2 : tie.Need-wide32-requires-2 invariant_loop decreases_loop
+wide32-requires-2 : tie.Need-wide32-requires-2 invariant-loop decreases-loop
 wide32-requires-2 c κs = search rules
 
-mul-links : tie.Need-overflow-mul-links invariant_loop decreases_loop
+mul-links : tie.Need-overflow-mul-links invariant-loop decreases-loop
 mul-links c = search rules
 
-array-read-links : tie.Need-array-read-links invariant_loop decreases_loop
+array-read-links : tie.Need-array-read-links invariant-loop decreases-loop
 array-read-links c =
-    let after-source = c.before.before in
-    let f = fields after-source.before in
+    let after_source = c.before.before in
+    let f = fields after_source.before in
     omega (
       arith,
       f.source_is,
       f.symbol_is,
       f.source_few,
       f.symbol_few,
-      after-source.source_of.ensures.0,
-      c.before.symbol_of.ensures.0,
+      after_source.source_of.ensures.0,
+      c.before.symbol-of.ensures.0,
     )
 
-add-links : tie.Need-overflow-add-links invariant_loop decreases_loop
+add-links : tie.Need-overflow-add-links invariant-loop decreases-loop
 add-links c = search rules
 
-mul-links-2 : tie.Need-overflow-mul-links-2 invariant_loop decreases_loop
+mul-links-2 : tie.Need-overflow-mul-links-2 invariant-loop decreases-loop
 mul-links-2 c = search rules
 
-array-write-links : tie.Need-array-write-links invariant_loop decreases_loop
+array-write-links : tie.Need-array-write-links invariant-loop decreases-loop
 array-write-links c =
-    let in-loop = c.before.before.before in
-    let at-loop = in-loop.before in
+    let in_loop = c.before.before.before in
+    let at_loop = in_loop.before in
     omega (
       arith,
-      in-loop.loop-test.true,
-      at-loop.loop.invariant.0,
+      in_loop.loop-test.true,
+      at_loop.loop.invariant.0,
       c.wide322.ensures.0,
-      few at-loop.before.before,
+      few at_loop.before.before,
     )
 
-narrow16-requires-2 : tie.Need-narrow16-requires-2 invariant_loop decreases_loop
+narrow16-requires-2 : tie.Need-narrow16-requires-2 invariant-loop decreases-loop
 narrow16-requires-2 c κs = search rules
 
-mul-links-3 : tie.Need-overflow-mul-links-3 invariant_loop decreases_loop
+mul-links-3 : tie.Need-overflow-mul-links-3 invariant-loop decreases-loop
 mul-links-3 c = search rules
 
-array-write-links-2 : tie.Need-array-write-links-2 invariant_loop decreases_loop
+array-write-links-2 : tie.Need-array-write-links-2 invariant-loop decreases-loop
 array-write-links-2 c = array-read-links c.before
 
-loop_less : tie.Need-loop-smaller invariant_loop decreases_loop
-loop_less c = search rules
+loop-less : tie.Need-loop-smaller invariant-loop decreases-loop
+loop-less c = search rules
 
-loop_again : tie.Need-loop-preserved invariant_loop decreases_loop
-loop_again c =
-    let after-source = c.before.before.before in
-    let in-loop = after-source.before in
-    let at-loop = in-loop.before in
-    let most = few at-loop.before.before in
+loop-again : tie.Need-loop-preserved invariant-loop decreases-loop
+loop-again c =
+    let after_source = c.before.before.before in
+    let in_loop = after_source.before in
+    let at_loop = in_loop.before in
+    let most = few at_loop.before.before in
     let place = c.before.wide322.ensures.0 in
-    let f = fields in-loop in (
+    let f = fields in_loop in (
       omega arith,
-      link_step _ _ _ _ _ _ at-loop.loop.invariant.1 in-loop.loop-test.true
-          (omega (arith, at-loop.loop.invariant.0, most))
+      link_step _ _ _ _ _ _ at_loop.loop.invariant.1 in_loop.loop-test.true
+          (omega (arith, at_loop.loop.invariant.0, most))
           f.inside f.source_few f.symbol_few
           (omega (
             arith,
             f.source_is,
             f.symbol_is,
-            after-source.source_of.ensures.0,
-            c.before.before.symbol_of.ensures.0,
+            after_source.source_of.ensures.0,
+            c.before.before.symbol-of.ensures.0,
           ))
           place
-          (c.narrow162.ensures.1 (omega (arith, place, at-loop.loop.invariant.0, most)) ∙ place),
+          (c.narrow162.ensures.1 (omega (arith, place, at_loop.loop.invariant.0, most)) ∙ place),
     )
 
-returns : tie.Need-returns invariant_loop decreases_loop
+returns : tie.Need-returns invariant-loop decreases-loop
 returns c =
     let a = (Entry c.before.before.before).args in
     let none_left : c.before.loop.e ≡ 0 = omega (arith, c.loop-test.false) in
@@ -150,11 +150,11 @@ pub link-edges-spec : {M : Type 1} → statement M
 link-edges-spec =
     tie.close
     (tie.spec
-    invariant_loop
-    decreases_loop
-    wide32_requires
+    invariant-loop
+    decreases-loop
+    wide32-requires
     narrow16-requires
-    loop_holds
+    loop-holds
     sub-e
     source-of-requires
     mul-first
@@ -169,6 +169,6 @@ link-edges-spec =
     narrow16-requires-2
     mul-links-3
     array-write-links-2
-    loop_less
-    loop_again
+    loop-less
+    loop-again
     returns)

@@ -16,11 +16,11 @@ same_length c = search rules
 
 returns : tie.Need-returns
 returns c =
-    let after-mark-row = c.before.before in
-    let after-row-resets = after-mark-row.before.before in
-    let a = after-row-resets.before.before.before.before.before.args in
-    next_marked a.head a.edges.now a.input a.row.now _ _ _ after-row-resets.row-resets.ensures
-    after-mark-row.mark-row.ensures
+    let after_mark_row = c.before.before in
+    let after_row_resets = after_mark_row.before.before in
+    let a = after_row_resets.before.before.before.before.before.args in
+    next_marked a.head a.edges.now a.input a.row.now _ _ _ after_row_resets.row-resets.ensures
+    after_mark_row.mark-row.ensures
 
 pub mark-next-spec : {M : Type 1} → statement M
 mark-next-spec = tie.close (tie.spec row-resets-requires mark-row-requires same_length returns)

@@ -32,8 +32,8 @@ sub-if2 c = search rules
 unfit-requires-2 : tie.Need-unfit-requires-2
 unfit-requires-2 c κs = search rules
 
-returns_2 : tie.Need-returns-2
-returns_2 c =
+returns-2 : tie.Need-returns-2
+returns-2 c =
     let s = Entry c.before.before.before in
     unplaced _ s.args.p _ c.unfit2.ensures
     (pool_short s.pre.1.0 (codes_in s.args.marks.now) c.before.before.if1.false
@@ -120,22 +120,22 @@ same_length c = search rules
 same-length-2 : tie.Need-same-length-2
 same-length-2 c = search rules
 
-returns_3 : tie.Need-returns-3
-returns_3 c =
-    let after-narrow322 = c.before.before.before in
-    let after-narrow32 = after-narrow322.before in
-    let after-lay-codes = after-narrow32.before.before.before in
-    let at-if1 = after-lay-codes.before.before.before in
-    let s = Entry at-if1.before in
+returns-3 : tie.Need-returns-3
+returns-3 c =
+    let after_narrow322 = c.before.before.before in
+    let after_narrow32 = after_narrow322.before in
+    let after_lay_codes = after_narrow32.before.before.before in
+    let at_if1 = after_lay_codes.before.before.before in
+    let s = Entry at_if1.before in
     let a = s.args in
     let size = s.pre.0.count_is in
     let codes = code_set s.pre.0 in
     let lain =
-    row_laid s.pre.0 a.pool.now _ a.p.total _ refl (search rules) after-lay-codes.lay-codes.ensures in
-    row_added s.pre.1.0 (codes_in a.marks.now) _ _ _ _ _ at-if1.if1.false (omega (arith, size)) codes
+    row_laid s.pre.0 a.pool.now _ a.p.total _ refl (search rules) after_lay_codes.lay-codes.ensures in
+    row_added s.pre.1.0 (codes_in a.marks.now) _ _ _ _ _ at_if1.if1.false (omega (arith, size)) codes
     s.pre.1.1
-    (after-narrow32.narrow32.ensures.1 (search rules))
-    (after-narrow322.narrow322.ensures.1 (omega (arith, size, codes.few)) ∙ size)
+    (after_narrow32.narrow32.ensures.1 (search rules))
+    (after_narrow322.narrow322.ensures.1 (omega (arith, size, codes.few)) ∙ size)
     (c.row-says.ensures ∙ ap (λ (l : List ℕ). one_if (says_by a.finals l)) lain.1)
     refl
     lain.0
@@ -151,7 +151,7 @@ add-row-spec =
     returns
     sub-if2
     unfit-requires-2
-    returns_2
+    returns-2
     add-end
     mul-lay-codes
     sub-lay-codes
@@ -179,4 +179,4 @@ add-row-spec =
     add-t21
     same_length
     same-length-2
-    returns_3)
+    returns-3)

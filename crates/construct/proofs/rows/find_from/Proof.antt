@@ -45,8 +45,8 @@ returns c =
     _
     c.find-row2.ensures
 
-returns_2 : tie.Need-returns-2
-returns_2 c =
+returns-2 : tie.Need-returns-2
+returns-2 c =
     let s = c.before.before.before in
     let a = (Entry s).args in
     found_after a.rows.now a.pool.now (codes_in a.marks.now) a.count (Entry s).requires.1.0 _ (inside s) _
@@ -64,4 +64,4 @@ find-from-spec =
     enum_told
     find-row-requires-2
     returns
-    returns_2)
+    returns-2)

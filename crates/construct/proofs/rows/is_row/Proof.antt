@@ -13,10 +13,10 @@ Entry w = w.before.before.before.before.before
 as_long :
     (p : tie.After-start-in)
     → (let a = (Entry p.before.before).args in
-    AsLong a.marks.now a.rows.now a.pool.now a.row p.start_in.result a.size)
+    AsLong a.marks.now a.rows.now a.pool.now a.row p.start-in.result a.size)
 as_long p =
     let w = p.before.before in
-    row_as_long (Entry w).args.marks.now _ _ (Entry w).requires.0 w.before.if1.false p.start_in.ensures.0
+    row_as_long (Entry w).args.marks.now _ _ (Entry w).requires.0 w.before.if1.false p.start-in.ensures.0
     (sym p.before.if2.false ∙ w.length-in.ensures.0)
     (Entry w).requires.1
 
@@ -28,8 +28,8 @@ returns c =
 length-in-requires : tie.Need-length-in-requires
 length-in-requires c κs = search rules
 
-returns_2 : tie.Need-returns-2
-returns_2 c =
+returns-2 : tie.Need-returns-2
+returns-2 c =
     let w = c.before in
     at_longer (Entry w).args.marks.now _ (Entry w).requires.0 w.before.if1.false w.length-in.ensures.0
     (λ e. c.if2.true (e ∙ sym (Entry w).requires.1))
@@ -55,8 +55,8 @@ part-all-marked-end c = (as_long c).ranges
 all-marked-requires : tie.Need-all-marked-requires
 all-marked-requires c κs = search rules
 
-returns_3 : tie.Need-returns-3
-returns_3 c =
+returns-3 : tie.Need-returns-3
+returns-3 c =
     let p = c.before.before in
     c.all-marked.ensures ∙ at_marked p.before.before.before.if1.false (as_long p)
 
@@ -66,7 +66,7 @@ is-row-spec =
     (tie.spec
     returns
     length-in-requires
-    returns_2
+    returns-2
     start-in-requires
     add-all-marked
     mul-all-marked
@@ -74,4 +74,4 @@ is-row-spec =
     part-all-marked-start
     part-all-marked-end
     all-marked-requires
-    returns_3)
+    returns-3)

@@ -20,10 +20,10 @@ same-length-3 c = search rules
 
 returns : tie.Need-returns
 returns c =
-    let after-unmark = c.before.before in
-    let after-place-row = after-unmark.before.before.before.before.before.before in
-    let s = after-place-row.before.before.before.before.before.before.before in
-    record { numbered = after-place-row.place-row.ensures; marks_zero = after-unmark.unmark.ensures s.requires.0 }
+    let after_unmark = c.before.before in
+    let after_place_row = after_unmark.before.before.before.before.before.before in
+    let s = after_place_row.before.before.before.before.before.before.before in
+    record { numbered = after_place_row.place-row.ensures; marks_zero = after_unmark.unmark.ensures s.requires.0 }
 
 pub place-marks-spec : {M : Type 1} → statement M
 place-marks-spec =

@@ -61,14 +61,14 @@ same-length-3 c = search rules
 same-length-4 : tie.Need-same-length-4
 same-length-4 c = search rules
 
-returns_2 : tie.Need-returns-2
-returns_2 c =
-    let after-add-row = c.before.before.before.before in
-    let told = after-add-row.before.before.before in
+returns-2 : tie.Need-returns-2
+returns-2 c =
+    let after_add_row = c.before.before.before.before in
+    let told = after_add_row.before.before.before in
     let f = told.before.before in
     let s = Begun f in
     placed_new s.pre.1 (codes_in s.args.marks.now) _ f.find-from.ensures told.enum_told.given.1 _ _ _
-    after-add-row.add_row.ensures
+    after_add_row.add_row.ensures
 
 same-length-5 : tie.Need-same-length-5
 same-length-5 c = search rules
@@ -76,8 +76,8 @@ same-length-5 c = search rules
 same-length-6 : tie.Need-same-length-6
 same-length-6 c = search rules
 
-returns_3 : tie.Need-returns-3
-returns_3 c =
+returns-3 : tie.Need-returns-3
+returns-3 c =
     let f = c.before.before.before in
     let s = Begun f in
     placed_found s.pre.1 (codes_in s.args.marks.now) _ _ f.find-from.ensures c.before.found.given.1
@@ -96,7 +96,7 @@ place-row-spec =
     add-row-requires
     same-length-3
     same-length-4
-    returns_2
+    returns-2
     same-length-5
     same-length-6
-    returns_3)
+    returns-3)

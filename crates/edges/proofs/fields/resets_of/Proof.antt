@@ -4,8 +4,8 @@ use Rattle.edges.proofs.FieldsRead.{field_read}
 use Rattle.edges.proofs.fields.resets_of.Statement.{statement}
 use Rattle.edges.proofs.fields.resets_of.Tie as tie
 
-wide32_requires : tie.Need-wide32-requires
-wide32_requires c κs = search rules
+wide32-requires : tie.Need-wide32-requires
+wide32-requires c κs = search rules
 
 mul-number-at : tie.Need-overflow-mul-number-at
 mul-number-at c = search rules
@@ -26,4 +26,4 @@ returns c =
 
 pub resets-of-spec : {M : Type 1} → statement M
 resets-of-spec =
-    tie.close (tie.spec wide32_requires mul-number-at add-number-at number-at-requires returns)
+    tie.close (tie.spec wide32-requires mul-number-at add-number-at number-at-requires returns)

@@ -1,6 +1,6 @@
 -- `edges::fields::text_length` meets its contract.
 use borrow.Author.Rules.{rules}
-use borrow.Author.Tests.{eq-eqb, ne_eqb}
+use borrow.Author.Tests.{eq_eqb, ne_eqb}
 use Rattle.edges.proofs.fields.text_length.Statement.{statement}
 use Rattle.edges.proofs.fields.text_length.Tie as tie
 
@@ -10,8 +10,8 @@ mul-result c = search rules
 returns : tie.Need-returns
 returns c = rw (eq-eqb c.before.args.kind 5 c.if1.true)
 
-returns_2 : tie.Need-returns-2
-returns_2 c = rw (ne_eqb c.before.args.kind 5 c.if1.false)
+returns-2 : tie.Need-returns-2
+returns-2 c = rw (ne_eqb c.before.args.kind 5 c.if1.false)
 
 pub text-length-spec : {M : Type 1} → statement M
-text-length-spec = tie.close (tie.spec mul-result returns returns_2)
+text-length-spec = tie.close (tie.spec mul-result returns returns-2)

@@ -15,8 +15,8 @@ count-of-requires c κs = search rules
 text-length-requires : tie.Need-text-length-requires
 text-length-requires c κs = search rules
 
-wide32_requires : tie.Need-wide32-requires
-wide32_requires c κs = search rules
+wide32-requires : tie.Need-wide32-requires
+wide32-requires c κs = search rules
 
 mul-part16-of : tie.Need-overflow-mul-part16-of
 mul-part16-of c = search rules
@@ -30,7 +30,7 @@ part16-of-requires c κs = search rules
 returns : tie.Need-returns
 returns c =
     let n = c.before.before.text_length_lem in
-    let k = c.before.before.before.before.kind_of in
+    let k = c.before.before.before.before.kind-of in
     let m = c.before.before.before.count_of in
     let w = c.before.wide32 in
     let a = c.before.before.before.before.before.before.args in
@@ -44,7 +44,7 @@ text-of-spec =
     kind-of-requires
     count-of-requires
     text-length-requires
-    wide32_requires
+    wide32-requires
     mul-part16-of
     add-part16-of
     part16-of-requires

@@ -26,8 +26,8 @@ append-requires c κs = search rules
 same-length-2 : tie.Need-same-length-2
 same-length-2 c = search rules
 
-returns_2 : tie.Need-returns-2
-returns_2 c =
+returns-2 : tie.Need-returns-2
+returns-2 c =
     let a = c.before.before.before.before.before.before.before.before.args in
     let done = c.before.before.append in
     added_new a.clocks a.room a.n (config_of a.clocks a.c) a.bank.now
@@ -39,4 +39,4 @@ returns_2 c =
 pub add_spec : {M : Type 1} → statement M
 add_spec =
     tie.close
-    (tie.spec has-config-requires same_length returns append-requires same-length-2 returns_2)
+    (tie.spec has-config-requires same_length returns append-requires same-length-2 returns-2)

@@ -35,8 +35,8 @@ add-t10 c = search rules
 same_length : tie.Need-same-length
 same_length c = search rules
 
-returns_2 : tie.Need-returns-2
-returns_2 c =
+returns-2 : tie.Need-returns-2
+returns-2 c =
     let a = c.before.before.before.before.before.before.args in
     append_new a.clocks a.room a.n (config_of a.clocks a.c) a.bank.now
     c.before.before.before.before.before.before.requires _
@@ -46,4 +46,4 @@ returns_2 c =
 
 pub append-spec : {M : Type 1} → statement M
 append-spec =
-    tie.close (tie.spec returns add-store mul-store store-requires add-t10 same_length returns_2)
+    tie.close (tie.spec returns add-store mul-store store-requires add-t10 same_length returns-2)

@@ -11,23 +11,23 @@ use borrow.Author.Rules.{rules}
 use Rattle.exact.proofs.bank.has_config.Statement.{statement}
 use Rattle.exact.proofs.bank.has_config.Tie as tie
 
-abbrev invariant_loop : tie.invariant_loop
-invariant_loop bank clocks n c width at₀ i₀ at i =
+abbrev invariant-loop : tie.invariant-loop
+invariant-loop bank clocks n c width at₀ i₀ at i =
     (clocks ≤ most_clocks) × (width ≡ clocks + 1) × (n * (clocks + 1) ≤ length bank)
     × Looking clocks n i at (config_of clocks c) bank
 
-abbrev decreases_loop : tie.decreases_loop
-decreases_loop bank clocks n c width at₀ i₀ at i = n - i
+abbrev decreases-loop : tie.decreases-loop
+decreases-loop bank clocks n c width at₀ i₀ at i = n - i
 
-add-width : tie.Need-overflow-add-width invariant_loop decreases_loop
+add-width : tie.Need-overflow-add-width invariant-loop decreases-loop
 add-width c = search rules
 
-loop_holds : tie.Need-loop-init invariant_loop decreases_loop
-loop_holds c = (search rules, search rules, search rules, looking _ _ _ _)
+loop-holds : tie.Need-loop-init invariant-loop decreases-loop
+loop-holds c = (search rules, search rules, search rules, looking _ _ _ _)
 
 -- the place of the configuration that is looked at lies in the bank
 inside :
-    (c : tie.In-loop invariant_loop decreases_loop)
+    (c : tie.In-loop invariant-loop decreases-loop)
     → (let l = c.before.loop in
     let a = c.before.before.before.args in
     l.at + (a.clocks + 1) ≤ length a.bank.now)
@@ -40,25 +40,25 @@ inside c =
           (omega (arith, l.invariant.3.place_is)) (omega (arith, l.invariant.2)),
     )
 
-is-at-requires : tie.Need-is-at-requires invariant_loop decreases_loop
+is-at-requires : tie.Need-is-at-requires invariant-loop decreases-loop
 is-at-requires c κs = (c.before.loop.invariant.0, omega (arith, inside c))
 
-returns : tie.Need-returns invariant_loop decreases_loop
+returns : tie.Need-returns invariant-loop decreases-loop
 returns c =
     let test = c.before.before in
     look_found test.before.loop.invariant.3 test.loop-test.true _ c.before.is_at.ensures c.if1.true
 
-add_at : tie.Need-overflow-add-at invariant_loop decreases_loop
+add_at : tie.Need-overflow-add-at invariant-loop decreases-loop
 add_at c = omega (arith, inside c.before.before)
 
-add-i : tie.Need-overflow-add-i invariant_loop decreases_loop
+add-i : tie.Need-overflow-add-i invariant-loop decreases-loop
 add-i c = search rules
 
-loop_less : tie.Need-loop-smaller invariant_loop decreases_loop
-loop_less c = search rules
+loop-less : tie.Need-loop-smaller invariant-loop decreases-loop
+loop-less c = search rules
 
-loop_again : tie.Need-loop-preserved invariant_loop decreases_loop
-loop_again c =
+loop-again : tie.Need-loop-preserved invariant-loop decreases-loop
+loop-again c =
     let test = c.before.before in
     let l = test.before.loop in (
       l.invariant.0,
@@ -67,21 +67,21 @@ loop_again c =
       looking_next l.invariant.3 test.loop-test.true _ c.before.is_at.ensures c.if1.false,
     )
 
-returns_2 : tie.Need-returns-2 invariant_loop decreases_loop
-returns_2 c = look_none c.before.loop.invariant.3 c.loop-test.false
+returns-2 : tie.Need-returns-2 invariant-loop decreases-loop
+returns-2 c = look_none c.before.loop.invariant.3 c.loop-test.false
 
 pub has-config-spec : {M : Type 1} → statement M
 has-config-spec =
     tie.close
     (tie.spec
-    invariant_loop
-    decreases_loop
+    invariant-loop
+    decreases-loop
     add-width
-    loop_holds
+    loop-holds
     is-at-requires
     returns
     add_at
     add-i
-    loop_less
-    loop_again
-    returns_2)
+    loop-less
+    loop-again
+    returns-2)

@@ -11,44 +11,44 @@ use borrow.Author.Rules.{rules}
 use Rattle.exact.proofs.event.by_configs.Statement.{statement}
 use Rattle.exact.proofs.event.by_configs.Tie as tie
 
-abbrev invariant_loop : tie.invariant_loop
-invariant_loop head edges grain symbol delay scratch₀ from n to room width end held₀ at₀ i₀ scratch held at i =
+abbrev invariant-loop : tie.invariant-loop
+invariant-loop head edges grain symbol delay scratch₀ from n to room width end held₀ at₀ i₀ scratch held at i =
     (width ≡ head.clocks + 1) × (end ≡ to + room * (head.clocks + 1))
     × Moving head edges grain symbol delay.0 room from n to held at i
     (by_configs_of head edges grain symbol delay.0 (configs_at head.clocks n from scratch₀))
     (length scratch₀)
     scratch
 
-abbrev decreases_loop : tie.decreases_loop
-decreases_loop head edges grain symbol delay scratch₀ from n to room width end held₀ at₀ i₀ scratch held at i = n - i
+abbrev decreases-loop : tie.decreases-loop
+decreases-loop head edges grain symbol delay scratch₀ from n to room width end held₀ at₀ i₀ scratch held at i = n - i
 
-wide32_requires : tie.Need-wide32-requires invariant_loop decreases_loop
-wide32_requires c κs = search rules
+wide32-requires : tie.Need-wide32-requires invariant-loop decreases-loop
+wide32-requires c κs = search rules
 
-add-width : tie.Need-overflow-add-width invariant_loop decreases_loop
+add-width : tie.Need-overflow-add-width invariant-loop decreases-loop
 add-width c = search rules
 
-mul-end : tie.Need-overflow-mul-end invariant_loop decreases_loop
+mul-end : tie.Need-overflow-mul-end invariant-loop decreases-loop
 mul-end c =
     let s = c.before.before.before in
     let w = c.wide32 in
     omega (arith, end_known s.args.to s.args.room w.result _ w.ensures.0, s.requires.banks.to_fits)
 
-add-end : tie.Need-overflow-add-end invariant_loop decreases_loop
+add-end : tie.Need-overflow-add-end invariant-loop decreases-loop
 add-end c =
     let s = c.before.before.before in
     let w = c.wide32 in
     omega (arith, end_known s.args.to s.args.room w.result _ w.ensures.0, s.requires.banks.to_fits)
 
-loop_holds : tie.Need-loop-init invariant_loop decreases_loop
-loop_holds c = (
+loop-holds : tie.Need-loop-init invariant-loop decreases-loop
+loop-holds c = (
   search rules,
   end_known _ _ _ _ c.wide32.ensures.0,
   moving _ _ _ _ _ _ _ _ _ _
       c.before.before.before.requires,
 )
 
-load-requires : tie.Need-load-requires invariant_loop decreases_loop
+load-requires : tie.Need-load-requires invariant-loop decreases-loop
 load-requires c κs =
     let a = c.before.before.before.before.before.before.args in
     omega (
@@ -57,24 +57,24 @@ load-requires c κs =
           a.to c.before.before.loop.invariant.2 c.before.loop-test.true,
     )
 
-after_delay_requires : tie.Need-after-delay-requires invariant_loop decreases_loop
-after_delay_requires c κs = search rules
+after-delay-requires : tie.Need-after-delay-requires invariant-loop decreases-loop
+after-delay-requires c κs = search rules
 
-mul-by-edges : tie.Need-overflow-mul-by-edges invariant_loop decreases_loop
+mul-by-edges : tie.Need-overflow-mul-by-edges invariant-loop decreases-loop
 mul-by-edges c = search rules
 
-sub-by-edges : tie.Need-overflow-sub-by-edges invariant_loop decreases_loop
+sub-by-edges : tie.Need-overflow-sub-by-edges invariant-loop decreases-loop
 sub-by-edges c = search rules
 
-part-by-edges-start : tie.Need-slice-bounds-by-edges-start invariant_loop decreases_loop
+part-by-edges-start : tie.Need-slice-bounds-by-edges-start invariant-loop decreases-loop
 part-by-edges-start c = search rules
 
-part-by-edges-end : tie.Need-slice-bounds-by-edges-end invariant_loop decreases_loop
+part-by-edges-end : tie.Need-slice-bounds-by-edges-end invariant-loop decreases-loop
 part-by-edges-end c =
     let l = c.before.before.before.before.loop in
     omega (arith, l.invariant.1, l.invariant.2.banks.to_fits)
 
-by-edges-requires : tie.Need-by-edges-requires invariant_loop decreases_loop
+by-edges-requires : tie.Need-by-edges-requires invariant-loop decreases-loop
 by-edges-requires c κs =
     let test = c.before.before.before.before in
     let at = test.before in
@@ -84,16 +84,16 @@ by-edges-requires c κs =
     at.loop.invariant.2 test.loop-test.true _
     (span_known a.to a.room w.result _ w.ensures.0)
 
-enum-known-added : tie.Need-enum-known-added invariant_loop decreases_loop
+enum-known-added : tie.Need-enum-known-added invariant-loop decreases-loop
 enum-known-added c = search rules
 
-enum_told : tie.Need-enum-told invariant_loop decreases_loop
+enum_told : tie.Need-enum-told invariant-loop decreases-loop
 enum_told c = search rules
 
-same_length : tie.Need-same-length invariant_loop decreases_loop
+same_length : tie.Need-same-length invariant-loop decreases-loop
 same_length c = search rules
 
-returns : tie.Need-returns invariant_loop decreases_loop
+returns : tie.Need-returns invariant-loop decreases-loop
 returns c =
     let made = c.before.before.before.before in
     let after = made.before.before in
@@ -112,7 +112,7 @@ returns c =
     made.by-edges.auto.1.1.1.1.1.0
     c.enum_told.given.1
 
-add_at : tie.Need-overflow-add-at invariant_loop decreases_loop
+add_at : tie.Need-overflow-add-at invariant-loop decreases-loop
 add_at c =
     let test = c.before.before.before.before.before.before.before.before.before.before in
     let l = test.before.loop in
@@ -128,14 +128,14 @@ add_at c =
           test.loop-test.true,
     )
 
-add-i : tie.Need-overflow-add-i invariant_loop decreases_loop
+add-i : tie.Need-overflow-add-i invariant-loop decreases-loop
 add-i c = search rules
 
-loop_less : tie.Need-loop-smaller invariant_loop decreases_loop
-loop_less c = search rules
+loop-less : tie.Need-loop-smaller invariant-loop decreases-loop
+loop-less c = search rules
 
-loop_again : tie.Need-loop-preserved invariant_loop decreases_loop
-loop_again c =
+loop-again : tie.Need-loop-preserved invariant-loop decreases-loop
+loop-again c =
     let made = c.before.before.before.before.before in
     let after = made.before.before in
     let was = after.before in
@@ -159,11 +159,11 @@ loop_again c =
           (ap (λ (x : ℕ). l.at + x) l.invariant.0),
     )
 
-same-length-2 : tie.Need-same-length-2 invariant_loop decreases_loop
+same-length-2 : tie.Need-same-length-2 invariant-loop decreases-loop
 same-length-2 c = c.before.loop.invariant.2.length_is
 
-returns_2 : tie.Need-returns-2 invariant_loop decreases_loop
-returns_2 c =
+returns-2 : tie.Need-returns-2 invariant-loop decreases-loop
+returns-2 c =
     let a = c.before.before.before.before.before.args in
     moved_all a.head a.edges.now a.grain a.symbol a.delay.0 a.room a.from a.n a.to
     c.before.loop.invariant.2 c.loop-test.false
@@ -172,15 +172,15 @@ pub by-configs-spec : {M : Type 1} → statement M
 by-configs-spec =
     tie.close
     (tie.spec
-    invariant_loop
-    decreases_loop
-    wide32_requires
+    invariant-loop
+    decreases-loop
+    wide32-requires
     add-width
     mul-end
     add-end
-    loop_holds
+    loop-holds
     load-requires
-    after_delay_requires
+    after-delay-requires
     mul-by-edges
     sub-by-edges
     part-by-edges-start
@@ -192,7 +192,7 @@ by-configs-spec =
     returns
     add_at
     add-i
-    loop_less
-    loop_again
+    loop-less
+    loop-again
     same-length-2
-    returns_2)
+    returns-2)

@@ -12,43 +12,43 @@ use borrow.Author.Rules.{rules}
 use Rattle.exact.proofs.event.by_edges.Statement.{statement}
 use Rattle.exact.proofs.event.by_edges.Tie as tie
 
-abbrev invariant_loop : tie.invariant_loop
-invariant_loop edges grain symbol from bank₀ room n clocks count held₀ e₀ bank held e =
+abbrev invariant-loop : tie.invariant-loop
+invariant-loop edges grain symbol from bank₀ room n clocks count held₀ e₀ bank held e =
     Spreading clocks count edges grain symbol from room held e
     (by_edges_of clocks count edges grain symbol from (configs_at clocks n 0 bank₀))
     (length bank₀)
     bank
 
-abbrev decreases_loop : tie.decreases_loop
-decreases_loop edges grain symbol from bank₀ room n clocks count held₀ e₀ bank held e = count - e
+abbrev decreases-loop : tie.decreases-loop
+decreases-loop edges grain symbol from bank₀ room n clocks count held₀ e₀ bank held e = count - e
 
-wide32_requires : tie.Need-wide32-requires invariant_loop decreases_loop
-wide32_requires c κs = search rules
+wide32-requires : tie.Need-wide32-requires invariant-loop decreases-loop
+wide32-requires c κs = search rules
 
-loop_holds : tie.Need-loop-init invariant_loop decreases_loop
-loop_holds c =
+loop-holds : tie.Need-loop-init invariant-loop decreases-loop
+loop-holds c =
     spreading _ _ _ _ _ _ _ _ _
     (roomy_known _ _ _ _ _ c.wide32.ensures.0 c.before.before.before.requires)
 
-can-take-requires : tie.Need-can-take-requires invariant_loop decreases_loop
+can-take-requires : tie.Need-can-take-requires invariant-loop decreases-loop
 can-take-requires c κs = search rules
 
-after_edge_requires : tie.Need-after-edge-requires invariant_loop decreases_loop
-after_edge_requires c κs = search rules
+after-edge-requires : tie.Need-after-edge-requires invariant-loop decreases-loop
+after-edge-requires c κs = search rules
 
-add-requires : tie.Need-add-requires invariant_loop decreases_loop
+add-requires : tie.Need-add-requires invariant-loop decreases-loop
 add-requires c κs = c.before.before.before.before.before.loop.invariant.roomy
 
-enum-known-added : tie.Need-enum-known-added invariant_loop decreases_loop
+enum-known-added : tie.Need-enum-known-added invariant-loop decreases-loop
 enum-known-added c = search rules
 
-enum_told : tie.Need-enum-told invariant_loop decreases_loop
+enum_told : tie.Need-enum-told invariant-loop decreases-loop
 enum_told c = search rules
 
-same_length : tie.Need-same-length invariant_loop decreases_loop
+same_length : tie.Need-same-length invariant-loop decreases-loop
 same_length c = search rules
 
-returns : tie.Need-returns invariant_loop decreases_loop
+returns : tie.Need-returns invariant-loop decreases-loop
 returns c =
     let added = c.before.before.before.before in
     let took = added.before.before in
@@ -61,10 +61,10 @@ returns c =
     at.loop.invariant
     test.before.loop-test.true
     _
-    test.can_take_lem.ensures
+    test.can-take.ensures
     took.before.if1.true
-    took.after_edge.result
-    took.after_edge.ensures
+    took.after-edge.result
+    took.after-edge.ensures
     _
     added.add.result
     added.add.ensures
@@ -72,19 +72,19 @@ returns c =
     clocks_known w.result a.head.clocks a.head.count a.edges.now a.grain a.symbol a.from
     a.room a.n a.bank.now a.bank.now Full w.ensures.0 over
 
-add_e : tie.Need-overflow-add-e invariant_loop decreases_loop
-add_e c = search rules
+add-e : tie.Need-overflow-add-e invariant-loop decreases-loop
+add-e c = search rules
 
-loop_less : tie.Need-loop-smaller invariant_loop decreases_loop
-loop_less c = search rules
+loop-less : tie.Need-loop-smaller invariant-loop decreases-loop
+loop-less c = search rules
 
-loop_again : tie.Need-loop-preserved invariant_loop decreases_loop
-loop_again c =
+loop-again : tie.Need-loop-preserved invariant-loop decreases-loop
+loop-again c =
     let at = c.before.before.before in
     let a = at.before.before.before.before.args in
     let clocks = at.before.wide32.result in
     let test = c.before.before.loop-test.true in
-    let can = c.before.can_take_lem.ensures in
+    let can = c.before.can-take.ensures in
     ⊎_elim
     (λ w.
     rw (w.9, w.10)
@@ -95,11 +95,11 @@ loop_again c =
     a.room at.loop.invariant test _ can w.0.left))
     c.if1.branch
 
-same-length-2 : tie.Need-same-length-2 invariant_loop decreases_loop
+same-length-2 : tie.Need-same-length-2 invariant-loop decreases-loop
 same-length-2 c = search rules
 
-returns_2 : tie.Need-returns-2 invariant_loop decreases_loop
-returns_2 c =
+returns-2 : tie.Need-returns-2 invariant-loop decreases-loop
+returns-2 c =
     let at = c.before in
     let a = at.before.before.before.before.args in
     let w = at.before.wide32 in
@@ -112,19 +112,19 @@ pub by-edges-spec : {M : Type 1} → statement M
 by-edges-spec =
     tie.close
     (tie.spec
-    invariant_loop
-    decreases_loop
-    wide32_requires
-    loop_holds
+    invariant-loop
+    decreases-loop
+    wide32-requires
+    loop-holds
     can-take-requires
-    after_edge_requires
+    after-edge-requires
     add-requires
     enum-known-added
     enum_told
     same_length
     returns
-    add_e
-    loop_less
-    loop_again
+    add-e
+    loop-less
+    loop-again
     same-length-2
-    returns_2)
+    returns-2)

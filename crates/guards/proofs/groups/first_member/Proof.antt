@@ -12,26 +12,26 @@ use Rattle.guards.proofs.Answers.{atom_member, group_member, members_closed, mem
 use Rattle.guards.proofs.groups.first_member.Statement.{statement}
 use Rattle.guards.proofs.groups.first_member.Tie as tie
 
-abbrev invariant_loop : tie.invariant_loop
-invariant_loop text readings unit at₀ position₀ at position =
+abbrev invariant-loop : tie.invariant-loop
+invariant-loop text readings unit at₀ position₀ at position =
     (at ≤ length text + atom_width) × Holding members_in (meets unit readings) text position at
 
-abbrev decreases_loop : tie.decreases_loop
-decreases_loop text readings unit at₀ position₀ at position = length text - at
+abbrev decreases-loop : tie.decreases-loop
+decreases-loop text readings unit at₀ position₀ at position = length text - at
 
-loop_holds : tie.Need-loop-init invariant_loop decreases_loop
-loop_holds c = (search rules, holding_start _ _ _)
+loop-holds : tie.Need-loop-init invariant-loop decreases-loop
+loop-holds c = (search rules, holding_start _ _ _)
 
-number-at-requires : tie.Need-number-at-requires invariant_loop decreases_loop
+number-at-requires : tie.Need-number-at-requires invariant-loop decreases-loop
 number-at-requires c κs = search rules
 
-add-atom-holds : tie.Need-overflow-add-atom-holds invariant_loop decreases_loop
+add-atom-holds : tie.Need-overflow-add-atom-holds invariant-loop decreases-loop
 add-atom-holds c = search rules
 
-atom-holds-requires : tie.Need-atom-holds-requires invariant_loop decreases_loop
+atom-holds-requires : tie.Need-atom-holds-requires invariant-loop decreases-loop
 atom-holds-requires c κs = search rules
 
-returns : tie.Need-returns invariant_loop decreases_loop
+returns : tie.Need-returns invariant-loop decreases-loop
 returns c =
     let e = c.before.before in
     let m = e.before.before in
@@ -40,20 +40,20 @@ returns c =
     c.before.atom-holds.ensures)
     c.if2.true
 
-add-position : tie.Need-overflow-add-position invariant_loop decreases_loop
+add-position : tie.Need-overflow-add-position invariant-loop decreases-loop
 add-position c = search rules
 
-add_at : tie.Need-overflow-add-at invariant_loop decreases_loop
+add_at : tie.Need-overflow-add-at invariant-loop decreases-loop
 add_at c = search rules
 
-add-at-2 : tie.Need-overflow-add-at-2 invariant_loop decreases_loop
+add-at-2 : tie.Need-overflow-add-at-2 invariant-loop decreases-loop
 add-at-2 c = search rules
 
-loop_less : tie.Need-loop-smaller invariant_loop decreases_loop
-loop_less c = search rules
+loop-less : tie.Need-loop-smaller invariant-loop decreases-loop
+loop-less c = search rules
 
-loop_again : tie.Need-loop-preserved invariant_loop decreases_loop
-loop_again c =
+loop-again : tie.Need-loop-preserved invariant-loop decreases-loop
+loop-again c =
     let e = c.before.before in
     let m = e.before.before in (
       search rules,
@@ -63,29 +63,29 @@ loop_again c =
           c.if2.false,
     )
 
-opens-requires : tie.Need-opens-requires invariant_loop decreases_loop
+opens-requires : tie.Need-opens-requires invariant-loop decreases-loop
 opens-requires c κs = search rules
 
-add-any-of : tie.Need-overflow-add-any-of invariant_loop decreases_loop
+add-any-of : tie.Need-overflow-add-any-of invariant-loop decreases-loop
 add-any-of c = search rules
 
-mul-any-of : tie.Need-overflow-mul-any-of invariant_loop decreases_loop
+mul-any-of : tie.Need-overflow-mul-any-of invariant-loop decreases-loop
 mul-any-of c = search rules
 
-sub-any-of : tie.Need-overflow-sub-any-of invariant_loop decreases_loop
+sub-any-of : tie.Need-overflow-sub-any-of invariant-loop decreases-loop
 sub-any-of c = search rules
 
-part-any-of-start : tie.Need-slice-bounds-any-of-start invariant_loop decreases_loop
+part-any-of-start : tie.Need-slice-bounds-any-of-start invariant-loop decreases-loop
 part-any-of-start c = search rules
 
-part-any-of-end : tie.Need-slice-bounds-any-of-end invariant_loop decreases_loop
+part-any-of-end : tie.Need-slice-bounds-any-of-end invariant-loop decreases-loop
 part-any-of-end c = search rules
 
-any-of-requires : tie.Need-any-of-requires invariant_loop decreases_loop
+any-of-requires : tie.Need-any-of-requires invariant-loop decreases-loop
 any-of-requires c κs = search rules
 
-returns_2 : tie.Need-returns-2 invariant_loop decreases_loop
-returns_2 c =
+returns-2 : tie.Need-returns-2 invariant-loop decreases-loop
+returns-2 c =
     let g = c.before.before in
     let o = g.before.before.before in
     let e = o.before in
@@ -95,19 +95,19 @@ returns_2 c =
     g.any_of.result (sym o.opens.ensures ∙ g.before.before.if3.true) g.any_of.ensures)
     c.if4.true
 
-add-position-2 : tie.Need-overflow-add-position-2 invariant_loop decreases_loop
+add-position-2 : tie.Need-overflow-add-position-2 invariant-loop decreases-loop
 add-position-2 c = search rules
 
-add-at-3 : tie.Need-overflow-add-at-3 invariant_loop decreases_loop
+add-at-3 : tie.Need-overflow-add-at-3 invariant-loop decreases-loop
 add-at-3 c = search rules
 
-add-at-4 : tie.Need-overflow-add-at-4 invariant_loop decreases_loop
+add-at-4 : tie.Need-overflow-add-at-4 invariant-loop decreases-loop
 add-at-4 c = search rules
 
-loop-less-2 : tie.Need-loop-smaller-2 invariant_loop decreases_loop
+loop-less-2 : tie.Need-loop-smaller-2 invariant-loop decreases-loop
 loop-less-2 c = search rules
 
-loop-again-2 : tie.Need-loop-preserved-2 invariant_loop decreases_loop
+loop-again-2 : tie.Need-loop-preserved-2 invariant-loop decreases-loop
 loop-again-2 c =
     let g = c.before.before.before in
     let o = g.before.before.before in
@@ -121,24 +121,24 @@ loop-again-2 c =
           c.before.if4.false,
     )
 
-returns_3 : tie.Need-returns-3 invariant_loop decreases_loop
-returns_3 c =
+returns-3 : tie.Need-returns-3 invariant-loop decreases-loop
+returns-3 c =
     let e = c.before.before in
     let m = e.before.before in
     holding_end m.before.loop.invariant.1
     (members_closed _ _ _ m.loop-test.true e.before.number_at.ensures.0 e.if1.false
     (sym c.before.opens.ensures ∙ c.if3.false))
 
-returns-4 : tie.Need-returns-4 invariant_loop decreases_loop
+returns-4 : tie.Need-returns-4 invariant-loop decreases-loop
 returns-4 c = holding_end c.before.loop.invariant.1 (members_over _ _ c.loop-test.false)
 
 pub first-member-spec : {M : Type 1} → statement M
 first-member-spec =
     tie.close
     (tie.spec
-    invariant_loop
-    decreases_loop
-    loop_holds
+    invariant-loop
+    decreases-loop
+    loop-holds
     number-at-requires
     add-atom-holds
     atom-holds-requires
@@ -146,8 +146,8 @@ first-member-spec =
     add-position
     add_at
     add-at-2
-    loop_less
-    loop_again
+    loop-less
+    loop-again
     opens-requires
     add-any-of
     mul-any-of
@@ -155,11 +155,11 @@ first-member-spec =
     part-any-of-start
     part-any-of-end
     any-of-requires
-    returns_2
+    returns-2
     add-position-2
     add-at-3
     add-at-4
     loop-less-2
     loop-again-2
-    returns_3
+    returns-3
     returns-4)

@@ -100,8 +100,8 @@ add-t19 c = search rules
 same-length-2 : tie.Need-same-length-2
 same-length-2 c = search rules
 
-returns_2 : tie.Need-returns-2
-returns_2 c =
+returns-2 : tie.Need-returns-2
+returns-2 c =
     let n = noted c.before in
     let k = packed (free n).before in
     let a = (lent k).args in
@@ -126,8 +126,8 @@ extend-requires c κs =
 same-length-3 : tie.Need-same-length-3
 same-length-3 c = search rules
 
-returns_3 : tie.Need-returns-3
-returns_3 c =
+returns-3 : tie.Need-returns-3
+returns-3 c =
     let extended = c.before.before in
     let judged = extended.before.before in
     let n = noted judged.before in
@@ -153,7 +153,7 @@ reach-spec =
     only-first-requires
     add-t19
     same-length-2
-    returns_2
+    returns-2
     extend-requires
     same-length-3
-    returns_3)
+    returns-3)

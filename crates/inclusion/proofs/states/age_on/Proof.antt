@@ -19,10 +19,10 @@ returns c =
     let k = c.before.before in
     age_more k.args.built k.args.age _ c.before.width.ensures c.if1.true
 
-returns_2 : tie.Need-returns-2
-returns_2 c =
+returns-2 : tie.Need-returns-2
+returns-2 c =
     let k = c.before.before in
     age_stays k.args.built k.args.age _ c.before.width.ensures k.requires.1 c.if1.false
 
 pub age-on-spec : {M : Type 1} → statement M
-age-on-spec = tie.close (tie.spec add-if1 width-requires add-result returns returns_2)
+age-on-spec = tie.close (tie.spec add-if1 width-requires add-result returns returns-2)

@@ -30,8 +30,8 @@ asked c = record {
 width-requires : tie.Need-width-requires
 width-requires c κs = search rules
 
-wide32_requires : tie.Need-wide32-requires
-wide32_requires c κs = search rules
+wide32-requires : tie.Need-wide32-requires
+wide32-requires c κs = search rules
 
 mul_at : tie.Need-overflow-mul-at
 mul_at c = omega (arith, line_most (asked c))
@@ -62,7 +62,7 @@ cell-of-spec =
     tie.close
     (tie.spec
     width-requires
-    wide32_requires
+    wide32-requires
     mul_at
     add_at
     mul-at-2

@@ -18,10 +18,10 @@ says-requires-2 c κs = search rules
 returns : tie.Need-returns
 returns c = both_say _ _ _ _ c.before.before.says.ensures c.before.if1.true c.says2.ensures
 
-returns_2 : tie.Need-returns-2
-returns_2 c =
+returns-2 : tie.Need-returns-2
+returns-2 c =
     let a = (lent c.before).args in
     first_not _ _ (says_row a.rows2.now a.j.row2) c.before.says.ensures c.if1.false
 
 pub only-first-spec : {M : Type 1} → statement M
-only-first-spec = tie.close (tie.spec says-requires says-requires-2 returns returns_2)
+only-first-spec = tie.close (tie.spec says-requires says-requires-2 returns returns-2)

@@ -14,8 +14,8 @@ states_are :
     (n ≡ state_count c.before.before.args.built) × (1 ≤ n)
 states_are c = counted c.before.before.requires _ _ c.before.wide32.ensures.0 c.width.ensures
 
-wide32_requires : tie.Need-wide32-requires
-wide32_requires c κs = search rules
+wide32-requires : tie.Need-wide32-requires
+wide32-requires c κs = search rules
 
 width-requires : tie.Need-width-requires
 width-requires c κs = search rules
@@ -27,4 +27,4 @@ returns : tie.Need-returns
 returns c = states_are c
 
 pub state-count-spec : {M : Type 1} → statement M
-state-count-spec = tie.close (tie.spec wide32_requires width-requires mul-result returns)
+state-count-spec = tie.close (tie.spec wide32-requires width-requires mul-result returns)

@@ -19,8 +19,8 @@ lent c = c.before.before.before.before
 abbrev celled : tie.After-age-after2 → tie.After-cell-of2
 celled c = c.before.before
 
-cell_of_requires : tie.Need-cell-of-requires
-cell_of_requires c κs = search rules
+cell-of-requires : tie.Need-cell-of-requires
+cell-of-requires c κs = search rules
 
 cell-of-requires-2 : tie.Need-cell-of-requires-2
 cell-of-requires-2 c κs = search rules
@@ -62,7 +62,7 @@ pub take_from_spec : {M : Type 1} → statement M
 take_from_spec =
     tie.close
     (tie.spec
-    cell_of_requires
+    cell-of-requires
     cell-of-requires-2
     age-after-requires
     age-after-requires-2

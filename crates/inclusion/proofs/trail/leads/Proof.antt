@@ -38,8 +38,8 @@ pack-requires c κs =
     let w = c.take-from.ensures in
     (k.0.first.sized, k.0.second.sized, w.first_in_lem, w.second_in_lem)
 
-returns_2 : tie.Need-returns-2
-returns_2 c =
+returns-2 : tie.Need-returns-2
+returns-2 c =
     let parted = c.before.before in
     let l = levelled parted in
     let a = (lent l.before).args in
@@ -61,4 +61,4 @@ leads-spec =
     apart-requires
     take-from-requires
     pack-requires
-    returns_2)
+    returns-2)

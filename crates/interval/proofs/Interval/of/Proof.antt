@@ -20,8 +20,8 @@ mul-if2 c = record { fits = product_fits _ _ (search rules) (search rules) }
 top-requires : tie.Need-top-requires
 top-requires c κs = search rules
 
-returns_2 : tie.Need-returns-2
-returns_2 c = c.top.ensures ∙ above_top _ _ _ c.before.if2.true
+returns-2 : tie.Need-returns-2
+returns-2 c = c.top.ensures ∙ above_top _ _ _ c.before.if2.true
 
 div-whole : tie.Need-nonzero-div-whole
 div-whole c = grain_counts _ _ _ c.before.if1.false c.if2.false
@@ -36,8 +36,8 @@ whole_most c = div-le_self _ _
 mul-t10 : tie.Need-overflow-mul-t10
 mul-t10 c = omega (arith, whole_most c.before)
 
-returns_3 : tie.Need-returns-3
-returns_3 c = at_whole _ _ _ c.before.before.if1.false c.before.if2.false c.if3.true
+returns-3 : tie.Need-returns-3
+returns-3 c = at_whole _ _ _ c.before.before.if1.false c.before.if2.false c.if3.true
 
 mul-t9 : tie.Need-overflow-mul-t9
 mul-t9 c = omega (arith, whole_most c.before)
@@ -56,11 +56,11 @@ of_spec =
     returns
     mul-if2
     top-requires
-    returns_2
+    returns-2
     div-whole
     rem-if3
     mul-t10
-    returns_3
+    returns-3
     mul-t9
     add-t8
     returns-4)

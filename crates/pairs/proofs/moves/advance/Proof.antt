@@ -10,8 +10,8 @@ wide8-requires c κs = search rules
 wide16-requires : tie.Need-wide16-requires
 wide16-requires c κs = search rules
 
-wide32_requires : tie.Need-wide32-requires
-wide32_requires c κs = search rules
+wide32-requires : tie.Need-wide32-requires
+wide32-requires c κs = search rules
 
 add-sum : tie.Need-overflow-add-sum
 add-sum c = search rules
@@ -33,8 +33,8 @@ returns c =
 narrow16-requires-2 : tie.Need-narrow16-requires-2
 narrow16-requires-2 c κs = search rules
 
-returns_2 : tie.Need-returns-2
-returns_2 c =
+returns-2 : tie.Need-returns-2
+returns-2 c =
     let b = c.before.before in
     advanced_within _ _ _ _ _ _ _ b.before.before.wide8.ensures.0 b.wide32.ensures.0
     b.before.wide16.ensures.0
@@ -47,10 +47,10 @@ advance-spec =
     (tie.spec
     wide8-requires
     wide16-requires
-    wide32_requires
+    wide32-requires
     add-sum
     add-narrow16
     narrow16-requires
     returns
     narrow16-requires-2
-    returns_2)
+    returns-2)

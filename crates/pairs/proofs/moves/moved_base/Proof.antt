@@ -17,21 +17,21 @@ returns c =
 advance-requires : tie.Need-advance-requires
 advance-requires c κs = search rules
 
-returns_2 : tie.Need-returns-2
-returns_2 c =
-    let at-if1 = c.before.before in
-    let after-bit = at-if1.before in
-    let start = after-bit.before in
+returns-2 : tie.Need-returns-2
+returns-2 c =
+    let at_if1 = c.before.before in
+    let after_bit = at_if1.before in
+    let start = after_bit.before in
     moved_forward start.args.mask _ _ start.args.top
-    start.args.interval start.args.base _ (sym after-bit.has-bit.ensures ∙ at-if1.if1.false)
+    start.args.interval start.args.base _ (sym after_bit.has-bit.ensures ∙ at_if1.if1.false)
     c.before.if2.true c.advance.ensures
 
-returns_3 : tie.Need-returns-3
-returns_3 c =
-    let after-bit = c.before.before in
-    let start = after-bit.before in
+returns-3 : tie.Need-returns-3
+returns-3 c =
+    let after_bit = c.before.before in
+    let start = after_bit.before in
     moved_kept start.args.mask _ _ start.args.top
-    start.args.interval _ (sym after-bit.has-bit.ensures ∙ c.before.if1.false) c.if2.false
+    start.args.interval _ (sym after_bit.has-bit.ensures ∙ c.before.if1.false) c.if2.false
 
 pub moved-base-spec : {M : Type 1} → statement M
-moved-base-spec = tie.close (tie.spec has-bit-requires returns advance-requires returns_2 returns_3)
+moved-base-spec = tie.close (tie.spec has-bit-requires returns advance-requires returns-2 returns-3)

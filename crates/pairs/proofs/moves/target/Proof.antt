@@ -23,14 +23,14 @@ pack-requires c κs = search rules
 
 returns : tie.Need-returns
 returns c powered =
-    let after-resets-of = c.before.before.before in
-    let after-narrow16 = after-resets-of.before in
-    let after-target-of = after-narrow16.before in
-    let a = after-target-of.before.before.args in
-    let found = after-target-of.target_of_lem.ensures in
+    let after_resets_of = c.before.before.before in
+    let after_narrow16 = after_resets_of.before in
+    let after_target_of = after_narrow16.before in
+    let a = after_target_of.before.before.args in
+    let found = after_target_of.target-of.ensures in
     target_is a.scale a.interval a.timer a.pair (edge_at a.e a.edges.now) _ _ _ _
-    (after-narrow16.narrow16.ensures.1 found.1 ∙ found.0)
-    after-resets-of.resets-of.ensures.0
+    (after_narrow16.narrow16.ensures.1 found.1 ∙ found.0)
+    after_resets_of.resets-of.ensures.0
     c.before.moved.ensures
     (c.pack.ensures powered)
 

@@ -10,55 +10,55 @@ source-of-requires c κs = search rules
 
 returns : tie.Need-returns
 returns c =
-    let after-source = c.before.before in
-    let a = after-source.before.before.args in
-    other_source a.top a.input a.pair (edge_at a.e a.edges.now) _ after-source.source_of.ensures.0
+    let after_source = c.before.before in
+    let a = after_source.before.before.args in
+    other_source a.top a.input a.pair (edge_at a.e a.edges.now) _ after_source.source_of.ensures.0
     c.if1.true
 
 symbol-of-requires : tie.Need-symbol-of-requires
 symbol-of-requires c κs = search rules
 
-wide32_requires : tie.Need-wide32-requires
-wide32_requires c κs = search rules
+wide32-requires : tie.Need-wide32-requires
+wide32-requires c κs = search rules
 
-returns_2 : tie.Need-returns-2
-returns_2 c =
-    let after-symbol = c.before.before in
-    let at-if1 = after-symbol.before in
-    let after-source = at-if1.before.before in
-    let a = after-source.before.before.args in
+returns-2 : tie.Need-returns-2
+returns-2 c =
+    let after_symbol = c.before.before in
+    let at_if1 = after_symbol.before in
+    let after_source = at_if1.before.before in
+    let a = after_source.before.before.args in
     other_symbol a.top a.input a.pair (edge_at a.e a.edges.now) _ _ _
-    after-source.source_of.ensures.0
-    at-if1.if1.false
-    after-symbol.symbol_of.ensures.0
+    after_source.source_of.ensures.0
+    at_if1.if1.false
+    after_symbol.symbol-of.ensures.0
     c.before.wide32.ensures.0
     c.if2.true
 
-readings_requires : tie.Need-readings-requires
-readings_requires c κs = search rules
+readings-requires : tie.Need-readings-requires
+readings-requires c κs = search rules
 
 slice-aggregate-guard-holds : tie.Need-slice-aggregate-guard-init
 slice-aggregate-guard-holds c = search rules
 
-guard_holds_requires : tie.Need-guard-holds-requires
-guard_holds_requires c κs = search rules
+guard-holds-requires : tie.Need-guard-holds-requires
+guard-holds-requires c κs = search rules
 
-returns_3 : tie.Need-returns-3
-returns_3 c =
-    let after-readings = c.before.before in
-    let at-if2 = after-readings.before.before in
-    let after-symbol = at-if2.before.before in
-    let at-if1 = after-symbol.before in
-    let after-source = at-if1.before.before in
-    let a = after-source.before.before.args in
+returns-3 : tie.Need-returns-3
+returns-3 c =
+    let after_readings = c.before.before in
+    let at_if2 = after_readings.before.before in
+    let after_symbol = at_if2.before.before in
+    let at_if1 = after_symbol.before in
+    let after_source = at_if1.before.before in
+    let a = after_source.before.before.args in
     same_edge a.top a.input a.pair (edge_at a.e a.edges.now) _ _ _ _ _
-    after-source.source_of.ensures.0
-    at-if1.if1.false
-    after-symbol.symbol_of.ensures.0
-    at-if2.before.wide32.ensures.0
-    at-if2.if2.false
-    after-readings.readings.ensures
-    c.guard_holds.ensures
+    after_source.source_of.ensures.0
+    at_if1.if1.false
+    after_symbol.symbol-of.ensures.0
+    at_if2.before.wide32.ensures.0
+    at_if2.if2.false
+    after_readings.readings.ensures
+    c.guard-holds.ensures
 
 pub allows-spec : {M : Type 1} → statement M
 allows-spec =
@@ -67,9 +67,9 @@ allows-spec =
     source-of-requires
     returns
     symbol-of-requires
-    wide32_requires
-    returns_2
-    readings_requires
+    wide32-requires
+    returns-2
+    readings-requires
     slice-aggregate-guard-holds
-    guard_holds_requires
-    returns_3)
+    guard-holds-requires
+    returns-3)

@@ -30,14 +30,14 @@ region-requires-4 c κs = search rules
 
 returns : tie.Need-returns
 returns c =
-    let after-third = c.before in
-    let after-second = after-third.before in
-    let after_first = after-second.before in
+    let after_third = c.before in
+    let after_second = after_third.before in
+    let after_first = after_second.before in
     let bases = after_first.before.args.t3 in
     readings_four _ _ _ _ _ _ bases (search rules)
     after_first.region.ensures
-    after-second.region2.ensures
-    after-third.region3.ensures
+    after_second.region2.ensures
+    after_third.region3.ensures
     c.region4.ensures
 
 pub readings-spec : {M : Type 1} → statement M

@@ -10,8 +10,8 @@ wide16-requires c κs = search rules
 mul-sum : tie.Need-overflow-mul-sum
 mul-sum c = search rules
 
-wide32_requires : tie.Need-wide32-requires
-wide32_requires c κs = search rules
+wide32-requires : tie.Need-wide32-requires
+wide32-requires c κs = search rules
 
 add-sum : tie.Need-overflow-add-sum
 add-sum c = search rules
@@ -33,16 +33,16 @@ narrow32-requires c κs = search rules
 
 returns : tie.Need-returns
 returns c =
-    let after-lesser = c.before in
-    let after-wide8 = after-lesser.before in
-    let after-wide32 = after-wide8.before in
-    let after-wide16 = after-wide32.before in
-    let is = after-lesser.lesser.ensures in
+    let after_lesser = c.before in
+    let after_wide8 = after_lesser.before in
+    let after_wide32 = after_wide8.before in
+    let after_wide16 = after_wide32.before in
+    let is = after_lesser.lesser.ensures in
     region_is _ _ _ _ is _ _ _ _
-    after-wide8.wide8.ensures.0
-    after-wide16.wide16.ensures.0
-    after-wide32.wide32.ensures.0
-    (c.narrow32.ensures.1 (region_small _ _ _ _ is after-wide8.wide8.ensures.1))
+    after_wide8.wide8.ensures.0
+    after_wide16.wide16.ensures.0
+    after_wide32.wide32.ensures.0
+    (c.narrow32.ensures.1 (region_small _ _ _ _ is after_wide8.wide8.ensures.1))
 
 pub region-spec : {M : Type 1} → statement M
 region-spec =
@@ -50,7 +50,7 @@ region-spec =
     (tie.spec
     wide16-requires
     mul-sum
-    wide32_requires
+    wide32-requires
     add-sum
     wide8-requires
     mul-above

@@ -19,15 +19,15 @@ returns c =
 allows-requires : tie.Need-allows-requires
 allows-requires c κs = search rules
 
-returns_2 : tie.Need-returns-2
-returns_2 c =
-    let after-resets-of = c.before.before in
-    let start = after-resets-of.before.before in
+returns-2 : tie.Need-returns-2
+returns-2 c =
+    let after_resets_of = c.before.before in
+    let start = after_resets_of.before.before in
     let a = start.args in
     resets_some a.top a.input a.pair (edge_at a.e a.edges.now) _ _
-    after-resets-of.resets-of.ensures.0
+    after_resets_of.resets-of.ensures.0
     c.before.if1.false
     c.allows.ensures
 
 pub edge-resets-spec : {M : Type 1} → statement M
-edge-resets-spec = tie.close (tie.spec resets-of-requires returns allows-requires returns_2)
+edge-resets-spec = tie.close (tie.spec resets-of-requires returns allows-requires returns-2)

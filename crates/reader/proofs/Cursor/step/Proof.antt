@@ -59,8 +59,8 @@ number-at-requires-2 c κs =
 body-ok-requires : tie.Need-body-ok-requires
 body-ok-requires c κs = search rules
 
-returns_2 : tie.Need-returns-2
-returns_2 c =
+returns-2 : tie.Need-returns-2
+returns-2 c =
     let kind = c.before.before in
     let uncut = kind.before.before in
     let start = uncut.before.before.before.before.before in
@@ -80,8 +80,8 @@ part-body-end c = search rules
 order-fault-requires : tie.Need-order-fault-requires
 order-fault-requires c κs = body_known (whole_at c.before)
 
-returns_3 : tie.Need-returns-3
-returns_3 c =
+returns-3 : tie.Need-returns-3
+returns-3 c =
     let order = c.before in
     let whole = whole_at order.before.before in
     λ r state. stops_order whole r _ (order.order-fault.ensures r state.holds) c.if3.true
@@ -99,7 +99,7 @@ take-edge-requires c κs =
     let r = start.requires.1.rule in
     let state = start.requires.1.state in
     edge_room (whole_at whole) r _ (order.order-fault.ensures r state.holds) fine.if3.false start.requires.0 _
-    state (sym kind.is_edge_lem.ensures ∙ c.before.if4.true) (search rules)
+    state (sym kind.is-edge.ensures ∙ c.before.if4.true) (search rules)
 
 same_length : tie.Need-same-length
 same_length c = search rules
@@ -113,7 +113,7 @@ returns-4 c =
     let whole = order.before.before in
     let start = whole.before.before.before.before.before.before.before.before.before in
     λ r state. edge_step (whole_at whole) r _ (order.order-fault.ensures r state.holds) kind.before.if3.false
-    start.requires.0 _ state (sym kind.is_edge_lem.ensures ∙ edge.if4.true) took.take-edge.new.1.1.1.1.0
+    start.requires.0 _ state (sym kind.is-edge.ensures ∙ edge.if4.true) took.take-edge.new.1.1.1.1.0
     took.take-edge.result (took.take-edge.ensures r state.holds)
 
 out-of-range-requires : tie.Need-out-of-range-requires
@@ -127,10 +127,10 @@ returns-5 c =
     let order = kind.before.before in
     let whole = order.before.before in
     let start = whole.before.before.before.before.before.before.before.before.before in
-    let not-edge = sym kind.is_edge_lem.ensures ∙ other.if4.false in
+    let not_edge = sym kind.is-edge.ensures ∙ other.if4.false in
     λ r state. stops_range (whole_at whole) r _ (order.order-fault.ensures r state.holds)
-    kind.before.if3.false start.requires.0 _ state not-edge
-    (range.out_of_range.ensures r state.holds.head_is not-edge) c.if5.true
+    kind.before.if3.false start.requires.0 _ state not_edge
+    (range.out_of_range.ensures r state.holds.head_is not_edge) c.if5.true
 
 taken-requires : tie.Need-taken-requires
 taken-requires c κs =
@@ -142,10 +142,10 @@ taken-requires c κs =
     let start = whole.before.before.before.before.before.before.before.before.before in
     let r = start.requires.1.rule in
     let state = start.requires.1.state in
-    let not-edge = sym kind.is_edge_lem.ensures ∙ other.if4.false in
+    let not_edge = sym kind.is-edge.ensures ∙ other.if4.false in
     taken_room (whole_at whole) r _ (order.order-fault.ensures r state.holds)
-    kind.before.if3.false start.requires.0 _ state not-edge
-    (range.out_of_range.ensures r state.holds.head_is not-edge) c.if5.false (search rules)
+    kind.before.if3.false start.requires.0 _ state not_edge
+    (range.out_of_range.ensures r state.holds.head_is not_edge) c.if5.false (search rules)
 
 returns-6 : tie.Need-returns-6
 returns-6 c =
@@ -156,10 +156,10 @@ returns-6 c =
     let order = kind.before.before in
     let whole = order.before.before in
     let start = whole.before.before.before.before.before.before.before.before.before in
-    let not-edge = sym kind.is_edge_lem.ensures ∙ other.if4.false in
+    let not_edge = sym kind.is-edge.ensures ∙ other.if4.false in
     λ r state. taken_on (whole_at whole) r _ (order.order-fault.ensures r state.holds)
-    kind.before.if3.false start.requires.0 _ state not-edge
-    (range.out_of_range.ensures r state.holds.head_is not-edge) fine.if5.false
+    kind.before.if3.false start.requires.0 _ state not_edge
+    (range.out_of_range.ensures r state.holds.head_is not_edge) fine.if5.false
     (c.taken.ensures _)
 
 pub step_spec : {M : Type 1} → statement M
@@ -174,12 +174,12 @@ step_spec =
     number-at-requires
     number-at-requires-2
     body-ok-requires
-    returns_2
+    returns-2
     sub-body
     part-body-start
     part-body-end
     order-fault-requires
-    returns_3
+    returns-3
     is-edge-requires
     take-edge-requires
     same_length

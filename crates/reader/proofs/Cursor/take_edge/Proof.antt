@@ -4,8 +4,8 @@ use Rattle.reader.proofs.Taken.{edge_places, edge_refused, edge_taken}
 use Rattle.reader.proofs.Cursor.take_edge.Statement.{statement}
 use Rattle.reader.proofs.Cursor.take_edge.Tie as tie
 
-wide32_requires : tie.Need-wide32-requires
-wide32_requires c κs = search rules
+wide32-requires : tie.Need-wide32-requires
+wide32-requires c κs = search rules
 
 mul-first : tie.Need-overflow-mul-first
 mul-first c = search rules
@@ -68,8 +68,8 @@ add-t20 c = search rules
 same-length-2 : tie.Need-same-length-2
 same-length-2 c = search rules
 
-returns_2 : tie.Need-returns-2
-returns_2 c =
+returns-2 : tie.Need-returns-2
+returns-2 c =
     let fine = c.before.before in
     let stored = fine.before.before.before.before.before.before in
     let count = stored.before.before in
@@ -81,7 +81,7 @@ pub take-edge-spec : {M : Type 1} → statement M
 take-edge-spec =
     tie.close
     (tie.spec
-    wide32_requires
+    wide32-requires
     mul-first
     add-past
     mul-store-edge
@@ -100,4 +100,4 @@ take-edge-spec =
     add-t13
     add-t20
     same-length-2
-    returns_2)
+    returns-2)

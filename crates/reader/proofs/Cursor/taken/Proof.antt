@@ -44,15 +44,15 @@ returns c =
     λ t. takes_sizes a.self a.kind a.size a.body.now t _ c.with-sizes.ensures.0 kind.match.keys1
     c.with-sizes.ensures.1
 
-returns_2 : tie.Need-returns-2
-returns_2 c =
+returns-2 : tie.Need-returns-2
+returns-2 c =
     let kind = c.before.before in
     let a = kind.before.before.before.args in
     λ t. takes_initial a.self a.kind a.size a.body.now t _ c.with-initial.ensures.0 _
     kind.match.keys2 c.before.number_at.ensures.0 c.with-initial.ensures.1
 
-returns_3 : tie.Need-returns-3
-returns_3 c =
+returns-3 : tie.Need-returns-3
+returns-3 c =
     let kind = c.before.before in
     let a = kind.before.before.before.args in
     λ t. takes_final a.self a.kind a.size a.body.now t _ c.with-final.ensures.0 _
@@ -75,6 +75,6 @@ taken-spec =
     number-at-requires-2
     with-final-requires
     returns
-    returns_2
-    returns_3
+    returns-2
+    returns-3
     returns-4)

@@ -16,11 +16,11 @@ add-t6 c = search rules
 
 returns : tie.Need-returns
 returns c =
-    let mask-of = c.before.mask-of in
+    let mask_of = c.before.mask-of in
     let a = c.before.before.before.args in (
       record { at_is = refl; last_is = refl },
       λ r h. final_held a.self r h a.location _
-          mask-of.ensures,
+          mask_of.ensures,
     )
 
 pub with-final-spec : {M : Type 1} → statement M

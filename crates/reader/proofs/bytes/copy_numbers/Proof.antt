@@ -7,58 +7,58 @@ use Rattle.reader.proofs.Stored.{Copied, copied_next, copied_end}
 use Rattle.reader.proofs.bytes.copy_numbers.Statement.{statement}
 use Rattle.reader.proofs.bytes.copy_numbers.Tie as tie
 
-abbrev invariant_loop : tie.invariant_loop
-invariant_loop bytes out₀ i₀ out i = Copied bytes out₀ i out
+abbrev invariant-loop : tie.invariant-loop
+invariant-loop bytes out₀ i₀ out i = Copied bytes out₀ i out
 
-abbrev decreases_loop : tie.decreases_loop
-decreases_loop bytes out₀ i₀ out i = length out₀ - i
+abbrev decreases-loop : tie.decreases-loop
+decreases-loop bytes out₀ i₀ out i = length out₀ - i
 
-loop_holds : tie.Need-loop-init invariant_loop decreases_loop
-loop_holds c = record { turns = search rules; wide = refl; is = refl }
+loop-holds : tie.Need-loop-init invariant-loop decreases-loop
+loop-holds c = record { turns = search rules; wide = refl; is = refl }
 
-number-at-requires : tie.Need-number-at-requires invariant_loop decreases_loop
+number-at-requires : tie.Need-number-at-requires invariant-loop decreases-loop
 number-at-requires c κs = search rules
 
-narrow16-requires : tie.Need-narrow16-requires invariant_loop decreases_loop
+narrow16-requires : tie.Need-narrow16-requires invariant-loop decreases-loop
 narrow16-requires c κs = search rules
 
-mul-out : tie.Need-overflow-mul-out invariant_loop decreases_loop
+mul-out : tie.Need-overflow-mul-out invariant-loop decreases-loop
 mul-out c = search rules
 
-slice-write-out : tie.Need-slice-write-out invariant_loop decreases_loop
+slice-write-out : tie.Need-slice-write-out invariant-loop decreases-loop
 slice-write-out c = search rules
 
-add-i : tie.Need-overflow-add-i invariant_loop decreases_loop
+add-i : tie.Need-overflow-add-i invariant-loop decreases-loop
 add-i c = search rules
 
-loop_less : tie.Need-loop-smaller invariant_loop decreases_loop
-loop_less c = search rules
+loop-less : tie.Need-loop-smaller invariant-loop decreases-loop
+loop-less c = search rules
 
-loop_again : tie.Need-loop-preserved invariant_loop decreases_loop
-loop_again c =
+loop-again : tie.Need-loop-preserved invariant-loop decreases-loop
+loop-again c =
     let number_at = c.before.number_at in
     let l = c.before.before.before.loop in
     copied_next l.invariant (search rules) _ (c.narrow16.ensures.1 (search rules) ∙ number_at.ensures.0)
 
-same_length : tie.Need-same-length invariant_loop decreases_loop
+same_length : tie.Need-same-length invariant-loop decreases-loop
 same_length c = search rules
 
-returns : tie.Need-returns invariant_loop decreases_loop
+returns : tie.Need-returns invariant-loop decreases-loop
 returns c = copied_end c.before.loop.invariant (search rules)
 
 pub copy-numbers-spec : {M : Type 1} → statement M
 copy-numbers-spec =
     tie.close
     (tie.spec
-    invariant_loop
-    decreases_loop
-    loop_holds
+    invariant-loop
+    decreases-loop
+    loop-holds
     number-at-requires
     narrow16-requires
     mul-out
     slice-write-out
     add-i
-    loop_less
-    loop_again
+    loop-less
+    loop-again
     same_length
     returns)

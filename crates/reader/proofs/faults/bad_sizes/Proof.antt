@@ -21,8 +21,8 @@ number-at-requires-3 c κs =
 sizes-ok-requires : tie.Need-sizes-ok-requires
 sizes-ok-requires c κs = search rules
 
-returns_2 : tie.Need-returns-2
-returns_2 c =
+returns-2 : tie.Need-returns-2
+returns-2 c =
     let locations = c.before.before.before in
     rw (
       locations.before.if1.false,
@@ -41,4 +41,4 @@ bad-sizes-spec =
     number-at-requires-2
     number-at-requires-3
     sizes-ok-requires
-    returns_2)
+    returns-2)

@@ -13,14 +13,14 @@ grouped-body-requires c κs = search rules
 returns : tie.Need-returns
 returns c = body_sizes c.before.args.kind c.before.args.size c.match.keys1
 
-returns_2 : tie.Need-returns-2
-returns_2 c =
+returns-2 : tie.Need-returns-2
+returns-2 c =
     let match = c.before.match in
     let a = c.before.before.args in
     body_plain a.kind a.size match.keys2 c.plain_body.ensures
 
-returns_3 : tie.Need-returns-3
-returns_3 c =
+returns-3 : tie.Need-returns-3
+returns-3 c =
     let match = c.before.match in
     let a = c.before.before.args in
     body_grouped a.kind a.size match.keys3 c.grouped-body.ensures
@@ -50,8 +50,8 @@ body-ok-spec =
     plain-body-requires
     grouped-body-requires
     returns
-    returns_2
-    returns_3
+    returns-2
+    returns-3
     returns-4
     returns-5
     returns-6)

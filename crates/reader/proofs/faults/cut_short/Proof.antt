@@ -15,11 +15,11 @@ number-at-requires c κs = search rules
 add-result : tie.Need-overflow-add-result
 add-result c = search rules
 
-returns_2 : tie.Need-returns-2
-returns_2 c =
+returns-2 : tie.Need-returns-2
+returns-2 c =
     let if1 = c.before.if1 in
     let a = c.before.before.before.args in
     rw (le-ltb (length a.rest.now) record_head if1.false, c.number_at.ensures.0)
 
 pub cut-short-spec : {M : Type 1} → statement M
-cut-short-spec = tie.close (tie.spec returns number-at-requires add-result returns_2)
+cut-short-spec = tie.close (tie.spec returns number-at-requires add-result returns-2)

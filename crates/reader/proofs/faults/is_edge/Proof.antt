@@ -7,8 +7,8 @@ use Rattle.reader.proofs.faults.is_edge.Tie as tie
 returns : tie.Need-returns
 returns c = rw (lt-leb plain_edge c.before.args.kind c.if1.true)
 
-returns_2 : tie.Need-returns-2
-returns_2 c = rw (le-leb plain_edge c.before.args.kind c.if1.false)
+returns-2 : tie.Need-returns-2
+returns-2 c = rw (le-leb plain_edge c.before.args.kind c.if1.false)
 
 pub is-edge-spec : {M : Type 1} → statement M
-is-edge-spec = tie.close (tie.spec returns returns_2)
+is-edge-spec = tie.close (tie.spec returns returns-2)

@@ -12,16 +12,16 @@ is-edge-requires : tie.Need-is-edge-requires
 is-edge-requires c κs = search rules
 
 returns : tie.Need-returns
-returns c = λ r e. rw (failed c.before.is_edge_lem.ensures c.if1.true)
+returns c = λ r e. rw (failed c.before.is-edge.ensures c.if1.true)
 
-wide32_requires : tie.Need-wide32-requires
-wide32_requires c κs = search rules
+wide32-requires : tie.Need-wide32-requires
+wide32-requires c κs = search rules
 
-returns_2 : tie.Need-returns-2
-returns_2 c =
+returns-2 : tie.Need-returns-2
+returns-2 c =
     let edge = c.before in
-    λ r e. rw (passed edge.before.is_edge_lem.ensures edge.if1.false)
+    λ r e. rw (passed edge.before.is-edge.ensures edge.if1.false)
     (ap (leb most_edges) (c.wide32.ensures.0 ∙ ap (λ (h : Head). h.count) e))
 
 pub one-too-many-spec : {M : Type 1} → statement M
-one-too-many-spec = tie.close (tie.spec is-edge-requires returns wide32_requires returns_2)
+one-too-many-spec = tie.close (tie.spec is-edge-requires returns wide32-requires returns-2)

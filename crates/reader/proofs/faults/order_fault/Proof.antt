@@ -17,8 +17,8 @@ returns c =
 one-too-many-requires : tie.Need-one-too-many-requires
 one-too-many-requires c κs = search rules
 
-returns_2 : tie.Need-returns-2
-returns_2 c =
+returns-2 : tie.Need-returns-2
+returns-2 c =
     let many = c.before in
     let order = many.before.before in
     let a = order.before.before.args in
@@ -28,8 +28,8 @@ returns_2 c =
 bad-sizes-requires : tie.Need-bad-sizes-requires
 bad-sizes-requires c κs = c.before.before.before.before.before.requires.sizes
 
-returns_3 : tie.Need-returns-3
-returns_3 c =
+returns-3 : tie.Need-returns-3
+returns-3 c =
     let sizes = c.before in
     let many = sizes.before.before in
     let order = many.before.before in
@@ -55,7 +55,7 @@ order-fault-spec =
     out-of-order-requires
     returns
     one-too-many-requires
-    returns_2
+    returns-2
     bad-sizes-requires
-    returns_3
+    returns-3
     returns-4)

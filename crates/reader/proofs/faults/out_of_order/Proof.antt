@@ -11,14 +11,14 @@ returns c =
     let a = sizes.before.before.before.args in
     λ r h. order_sizes a.cursor r h a.kind a.body.now sizes.if1.true
 
-returns_2 : tie.Need-returns-2
-returns_2 c =
+returns-2 : tie.Need-returns-2
+returns-2 c =
     let other = c.before.before in
     let a = other.before.before.before.args in
     λ r h. order_missing a.cursor r h a.kind a.body.now other.if1.false c.if2.true
 
-returns_3 : tie.Need-returns-3
-returns_3 c =
+returns-3 : tie.Need-returns-3
+returns-3 c =
     let seen = c.before.before in
     let other = seen.before.before in
     let a = other.before.before.before.args in
@@ -74,8 +74,8 @@ out-of-order-spec =
     tie.close
     (tie.spec
     returns
-    returns_2
-    returns_3
+    returns-2
+    returns-3
     number-at-requires
     number-at-requires-2
     returns-4

@@ -7,8 +7,8 @@ use Rattle.reader.proofs.faults.out_of_range.Tie as tie
 number-at-requires : tie.Need-number-at-requires
 number-at-requires c κs = search rules
 
-wide32_requires : tie.Need-wide32-requires
-wide32_requires c κs = search rules
+wide32-requires : tie.Need-wide32-requires
+wide32-requires c κs = search rules
 
 number-at-requires-2 : tie.Need-number-at-requires-2
 number-at-requires-2 c κs = search rules
@@ -19,15 +19,15 @@ returns c =
     let a = kind.before.before.args in
     λ r e k n. range_ceiling a.head r e a.kind n a.body.now _ kind.match.keys1 c.number_at.ensures.0
 
-returns_2 : tie.Need-returns-2
-returns_2 c =
+returns-2 : tie.Need-returns-2
+returns-2 c =
     let kind = c.before.before.before.before in
     let a = kind.before.before.args in
     λ r e k n. range_location a.head r e a.kind n a.body.now _ _ (search rules) (search rules)
     c.before.wide32.ensures.0 c.number-at2.ensures.0
 
-returns_3 : tie.Need-returns-3
-returns_3 c =
+returns-3 : tie.Need-returns-3
+returns-3 c =
     let kind = c.before in
     let a = kind.before.before.args in
     λ r e k n. range_low a.head r e a.kind n a.body.now kind.match.rest.1 k (search rules)
@@ -44,9 +44,9 @@ out-of-range-spec =
     tie.close
     (tie.spec
     number-at-requires
-    wide32_requires
+    wide32-requires
     number-at-requires-2
     returns
-    returns_2
-    returns_3
+    returns-2
+    returns-3
     returns-4)

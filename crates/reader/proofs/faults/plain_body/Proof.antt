@@ -7,17 +7,17 @@ use Rattle.reader.proofs.faults.plain_body.Tie as tie
 returns : tie.Need-returns
 returns c = rw (lt-leb fields_body c.before.args.size c.if1.true)
 
-returns_2 : tie.Need-returns-2
-returns_2 c =
+returns-2 : tie.Need-returns-2
+returns-2 c =
     let if1 = c.before.if1 in
     let a = c.before.before.args in
     rw (le-leb fields_body a.size if1.false, lt-leb a.size most_plain_body c.if2.true)
 
-returns_3 : tie.Need-returns-3
-returns_3 c =
+returns-3 : tie.Need-returns-3
+returns-3 c =
     let if1 = c.before.if1 in
     let a = c.before.before.args in
     rw (le-leb fields_body a.size if1.false, le-leb a.size most_plain_body c.if2.false)
 
 pub plain-body-spec : {M : Type 1} → statement M
-plain-body-spec = tie.close (tie.spec returns returns_2 returns_3)
+plain-body-spec = tie.close (tie.spec returns returns-2 returns-3)

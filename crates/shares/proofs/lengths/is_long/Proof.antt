@@ -19,8 +19,8 @@ use Rattle.shares.proofs.lengths.is_long.Tie as tie
 abbrev places : List ℕ
 places = zeros (suc most_listed_events)
 
-wide32_requires : tie.Need-wide32-requires
-wide32_requires c κs = search rules
+wide32-requires : tie.Need-wide32-requires
+wide32-requires c κs = search rules
 
 add-used : tie.Need-overflow-add-used
 add-used c = search rules
@@ -67,7 +67,7 @@ pub is-long-spec : {M : Type 1} → statement M
 is-long-spec =
     tie.close
     (tie.spec
-    wide32_requires
+    wide32-requires
     add-used
     array-borrow-prefix-lengths
     slice-aggregate-list-lengths

@@ -8,55 +8,55 @@ use Rattle.shares.proofs.LengthLaws.{Listing, listing_long, listing_start, listi
 use Rattle.shares.proofs.lengths.list_lengths.Statement.{statement}
 use Rattle.shares.proofs.lengths.list_lengths.Tie as tie
 
-abbrev invariant_loop : tie.invariant_loop
-invariant_loop symbols seconds lengths₀ stamps stamp₀ lengths stamp = Listing symbols stamps lengths₀ lengths stamp
+abbrev invariant-loop : tie.invariant-loop
+invariant-loop symbols seconds lengths₀ stamps stamp₀ lengths stamp = Listing symbols stamps lengths₀ lengths stamp
 
-abbrev decreases_loop : tie.decreases_loop
-decreases_loop symbols seconds lengths₀ stamps stamp₀ lengths stamp = stamps - stamp
+abbrev decreases-loop : tie.decreases-loop
+decreases-loop symbols seconds lengths₀ stamps stamp₀ lengths stamp = stamps - stamp
 
-clear32-requires : tie.Need-clear32-requires invariant_loop decreases_loop
+clear32-requires : tie.Need-clear32-requires invariant-loop decreases-loop
 clear32-requires c κs = search rules
 
-slice-write-lengths : tie.Need-slice-write-lengths invariant_loop decreases_loop
+slice-write-lengths : tie.Need-slice-write-lengths invariant-loop decreases-loop
 slice-write-lengths c = search rules
 
-wide32_requires : tie.Need-wide32-requires invariant_loop decreases_loop
-wide32_requires c κs = search rules
+wide32-requires : tie.Need-wide32-requires invariant-loop decreases-loop
+wide32-requires c κs = search rules
 
-mul-stamps : tie.Need-overflow-mul-stamps invariant_loop decreases_loop
+mul-stamps : tie.Need-overflow-mul-stamps invariant-loop decreases-loop
 mul-stamps c = search rules
 
-add-stamps : tie.Need-overflow-add-stamps invariant_loop decreases_loop
+add-stamps : tie.Need-overflow-add-stamps invariant-loop decreases-loop
 add-stamps c = search rules
 
-loop_holds : tie.Need-loop-init invariant_loop decreases_loop
-loop_holds c =
+loop-holds : tie.Need-loop-init invariant-loop decreases-loop
+loop-holds c =
     let clear = c.before.before.before in
     let start = clear.before.before.before in
     listing_start start.args.lengths.now clear.clear32.ensures _ _ start.requires
 
-add-stamp-requires : tie.Need-add-stamp-requires invariant_loop decreases_loop
+add-stamp-requires : tie.Need-add-stamp-requires invariant-loop decreases-loop
 add-stamp-requires c κs = search rules
 
-add_stamp : tie.Need-overflow-add-stamp invariant_loop decreases_loop
-add_stamp c = search rules
+add-stamp : tie.Need-overflow-add-stamp invariant-loop decreases-loop
+add-stamp c = search rules
 
-loop_less : tie.Need-loop-smaller invariant_loop decreases_loop
-loop_less c = search rules
+loop-less : tie.Need-loop-smaller invariant-loop decreases-loop
+loop-less c = search rules
 
-loop_again : tie.Need-loop-preserved invariant_loop decreases_loop
-loop_again c =
+loop-again : tie.Need-loop-preserved invariant-loop decreases-loop
+loop-again c =
     let a = c.before.before in
-    listing_turn a.before.before.before.loop.invariant (search rules) a.add_stamp.ensures.0
-    a.add_stamp.ensures.1
+    listing_turn a.before.before.before.loop.invariant (search rules) a.add-stamp.ensures.0
+    a.add-stamp.ensures.1
 
-same_length : tie.Need-same-length invariant_loop decreases_loop
+same_length : tie.Need-same-length invariant-loop decreases-loop
 same_length c =
     let clear = c.before.before.before.before.before in
     c.before.loop.invariant.same_length
     ∙ listing_long clear.before.before.before.args.lengths.now clear.clear32.ensures
 
-returns : tie.Need-returns invariant_loop decreases_loop
+returns : tie.Need-returns invariant-loop decreases-loop
 returns c =
     let w = c.before.before in
     let clear = w.before.before.before in
@@ -68,17 +68,17 @@ pub list-lengths-spec : {M : Type 1} → statement M
 list-lengths-spec =
     tie.close
     (tie.spec
-    invariant_loop
-    decreases_loop
+    invariant-loop
+    decreases-loop
     clear32-requires
     slice-write-lengths
-    wide32_requires
+    wide32-requires
     mul-stamps
     add-stamps
-    loop_holds
+    loop-holds
     add-stamp-requires
-    add_stamp
-    loop_less
-    loop_again
+    add-stamp
+    loop-less
+    loop-again
     same_length
     returns)

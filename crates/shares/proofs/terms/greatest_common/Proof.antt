@@ -6,25 +6,25 @@ use Rattle.model.proofs.LowestTerms.{Turning, turning_start, turning_turn, turni
 use Rattle.shares.proofs.terms.greatest_common.Statement.{statement}
 use Rattle.shares.proofs.terms.greatest_common.Tie as tie
 
-abbrev invariant_loop : tie.invariant_loop
-invariant_loop a b x₀ y₀ x y = Turning a b x y
+abbrev invariant-loop : tie.invariant-loop
+invariant-loop a b x₀ y₀ x y = Turning a b x y
 
-abbrev decreases_loop : tie.decreases_loop
-decreases_loop a b x₀ y₀ x y = y
+abbrev decreases-loop : tie.decreases-loop
+decreases-loop a b x₀ y₀ x y = y
 
-loop_holds : tie.Need-loop-init invariant_loop decreases_loop
-loop_holds c = turning_start _ _
+loop-holds : tie.Need-loop-init invariant-loop decreases-loop
+loop-holds c = turning_start _ _
 
-rem-rest : tie.Need-nonzero-rem-rest invariant_loop decreases_loop
+rem-rest : tie.Need-nonzero-rem-rest invariant-loop decreases-loop
 rem-rest c = search rules
 
-loop_less : tie.Need-loop-smaller invariant_loop decreases_loop
-loop_less c = mod-lt c.before.loop.x (search rules)
+loop-less : tie.Need-loop-smaller invariant-loop decreases-loop
+loop-less c = mod-lt c.before.loop.x (search rules)
 
-loop_again : tie.Need-loop-preserved invariant_loop decreases_loop
-loop_again c = turning_turn c.before.loop.invariant
+loop-again : tie.Need-loop-preserved invariant-loop decreases-loop
+loop-again c = turning_turn c.before.loop.invariant
 
-returns : tie.Need-returns invariant_loop decreases_loop
+returns : tie.Need-returns invariant-loop decreases-loop
 returns c =
     let l = c.before.loop in
     let e : l.y ≡ 0 = search rules in
@@ -32,4 +32,4 @@ returns c =
 
 pub greatest-common-spec : {M : Type 1} → statement M
 greatest-common-spec =
-    tie.close (tie.spec invariant_loop decreases_loop loop_holds rem-rest loop_less loop_again returns)
+    tie.close (tie.spec invariant-loop decreases-loop loop-holds rem-rest loop-less loop-again returns)

@@ -4,8 +4,8 @@ use Rattle.shares.proofs.TermLaws.{product_most, smaller_is}
 use Rattle.shares.proofs.terms.is_smaller.Statement.{statement}
 use Rattle.shares.proofs.terms.is_smaller.Tie as tie
 
-wide32_requires : tie.Need-wide32-requires
-wide32_requires c κs = search rules
+wide32-requires : tie.Need-wide32-requires
+wide32-requires c κs = search rules
 
 wide32-requires-2 : tie.Need-wide32-requires-2
 wide32-requires-2 c κs = search rules
@@ -33,7 +33,7 @@ pub is-smaller-spec : {M : Type 1} → statement M
 is-smaller-spec =
     tie.close
     (tie.spec
-    wide32_requires
+    wide32-requires
     wide32-requires-2
     mul-result
     wide32-requires-3

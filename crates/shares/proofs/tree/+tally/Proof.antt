@@ -89,30 +89,30 @@ module _ (t : ℕ) where
       → lts.At-loop (claims t) (here t) own.Post invariant_loop2 decreases_loop2 invariant_loop decreases_loop
   stamped c = c.before.before.before
 
-  abbrev symbol_of :
+  abbrev symbol-of :
       lts.After-stored-at (claims t) (here t) own.Post invariant_loop2 decreases_loop2 invariant_loop decreases_loop
       → lts.At-loop2 (claims t) (here t) own.Post invariant_loop2 decreases_loop2 invariant_loop decreases_loop
-  symbol_of c = c.before.before.before
+  symbol-of c = c.before.before.before
 
   -- the symbol is the table's, and so is the cell's row
-  symbol_in :
+  symbol-in :
       (c : lts.In-loop2 (claims t) (here t) own.Post invariant_loop2 decreases_loop2 invariant_loop decreases_loop)
       → c.before.loop2.symbol < (lent (stamped c.before)).args.built.symbols
-  symbol_in c = omega (arith, c.loop2-test.true, (stamped c.before).before.wide32.ensures.0)
+  symbol-in c = omega (arith, c.loop2-test.true, (stamped c.before).before.wide32.ensures.0)
 
-  next_in :
+  next-in :
       (c : lts.After-cell-of (claims t) (here t) own.Post invariant_loop2 decreases_loop2 invariant_loop decreases_loop)
       → c.cell-of.result / 2 < (lent (stamped c.before.before)).args.built.rows
-  next_in c =
+  next-in c =
       let m = c.before.before in
       let p = (lent (stamped m)).pre.1 in
-      next_below p.1 p.3.row_in (symbol_in c.before) m.before.interval-at.ensures.1
+      next_below p.1 p.3.row_in (symbol-in c.before) m.before.interval-at.ensures.1
       c.cell-of.ensures
 
   -- what the walk has read of the event
   read :
       (c : lts.After-stored-at (claims t) (here t) own.Post invariant_loop2 decreases_loop2 invariant_loop decreases_loop)
-      → let m = symbol_of c in
+      → let m = symbol-of c in
       let a = (lent (stamped m)).args in
       EventRead (bare a.built a.cells.now a.rows.now) a.stamps a.row a.reset
       (stamped m).loop.stamp
@@ -122,96 +122,96 @@ module _ (t : ℕ) where
       c.stored_at.result
   read c = record {
     symbol_in = symbol_in c.before.before;
-    interval_is = (symbol_of c).before.interval-at.ensures.0;
+    interval_is = (symbol-of c).before.interval-at.ensures.0;
     cell_read = c.before.cell-of.ensures;
     verdict_is = c.stored_at.ensures.0;
     verdict_most = c.stored_at.ensures.1;
   }
 
-  wide32_requires : lts.Need-wide32-requires (claims t) (here t) own.Post invariant_loop2 decreases_loop2 invariant_loop decreases_loop
-  wide32_requires c κs = search rules
+  wide32-requires : lts.Need-wide32-requires (claims t) (here t) own.Post invariant_loop2 decreases_loop2 invariant_loop decreases_loop
+  wide32-requires c κs = search rules
 
-  loop_holds : lts.Need-loop-init (claims t) (here t) own.Post invariant_loop2 decreases_loop2 invariant_loop decreases_loop
-  loop_holds c =
+  loop-holds : lts.Need-loop-init (claims t) (here t) own.Post invariant_loop2 decreases_loop2 invariant_loop decreases_loop
+  loop-holds c =
       let p = c.before.before.before.before.requires.1 in
       (search rules, p.3.from_before, walk_start _ _ _ _ p.4)
 
-  sub_interval_at : lts.Need-overflow-sub-interval-at (claims t) (here t) own.Post invariant_loop2 decreases_loop2 invariant_loop decreases_loop
-  sub_interval_at c = search rules
+  sub-interval-at : lts.Need-overflow-sub-interval-at (claims t) (here t) own.Post invariant_loop2 decreases_loop2 invariant_loop decreases_loop
+  sub-interval-at c = search rules
 
-  interval_at_requires : lts.Need-interval-at-requires (claims t) (here t) own.Post invariant_loop2 decreases_loop2 invariant_loop decreases_loop
-  interval_at_requires c κs = search rules
+  interval-at-requires : lts.Need-interval-at-requires (claims t) (here t) own.Post invariant_loop2 decreases_loop2 invariant_loop decreases_loop
+  interval-at-requires c κs = search rules
 
-  loop2_holds : lts.Need-loop2-init (claims t) (here t) own.Post invariant_loop2 decreases_loop2 invariant_loop decreases_loop
-  loop2_holds c =
+  loop2-holds : lts.Need-loop2-init (claims t) (here t) own.Post invariant_loop2 decreases_loop2 invariant_loop decreases_loop
+  loop2-holds c =
       let at = c.before.before in
       (search rules, stamp_start _ _ _ _ _ c.before.loop-test.true at.loop.invariant.2)
 
-  cell_of_requires : lts.Need-cell-of-requires (claims t) (here t) own.Post invariant_loop2 decreases_loop2 invariant_loop decreases_loop
-  cell_of_requires c κs = search rules
+  cell-of-requires : lts.Need-cell-of-requires (claims t) (here t) own.Post invariant_loop2 decreases_loop2 invariant_loop decreases_loop
+  cell-of-requires c κs = search rules
 
-  stored_at_requires : lts.Need-stored-at-requires (claims t) (here t) own.Post invariant_loop2 decreases_loop2 invariant_loop decreases_loop
-  stored_at_requires c κs =
+  stored-at-requires : lts.Need-stored-at-requires (claims t) (here t) own.Post invariant_loop2 decreases_loop2 invariant_loop decreases_loop
+  stored-at-requires c κs =
       let p = (lent (stamped c.before.before)).pre.1 in
-      (p.0, p.2, next_in c)
+      (p.0, p.2, next-in c)
 
-  add_here : lts.Need-overflow-add-here (claims t) (here t) own.Post invariant_loop2 decreases_loop2 invariant_loop decreases_loop
-  add_here c = omega (arith, here_most _ _ _ _ (read c) (symbol_of c).loop2.invariant.1)
+  add-here : lts.Need-overflow-add-here (claims t) (here t) own.Post invariant_loop2 decreases_loop2 invariant_loop decreases_loop
+  add-here c = omega (arith, here_most _ _ _ _ (read c) (symbol-of c).loop2.invariant.1)
 
-  reset_after_requires : lts.Need-reset-after-requires (claims t) (here t) own.Post invariant_loop2 decreases_loop2 invariant_loop decreases_loop
-  reset_after_requires c κs = search rules
+  reset-after-requires : lts.Need-reset-after-requires (claims t) (here t) own.Post invariant_loop2 decreases_loop2 invariant_loop decreases_loop
+  reset-after-requires c κs = search rules
 
   -- the node behind the event
   child :
       (c : lts.After-reset-after (claims t) (here t) own.Post invariant_loop2 decreases_loop2 invariant_loop decreases_loop)
       → let e = c.before.before in
-      let at = stamped (symbol_of e) in
-      Node (lent at).args.built (lent at).args.stamps (e.before.cell-of.result / 2) c.reset_after.result
+      let at = stamped (symbol-of e) in
+      Node (lent at).args.built (lent at).args.stamps (e.before.cell-of.result / 2) c.reset-after.result
       at.loop.stamp
   child c =
       let e = c.before.before in
-      let at = stamped (symbol_of e) in
-      child_node _ (lent at).pre.1.3 at.loop.inv.0 at.loop.inv.1 (next_in e.before)
-      c.reset_after.ensures
+      let at = stamped (symbol-of e) in
+      child_node _ (lent at).pre.1.3 at.loop.inv.0 at.loop.inv.1 (next-in e.before)
+      c.reset-after.ensures
 
-  slice_read_counts : lts.Need-slice-read-counts (claims t) (here t) own.Post invariant_loop2 decreases_loop2 invariant_loop decreases_loop
-  slice_read_counts c = search rules
+  slice-read-counts : lts.Need-slice-read-counts (claims t) (here t) own.Post invariant_loop2 decreases_loop2 invariant_loop decreases_loop
+  slice-read-counts c = search rules
 
-  leaves_requires : lts.Need-leaves-requires (claims t) (here t) own.Post invariant_loop2 decreases_loop2 invariant_loop decreases_loop
-  leaves_requires c κs =
+  leaves-requires : lts.Need-leaves-requires (claims t) (here t) own.Post invariant_loop2 decreases_loop2 invariant_loop decreases_loop
+  leaves-requires c κs =
       let q = c.before.before in
-      let p = (lent (stamped (symbol_of q.before.before))).pre.1 in
+      let p = (lent (stamped (symbol-of q.before.before))).pre.1 in
       (p.0, p.1, p.2, child q)
 
-  add_counts : lts.Need-overflow-add-counts (claims t) (here t) own.Post invariant_loop2 decreases_loop2 invariant_loop decreases_loop
-  add_counts c =
+  add-counts : lts.Need-overflow-add-counts (claims t) (here t) own.Post invariant_loop2 decreases_loop2 invariant_loop decreases_loop
+  add-counts c =
       let q = c.before.before.before in
       let e = q.before.before in
       omega (
         arith,
-        raised_most _ _ _ _ (read e) (symbol_of e).loop2.invariant.1 q.reset_after.ensures
+        raised_most _ _ _ _ (read e) (symbol-of e).loop2.invariant.1 q.reset-after.ensures
             c.before.before.if2.true
             c.leaves.ensures,
       )
 
-  slice_write_counts : lts.Need-slice-write-counts (claims t) (here t) own.Post invariant_loop2 decreases_loop2 invariant_loop decreases_loop
-  slice_write_counts c = search rules
+  slice-write-counts : lts.Need-slice-write-counts (claims t) (here t) own.Post invariant_loop2 decreases_loop2 invariant_loop decreases_loop
+  slice-write-counts c = search rules
 
-  sub_tally : lts.Need-overflow-sub-tally (claims t) (here t) own.Post invariant_loop2 decreases_loop2 invariant_loop decreases_loop
-  sub_tally c = search rules
+  sub-tally : lts.Need-overflow-sub-tally (claims t) (here t) own.Post invariant_loop2 decreases_loop2 invariant_loop decreases_loop
+  sub-tally c = search rules
 
-  part_tally_start : lts.Need-slice-bounds-tally-start (claims t) (here t) own.Post invariant_loop2 decreases_loop2 invariant_loop decreases_loop
-  part_tally_start c = search rules
+  part-tally-start : lts.Need-slice-bounds-tally-start (claims t) (here t) own.Post invariant_loop2 decreases_loop2 invariant_loop decreases_loop
+  part-tally-start c = search rules
 
-  part_tally_end : lts.Need-slice-bounds-tally-end (claims t) (here t) own.Post invariant_loop2 decreases_loop2 invariant_loop decreases_loop
-  part_tally_end c = search rules
+  part-tally-end : lts.Need-slice-bounds-tally-end (claims t) (here t) own.Post invariant_loop2 decreases_loop2 invariant_loop decreases_loop
+  part-tally-end c = search rules
 
-  tally_requires : lts.Need-tally-requires (claims t) (here t) own.Post invariant_loop2 decreases_loop2 invariant_loop decreases_loop
-  tally_requires c κs =
+  tally-requires : lts.Need-tally-requires (claims t) (here t) own.Post invariant_loop2 decreases_loop2 invariant_loop decreases_loop
+  tally-requires c κs =
       let q = c.before.before in
       let e = q.before.before in
-      let l = (symbol_of e).loop2 in
-      let at = stamped (symbol_of e) in
+      let l = (symbol-of e).loop2 in
+      let at = stamped (symbol-of e) in
       let s = lent at in
       let p = s.pre.1 in (
         omega (
@@ -227,20 +227,20 @@ module _ (t : ℕ) where
           p.1,
           p.2,
           child q,
-          child_roomy _ _ _ _ (read e) l.inv.1 q.reset_after.ensures q.before.if1.true,
+          child_roomy _ _ _ _ (read e) l.inv.1 q.reset-after.ensures q.before.if1.true,
         ),
       )
 
-  add_symbol : lts.Need-overflow-add-symbol (claims t) (here t) own.Post invariant_loop2 decreases_loop2 invariant_loop decreases_loop
-  add_symbol c = search rules
+  add-symbol : lts.Need-overflow-add-symbol (claims t) (here t) own.Post invariant_loop2 decreases_loop2 invariant_loop decreases_loop
+  add-symbol c = search rules
 
-  loop2_less : lts.Need-loop2-smaller (claims t) (here t) own.Post invariant_loop2 decreases_loop2 invariant_loop decreases_loop
-  loop2_less c = search rules
+  loop2-less : lts.Need-loop2-smaller (claims t) (here t) own.Post invariant_loop2 decreases_loop2 invariant_loop decreases_loop
+  loop2-less c = search rules
 
-  loop2_again : lts.Need-loop2-preserved (claims t) (here t) own.Post invariant_loop2 decreases_loop2 invariant_loop decreases_loop
-  loop2_again c =
+  loop2-again : lts.Need-loop2-preserved (claims t) (here t) own.Post invariant_loop2 decreases_loop2 invariant_loop decreases_loop
+  loop2-again c =
       let e = c.before in
-      let k = (symbol_of e).loop2.invariant.1 in (
+      let k = (symbol-of e).loop2.invariant.1 in (
         search rules,
         ⊎_elim
             (λ w. kept_as w.5 (symbol_two _ _ _ _ (read e) k w.1.ensures w.2.taken w.4.ensures))
@@ -250,14 +250,14 @@ module _ (t : ℕ) where
             c.if1.branch,
       )
 
-  add_stamp : lts.Need-overflow-add-stamp (claims t) (here t) own.Post invariant_loop2 decreases_loop2 invariant_loop decreases_loop
-  add_stamp c = search rules
+  add-stamp : lts.Need-overflow-add-stamp (claims t) (here t) own.Post invariant_loop2 decreases_loop2 invariant_loop decreases_loop
+  add-stamp c = search rules
 
-  loop_less : lts.Need-loop-smaller (claims t) (here t) own.Post invariant_loop2 decreases_loop2 invariant_loop decreases_loop
-  loop_less c = search rules
+  loop-less : lts.Need-loop-smaller (claims t) (here t) own.Post invariant_loop2 decreases_loop2 invariant_loop decreases_loop
+  loop-less c = search rules
 
-  loop_again : lts.Need-loop-preserved (claims t) (here t) own.Post invariant_loop2 decreases_loop2 invariant_loop decreases_loop
-  loop_again c =
+  loop-again : lts.Need-loop-preserved (claims t) (here t) own.Post invariant_loop2 decreases_loop2 invariant_loop decreases_loop
+  loop-again c =
       let at = stamped c.before in (
         search rules,
         search rules,
@@ -266,14 +266,14 @@ module _ (t : ℕ) where
             c.before.loop2.invariant.1,
       )
 
-  slice_read_counts_2 : lts.Need-slice-read-counts-2 (claims t) (here t) own.Post invariant_loop2 decreases_loop2 invariant_loop decreases_loop
-  slice_read_counts_2 c = search rules
+  slice-read-counts-2 : lts.Need-slice-read-counts-2 (claims t) (here t) own.Post invariant_loop2 decreases_loop2 invariant_loop decreases_loop
+  slice-read-counts-2 c = search rules
 
-  add_counts_2 : lts.Need-overflow-add-counts-2 (claims t) (here t) own.Post invariant_loop2 decreases_loop2 invariant_loop decreases_loop
-  add_counts_2 c = omega (arith, end_most _ _ _ _ _ _ c.before.loop-test.false c.before.before.loop.invariant.2)
+  add-counts-2 : lts.Need-overflow-add-counts-2 (claims t) (here t) own.Post invariant_loop2 decreases_loop2 invariant_loop decreases_loop
+  add-counts-2 c = omega (arith, end_most _ _ _ _ _ _ c.before.loop-test.false c.before.before.loop.invariant.2)
 
-  slice_write_counts_2 : lts.Need-slice-write-counts-2 (claims t) (here t) own.Post invariant_loop2 decreases_loop2 invariant_loop decreases_loop
-  slice_write_counts_2 c = search rules
+  slice-write-counts-2 : lts.Need-slice-write-counts-2 (claims t) (here t) own.Post invariant_loop2 decreases_loop2 invariant_loop decreases_loop
+  slice-write-counts-2 c = search rules
 
   same_length : lts.Need-same-length (claims t) (here t) own.Post invariant_loop2 decreases_loop2 invariant_loop decreases_loop
   same_length c = end_long _ _ _ _ _ _ c.before.loop-test.false c.before.before.loop.invariant.2
@@ -289,31 +289,31 @@ pub +tally-spec : {M : Type 1} → statement M
     decreases_loop2
     invariant_loop
     decreases_loop
-    (wide32_requires t)
-    (loop_holds t)
-    (sub_interval_at t)
-    (interval_at_requires t)
-    (loop2_holds t)
-    (cell_of_requires t)
-    (stored_at_requires t)
-    (add_here t)
-    (reset_after_requires t)
-    (slice_read_counts t)
-    (leaves_requires t)
-    (add_counts t)
-    (slice_write_counts t)
-    (sub_tally t)
-    (part_tally_start t)
-    (part_tally_end t)
-    (tally_requires t)
-    (add_symbol t)
-    (loop2_less t)
-    (loop2_again t)
-    (add_stamp t)
-    (loop_less t)
-    (loop_again t)
-    (slice_read_counts_2 t)
-    (add_counts_2 t)
-    (slice_write_counts_2 t)
+    (wide32-requires t)
+    (loop-holds t)
+    (sub-interval-at t)
+    (interval-at-requires t)
+    (loop2-holds t)
+    (cell-of-requires t)
+    (stored-at-requires t)
+    (add-here t)
+    (reset-after-requires t)
+    (slice-read-counts t)
+    (leaves-requires t)
+    (add-counts t)
+    (slice-write-counts t)
+    (sub-tally t)
+    (part-tally-start t)
+    (part-tally-end t)
+    (tally-requires t)
+    (add-symbol t)
+    (loop2-less t)
+    (loop2-again t)
+    (add-stamp t)
+    (loop-less t)
+    (loop-again t)
+    (slice-read-counts-2 t)
+    (add-counts-2 t)
+    (slice-write-counts-2 t)
     (same_length t)
     (returns t)

@@ -38,8 +38,8 @@ measured :
     c.width.result
 measured c = asked c.before _ c.width.ensures
 
-wide32_requires : tie.Need-wide32-requires
-wide32_requires c κs = search rules
+wide32-requires : tie.Need-wide32-requires
+wide32-requires c κs = search rules
 
 mul_at : tie.Need-overflow-mul-at
 mul_at c = omega (arith, line_most (asked c _ refl))
@@ -72,7 +72,7 @@ pub cell-of-spec : {M : Type 1} → statement M
 cell-of-spec =
     tie.close
     (tie.spec
-    wide32_requires
+    wide32-requires
     mul_at
     add_at
     width-requires

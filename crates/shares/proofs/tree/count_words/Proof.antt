@@ -22,14 +22,14 @@ timed c = c.before.before.before.before
 stamps_are : (c : tie.After-wide32) → list_grain * c.wide32.result + 1 ≡ stamp_count (lent (judged c)).args.seconds
 stamps_are c = omega (arith, c.wide32.ensures.0)
 
-stored_at_requires : tie.Need-stored-at-requires
-stored_at_requires c κs = search rules
+stored-at-requires : tie.Need-stored-at-requires
+stored-at-requires c κs = search rules
 
-slice_write_counts : tie.Need-slice-write-counts
-slice_write_counts c = search rules
+slice-write-counts : tie.Need-slice-write-counts
+slice-write-counts c = search rules
 
-wide32_requires : tie.Need-wide32-requires
-wide32_requires c κs = search rules
+wide32-requires : tie.Need-wide32-requires
+wide32-requires c κs = search rules
 
 mul-stamps : tie.Need-overflow-mul-stamps
 mul-stamps c = search rules
@@ -37,17 +37,17 @@ mul-stamps c = search rules
 add-stamps : tie.Need-overflow-add-stamps
 add-stamps c = search rules
 
-sub_tally : tie.Need-overflow-sub-tally
-sub_tally c = search rules
+sub-tally : tie.Need-overflow-sub-tally
+sub-tally c = search rules
 
-part_tally_start : tie.Need-slice-bounds-tally-start
-part_tally_start c = search rules
+part-tally-start : tie.Need-slice-bounds-tally-start
+part-tally-start c = search rules
 
-part_tally_end : tie.Need-slice-bounds-tally-end
-part_tally_end c = search rules
+part-tally-end : tie.Need-slice-bounds-tally-end
+part-tally-end c = search rules
 
-tally_requires : tie.Need-tally-requires
-tally_requires c κs =
+tally-requires : tie.Need-tally-requires
+tally-requires c κs =
     let w = c.before in
     let e = (judged w).stored_at.ensures in
     let p = (lent (judged w)).requires in (
@@ -75,8 +75,8 @@ returns c =
 same-length-2 : tie.Need-same-length-2
 same-length-2 c = search rules
 
-returns_2 : tie.Need-returns-2
-returns_2 c =
+returns-2 : tie.Need-returns-2
+returns-2 c =
     let e = c.before.stored_at.ensures in
     root_alone _ (lent c.before).requires.3 refl e.0 e.1 c.if1.false
 
@@ -84,16 +84,16 @@ pub count-words-spec : {M : Type 1} → statement M
 count-words-spec =
     tie.close
     (tie.spec
-    stored_at_requires
-    slice_write_counts
-    wide32_requires
+    stored-at-requires
+    slice-write-counts
+    wide32-requires
     mul-stamps
     add-stamps
-    sub_tally
-    part_tally_start
-    part_tally_end
-    tally_requires
+    sub-tally
+    part-tally-start
+    part-tally-end
+    tally-requires
     same_length
     returns
     same-length-2
-    returns_2)
+    returns-2)

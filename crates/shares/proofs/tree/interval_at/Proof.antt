@@ -13,8 +13,8 @@ sub-last c = search rules
 returns : tie.Need-returns
 returns c = interval_low _ _ _ c.before.width.ensures c.if1.true
 
-returns_2 : tie.Need-returns-2
-returns_2 c = interval_high _ _ _ c.before.width.ensures c.if1.false
+returns-2 : tie.Need-returns-2
+returns-2 c = interval_high _ _ _ c.before.width.ensures c.if1.false
 
 pub interval-at-spec : {M : Type 1} → statement M
-interval-at-spec = tie.close (tie.spec width-requires sub-last returns returns_2)
+interval-at-spec = tie.close (tie.spec width-requires sub-last returns returns-2)

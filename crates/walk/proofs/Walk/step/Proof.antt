@@ -6,8 +6,8 @@ use Rattle.walk.proofs.Moves.{Found, timer_reset, timer_kept}
 use Rattle.walk.proofs.Walk.step.Statement.{statement}
 use Rattle.walk.proofs.Walk.step.Tie as tie
 
-since_requires : tie.Need-since-requires
-since_requires c κs = search rules
+since-requires : tie.Need-since-requires
+since-requires c κs = search rules
 
 of-requires : tie.Need-of-requires
 of-requires c κs = search rules
@@ -31,8 +31,8 @@ found_at c = record {
 returns : tie.Need-returns
 returns c = timer_reset (found_at c.before.before) c.if1.true refl
 
-returns_2 : tie.Need-returns-2
-returns_2 c = timer_kept (found_at c.before.before) c.if1.false refl
+returns-2 : tie.Need-returns-2
+returns-2 c = timer_kept (found_at c.before.before) c.if1.false refl
 
 pub step_spec : {M : Type 1} → statement M
-step_spec = tie.close (tie.spec since_requires of-requires cell-at-requires returns returns_2)
+step_spec = tie.close (tie.spec since-requires of-requires cell-at-requires returns returns-2)
