@@ -1,10 +1,9 @@
 -- What a test of a call's answer says of the definition that the answer stands for.
 use mathlib.Core.Path.{◌≡◌, sym, ◌∙◌}
-use mathlib.Core.Bool.{Bool, true, false, not}
-use borrow.Author.Tests.{not-true, not-false}
+use mathlib.Core.Bool.{Bool, true, false}
 
-pub failed : {t a : Bool} → t ≡ a → not t ≡ true → a ≡ false
-failed {t} e h = sym e ∙ not-true t h
+pub failed : {t a : Bool} → t ≡ a → t ≡ false → a ≡ false
+failed e h = sym e ∙ h
 
-pub passed : {t a : Bool} → t ≡ a → not t ≡ false → a ≡ true
-passed {t} e h = sym e ∙ not-false t h
+pub passed : {t a : Bool} → t ≡ a → t ≡ true → a ≡ true
+passed e h = sym e ∙ h
