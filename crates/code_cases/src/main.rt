@@ -12,7 +12,7 @@ use model::{MOST_CLOCKS, MOST_CONSTANT, MOST_LOCATIONS, MOST_PAIRS};
 use numbers::{narrow16, wide8, wide32};
 
 // What was seen. The sums stop at the top of their range, which they do not reach.
-#[derive(Drop)]
+#[derive(Clone, Copy)]
 struct Tally {
     sizes: u32,
     codes: u32,
