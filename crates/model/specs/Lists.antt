@@ -17,7 +17,7 @@ abbrev pub span_ok : ℕ → ℕ → Bool
 span_ok m h = leb m most_listed_events && leb h most_seconds
 
 abbrev pub size_ok : Size → Bool
-size_ok z = within 1 most_symbols z.symbols && span_ok z.events z.seconds
+size_ok z = within 1 most_symbols z.symbols && leb z.events most_listed_events && leb z.seconds most_seconds
 
 -- D of a listed word, and of a word shown (2.10)
 abbrev pub list_grain : ℕ
