@@ -220,12 +220,12 @@ in_range z h =
     let a = within 1 most_symbols z.symbols in
     let b = leb z.events most_listed_events in
     let c = leb z.seconds most_seconds in
-    let span = and_right a (b && c) h in
+    let front = and_left (a && b) c h in
     record {
-      some_symbols = within_least 1 most_symbols z.symbols (and_left a (b && c) h);
-      most_symbols = within_most 1 most_symbols z.symbols (and_left a (b && c) h);
-      most_events = leb-true z.events most_listed_events (and_left b c span);
-      most_seconds = leb-true z.seconds most_seconds (and_right b c span);
+      some_symbols = within_least 1 most_symbols z.symbols (and_left a b front);
+      most_symbols = within_most 1 most_symbols z.symbols (and_left a b front);
+      most_events = leb-true z.events most_listed_events (and_right a b front);
+      most_seconds = leb-true z.seconds most_seconds (and_right (a && b) c h);
     }
 
 pub record Member (z : Size) (w : Listed) : Type 0 where

@@ -20,8 +20,8 @@ use Rattle.model.proofs.Lists.{symbols_back, stamps_back}
 -- what owning a word tells
 pub six : (w : Listed) (vs : List Val) → Is (row the_type) w vs → Six w
 six w vs is = record {
-  symbols_six = sym (length-map w.symbols (λ (x : ℕ). x)) ∙ is.1.1.1.0.1.0.1;
-  stamps_six = sym (length-map w.stamps (λ (x : ℕ). x)) ∙ is.1.1.1.1.0.1.0.1;
+  symbols_six = is.1.1.1.0.1.0.1;
+  stamps_six = is.1.1.1.1.0.1.0.1;
 }
 
 drop_events :

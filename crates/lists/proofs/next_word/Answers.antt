@@ -16,19 +16,19 @@ returns-then-not-size_ok c =
 pub returns-then-not-in_list : goal.returns-then-not-in_list
 returns-then-not-in_list c =
     let a = c.args in
-    let size_is = is_true c.size_ok.ensures c.if-not-size_ok.left in
+    let size_is = is_true c.size_ok.ensures c.if-not-size_ok.false in
     let word_is = own_listed a.size a.word c.wide32-count.ensures.0 c.in_list.ensures in
     record { answer_is = c.answer-then-not-in_list.ensures ∙ word_refused _ _ size_is (is_false word_is c.if-not-in_list.true) }
 
 pub raisable-up_to-requires : goal.raisable-up_to-requires
 raisable-up_to-requires c =
     let taken : Taken c.args.size c.args.word = record {
-      size_ok = is_true c.size_ok.ensures c.if-not-size_ok.left;
+      size_ok = is_true c.size_ok.ensures c.if-not-size_ok.false;
       in_list =
           is_true
           (own_listed c.args.size c.args.word c.wide32-count.ensures.0 c.in_list.ensures)
           c.if-not-in_list.false;
-      places = six _ _ c.good.1.0;
+      places = six _ _ c.well_formed.1.0;
     } in
     let t = taken in (
       omega (arith, taken_count t, c.wide32-count.ensures.0),
@@ -38,25 +38,16 @@ raisable-up_to-requires c =
 pub raise-requires : goal.raise-requires
 raise-requires c =
     let taken : Taken c.args.size c.args.word = record {
-      size_ok = is_true c.size_ok.ensures c.if-not-size_ok.left;
+      size_ok = is_true c.size_ok.ensures c.if-not-size_ok.false;
       in_list =
           is_true
           (own_listed c.args.size c.args.word c.wide32-count.ensures.0 c.in_list.ensures)
           c.if-not-in_list.false;
-      places = six _ _ c.good.1.0;
+      places = six _ _ c.well_formed.1.0;
     } in
     let found : Found c.args.size c.args.word c.raisable-up_to.result = let a = c.args in
     record {
-      (let it : Taken =.before.before.before.before.before.before.before.before.before.args.size =.before.before.before.before.before.before.before.before.before.args.word = let count = =.before.before.before.before.before.before in
-    let start = =.before.before.before.before.before.before.before.before.before in
-    record {
-      size_ok = is_true count.before.before.size_ok.ensures count.before.if1.left;
-      in_list =
-          is_true
-          (own_listed start.args.size start.args.word count.wide32.ensures.0 =.before.in_list.ensures)
-          =.if2.false;
-      places = six _ _ start.good.1.0;
-    } in it) taken;
+      taken = taken;
       up_to =
           up_to_is a.size a.word c.wide32-known.ensures.0 c.wide32-top.ensures.0
           c.wide32-count.ensures.0
@@ -67,25 +58,16 @@ raise-requires c =
 pub returns-then-up_to-gt0 : goal.returns-then-up_to-gt0
 returns-then-up_to-gt0 c =
     let taken : Taken c.args.size c.args.word = record {
-      size_ok = is_true c.size_ok.ensures c.if-not-size_ok.left;
+      size_ok = is_true c.size_ok.ensures c.if-not-size_ok.false;
       in_list =
           is_true
           (own_listed c.args.size c.args.word c.wide32-count.ensures.0 c.in_list.ensures)
           c.if-not-in_list.false;
-      places = six _ _ c.good.1.0;
+      places = six _ _ c.well_formed.1.0;
     } in
     let found : Found c.args.size c.args.word c.raisable-up_to.result = let a = c.args in
     record {
-      (let it : Taken =.before.before.before.before.before.before.before.before.before.args.size =.before.before.before.before.before.before.before.before.before.args.word = let count = =.before.before.before.before.before.before in
-    let start = =.before.before.before.before.before.before.before.before.before in
-    record {
-      size_ok = is_true count.before.before.size_ok.ensures count.before.if1.left;
-      in_list =
-          is_true
-          (own_listed start.args.size start.args.word count.wide32.ensures.0 =.before.in_list.ensures)
-          =.if2.false;
-      places = six _ _ start.good.1.0;
-    } in it) taken;
+      taken = taken;
       up_to =
           up_to_is a.size a.word c.wide32-known.ensures.0 c.wide32-top.ensures.0
           c.wide32-count.ensures.0
@@ -97,25 +79,16 @@ returns-then-up_to-gt0 c =
 pub returns-then-word-size : goal.returns-then-word-size
 returns-then-word-size c =
     let taken : Taken c.args.size c.args.word = record {
-      size_ok = is_true c.size_ok.ensures c.if-not-size_ok.left;
+      size_ok = is_true c.size_ok.ensures c.if-not-size_ok.false;
       in_list =
           is_true
           (own_listed c.args.size c.args.word c.wide32-count.ensures.0 c.in_list.ensures)
           c.if-not-in_list.false;
-      places = six _ _ c.good.1.0;
+      places = six _ _ c.well_formed.1.0;
     } in
     let found : Found c.args.size c.args.word c.raisable-up_to.result = let a = c.args in
     record {
-      (let it : Taken =.before.before.before.before.before.before.before.before.before.args.size =.before.before.before.before.before.before.before.before.before.args.word = let count = =.before.before.before.before.before.before in
-    let start = =.before.before.before.before.before.before.before.before.before in
-    record {
-      size_ok = is_true count.before.before.size_ok.ensures count.before.if1.left;
-      in_list =
-          is_true
-          (own_listed start.args.size start.args.word count.wide32.ensures.0 =.before.in_list.ensures)
-          =.if2.false;
-      places = six _ _ start.good.1.0;
-    } in it) taken;
+      taken = taken;
       up_to =
           up_to_is a.size a.word c.wide32-known.ensures.0 c.wide32-top.ensures.0
           c.wide32-count.ensures.0
@@ -127,25 +100,16 @@ returns-then-word-size c =
 pub overflow_add-longer : goal.overflow_add-longer
 overflow_add-longer c =
     let taken : Taken c.args.size c.args.word = record {
-      size_ok = is_true c.size_ok.ensures c.if-not-size_ok.left;
+      size_ok = is_true c.size_ok.ensures c.if-not-size_ok.false;
       in_list =
           is_true
           (own_listed c.args.size c.args.word c.wide32-count.ensures.0 c.in_list.ensures)
           c.if-not-in_list.false;
-      places = six _ _ c.good.1.0;
+      places = six _ _ c.well_formed.1.0;
     } in
     let found : Found c.args.size c.args.word c.raisable-up_to.result = let a = c.args in
     record {
-      (let it : Taken =.before.before.before.before.before.before.before.before.before.args.size =.before.before.before.before.before.before.before.before.before.args.word = let count = =.before.before.before.before.before.before in
-    let start = =.before.before.before.before.before.before.before.before.before in
-    record {
-      size_ok = is_true count.before.before.size_ok.ensures count.before.if1.left;
-      in_list =
-          is_true
-          (own_listed start.args.size start.args.word count.wide32.ensures.0 =.before.in_list.ensures)
-          =.if2.false;
-      places = six _ _ start.good.1.0;
-    } in it) taken;
+      taken = taken;
       up_to =
           up_to_is a.size a.word c.wide32-known.ensures.0 c.wide32-top.ensures.0
           c.wide32-count.ensures.0
@@ -157,25 +121,16 @@ overflow_add-longer c =
 pub returns : goal.returns
 returns c =
     let taken : Taken c.args.size c.args.word = record {
-      size_ok = is_true c.size_ok.ensures c.if-not-size_ok.left;
+      size_ok = is_true c.size_ok.ensures c.if-not-size_ok.false;
       in_list =
           is_true
           (own_listed c.args.size c.args.word c.wide32-count.ensures.0 c.in_list.ensures)
           c.if-not-in_list.false;
-      places = six _ _ c.good.1.0;
+      places = six _ _ c.well_formed.1.0;
     } in
     let found : Found c.args.size c.args.word c.raisable-up_to.result = let a = c.args in
     record {
-      (let it : Taken =.before.before.before.before.before.before.before.before.before.args.size =.before.before.before.before.before.before.before.before.before.args.word = let count = =.before.before.before.before.before.before in
-    let start = =.before.before.before.before.before.before.before.before.before in
-    record {
-      size_ok = is_true count.before.before.size_ok.ensures count.before.if1.left;
-      in_list =
-          is_true
-          (own_listed start.args.size start.args.word count.wide32.ensures.0 =.before.in_list.ensures)
-          =.if2.false;
-      places = six _ _ start.good.1.0;
-    } in it) taken;
+      taken = taken;
       up_to =
           up_to_is a.size a.word c.wide32-known.ensures.0 c.wide32-top.ensures.0
           c.wide32-count.ensures.0
