@@ -52,7 +52,7 @@ and_none true = refl
 and_none false = refl
 
 module _
-    {clocks : ℕ} {text : List ℕ} {at : ℕ} {all : Bool} (first : First (atoms_ok clocks) text at all)
+    (clocks : ℕ) {text : List ℕ} {at : ℕ} {all : Bool} (first : First (atoms_ok clocks) text at all)
   where
     pub atoms_clock : clocks ≤ get_or text at 0 → false ≡ all
     atoms_clock a = rw (le-ltb (get_or text at 0) clocks a) at first.first_is

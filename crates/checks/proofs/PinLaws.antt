@@ -30,19 +30,24 @@ module _
       same_clock : eqb (get_or text at 0) clock ≡ true
       same_clock = read_test clock x-is (eq-eqb x clock a)
 
-      pub pass_relation : eqb y relation ≡ false → Passes (has_atom clock relation constant) text at
-      pass_relation n = record { same = λ others. rw (same_clock, read_test relation y-is n) }
+      pub pass_relation : (y ≡ relation → ⊥) → Passes (has_atom clock relation constant) text at
+      pass_relation n = record {
+        same = λ others. rw (same_clock, read_test relation y-is (ne_eqb y relation n));
+      }
 
-      module _ (b : eqb y relation ≡ true) (z : ℕ) (z-is : z ≡ get_or text (at + 2) 0) where
-        pub pass_constant : eqb z constant ≡ false → Passes (has_atom clock relation constant) text at
+      module _ (b : y ≡ relation) (z : ℕ) (z-is : z ≡ get_or text (at + 2) 0) where
+        same_relation : eqb (get_or text (at + 1) 0) relation ≡ true
+        same_relation = read_test relation y-is (eq-eqb y relation b)
+
+        pub pass_constant : (z ≡ constant → ⊥) → Passes (has_atom clock relation constant) text at
         pass_constant n = record {
-          same = λ others. rw (same_clock, read_test relation y-is b, read_test constant z-is n);
+          same = λ others. rw (same_clock, same_relation, read_test constant z-is (ne_eqb z constant n));
         }
 
         pub atom_here :
-            {all : Bool} → First (has_atom clock relation constant) text at all → eqb z constant ≡ true → true ≡ all
+            {all : Bool} → First (has_atom clock relation constant) text at all → z ≡ constant → true ≡ all
         atom_here first d =
-            rw (same_clock, read_test relation y-is b, read_test constant z-is d) at first.first_is
+            rw (same_clock, same_relation, read_test constant z-is (eq-eqb z constant d)) at first.first_is
 
 -- Looking for an atom that pins, among some: t says whether the one at the place does, by its numbers x, y, z.
 module _

@@ -42,7 +42,8 @@ counted kind count h =
     (λ other.
     let g : (eqb kind grouped_edge && leb count most_text) ≡ true = rw other at h in
     let six : eqb kind grouped_edge ≡ true = and_left (eqb kind grouped_edge) (leb count most_text) g in
-    let few : count ≤ most_text = leb-true count most_text (and_right (eqb kind grouped_edge) (leb count most_text) g) in
+    let few : count ≤ most_text =
+    leb-true count most_text (and_right (eqb kind grouped_edge) (leb count most_text) g) in
     record {
       length_most = rw other few;
       count_again = rw other;

@@ -1,6 +1,6 @@
 -- What each test of the code says of the definition that it stands for, over plain variables.
 use mathlib.Core.Path.{◌≡◌, refl, sym, ◌∙◌, ap, ap₂}
-use mathlib.Core.Bool.{Bool, true, false, ◌&&◌, not}
+use mathlib.Core.Bool.{Bool, true, false, ◌&&◌}
 use mathlib.Core.List.{List, [], ◌∷◌}
 use Prim.Native.Nat.{ℕ, suc, ◌+◌, ◌-◌, ◌*◌, ◌^◌, ◌≤◌, ◌<◌}
 use native.Mathlib.Omega.{arith}
@@ -195,12 +195,12 @@ module _ {h : Head} {count e last : ℕ} {t : List ℕ} (inv : Edges h count e l
             ∙ (ap (edge_good h) (part_whole t (edge_width * e) edge_width)
             ∙ good_front h (drop (edge_width * e) t) (rw (length-drop (edge_width * e) t) (omega arith)))
 
-        pub edges_fail : not x ≡ true → count ≡ h.count → false ≡ edges_good h plain_edge h.count t
+        pub edges_fail : x ≡ false → count ≡ h.count → false ≡ edges_good h plain_edge h.count t
         edges_fail n c =
             sym
             (ap (λ (k : ℕ). edges_good h plain_edge k t) (sym c) ∙ (edges_at q ∙ rw (rising_kind, failed tested n)))
 
-        pub edges_next : not x ≡ false → Edges h count (e + 1) kind t
+        pub edges_next : x ≡ true → Edges h count (e + 1) kind t
         edges_next n = record {
           turns = omega arith;
           rest_is = rw kind_is (sym (edges_at q ∙ rw (rising_kind, passed tested n)));

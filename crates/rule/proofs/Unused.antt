@@ -12,7 +12,8 @@ use borrow.Author.Tests.{eq-eqb}
 use Rattle.model.specs.Basics.{pick, same, zeros, filled}
 use Rattle.model.specs.declared.Head.{Head}
 use Rattle.model.specs.Rules.{Edge, Rule, rule, integer_reset, sized, edge_ok, edges_ok, kinds_rise}
-use Rattle.model.specs.Layout.{edge_fields, edge_width, text_count, text_length, edge_in, edges_in, edge_numbers, edges_numbers}
+use Rattle.model.specs.Layout.{edge_fields, edge_width, text_count, text_length, edge_in, edges_in}
+use Rattle.model.specs.Layout.{edge_numbers, edges_numbers}
 use Rattle.model.proofs.Logic.{same_equal, same_self, same_truth, and_left, and_right, and_both}
 use Rattle.model.proofs.EdgesWritten.{edge_numbers_length}
 use Rattle.numbers.specs.Lent.{all_zero}
@@ -124,7 +125,8 @@ table_parts xs ys t e h =
     let front : length xs ≡ length (take edge_width t) = e ∙ sym (length-take-le edge_width t h) in
     ap (λ (l : List ℕ). same (filled (length t) (xs ++ ys)) l) (sym (take-append-drop edge_width t))
     ∙ (rw (left, append_assoc xs ys (zeros (length (drop edge_width t) - length ys)))
-    (same_parts xs (take edge_width t) (ys ++ zeros (length (drop edge_width t) - length ys)) (drop edge_width t) front))
+    (same_parts xs (take edge_width t) (ys ++ zeros (length (drop edge_width t) - length ys)) (drop edge_width t)
+    front))
 
 -- no fault is every number in range and the resets pinned
 fault_none : (a b : Bool) → (a && b) ≡ eqb (pick a (pick b 0 7) 6) 0
@@ -194,7 +196,8 @@ edges_same h i f es least (suc n) t b =
     fault
     ∙ regroup (eqb (edge_fault h t) 0) (sized e) (edges_ok r rest) (leb least e.kind) (kinds_rise e.kind rest)
     (same (filled (length t) (edge_numbers e ++ edges_numbers rest)) t) (same (edge_numbers e) (take edge_width t))
-    rest_same (count_ok (get_or t 0 0) (get_or t 5 0)) (unused_zero t) (edges_good h (get_or t 0 0) n (drop edge_width t))
+    rest_same (count_ok (get_or t 0 0) (get_or t 5 0)) (unused_zero t)
+    (edges_good h (get_or t 0 0) n (drop edge_width t))
     (λ s. table_parts (edge_numbers e) (edges_numbers rest) t (edge_numbers_length e s) (omega arith))
     (edge_same t (omega arith))
     (edges_same h i f es (get_or t 0 0) n (drop edge_width t) (rw (length-drop edge_width t) (omega arith)))

@@ -2,7 +2,8 @@
 use Rattle.std.specs.Prelude.{Bool, ◌&&◌, List, ℕ, zero, suc, ◌+◌, ◌-◌, ◌^◌, eqb, ltb, leb, get_or, take, drop}
 use Rattle.model.specs.declared.Head.{Head}
 use Rattle.model.specs.Basics.{pick}
-use Rattle.model.specs.Rules.{plain_edge, grouped_edge, pair_count, most_pairs, most_edges, most_atoms, most_text, sizes_ok}
+use Rattle.model.specs.Rules.{plain_edge, grouped_edge, pair_count, most_pairs, most_edges, most_atoms, most_text}
+use Rattle.model.specs.Rules.{sizes_ok}
 use Rattle.model.specs.Layout.{edge_fields, edge_width, text_length, rule_in}
 use Rattle.numbers.specs.Lent.{all_zero}
 use Rattle.checks.specs.Checks.{edge_fault}
