@@ -1,7 +1,7 @@
 -- An edge of kind 5 that the table holds whole, its atoms by their places: those passed hold, so the answer is what
 -- those to come give.
 use mathlib.Core.Path.{◌≡◌, refl, sym, ◌∙◌, ap}
-use mathlib.Core.Bool.{Bool, true, false, not}
+use mathlib.Core.Bool.{Bool, true, false}
 use mathlib.Core.List.{List}
 use Prim.Native.Nat.{ℕ, ◌+◌, ◌-◌, ◌*◌, ◌≤◌, ◌<◌, min}
 use native.Mathlib.Omega.{arith}
@@ -102,7 +102,7 @@ module _ {test : Atom → Bool} {t : List ℕ} {e at left : ℕ} (inv : Answerin
             (omega (arith, text_length_lem, inv.room, inv.place_is))
             (here ∙ ap test (atom_by t (edge_at e t).text at (atom_width * j) number_is)))
 
-        pub answering_next : not r ≡ false → Answering test t e (at + atom_width) (left - 1)
+        pub answering_next : r ≡ true → Answering test t e (at + atom_width) (left - 1)
         answering_next y = record {
           whole = inv.whole;
           some_left = omega (arith, inv.some_left);
@@ -111,7 +111,7 @@ module _ {test : Atom → Bool} {t : List ℕ} {e at left : ℕ} (inv : Answerin
           holding = rw next_left at (holding_next inv.holding member y);
         }
 
-        pub answering_fails : not r ≡ true → false ≡ is_met (first_failing 0 test (guard_of (edge_at e t)))
+        pub answering_fails : r ≡ false → false ≡ is_met (first_failing 0 test (guard_of (edge_at e t)))
         answering_fails y = spelt (failing inv.holding member y) refl
 
   pub answering_end : left ≤ 0 → true ≡ is_met (first_failing 0 test (guard_of (edge_at e t)))
