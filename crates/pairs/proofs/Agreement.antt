@@ -11,7 +11,8 @@ use Rattle.model.specs.Texts.{Atom, Members}
 use Rattle.model.specs.Rules.{Edge, Rule, guard_of, cm}
 use Rattle.model.specs.Runs.{zeroed_from, zeroed}
 use Rattle.model.specs.Guards.{guard, is_met}
-use Rattle.model.specs.Construction.{region_of, regions_of, regions_hold, code_of, bases_of, allows, advanced, target_of}
+use Rattle.model.specs.Construction.{region_of, regions_of, regions_hold, code_of, bases_of, allows, advanced}
+use Rattle.model.specs.Construction.{target_of}
 use Rattle.model.proofs.Texts.{Within, guard_atoms}
 use Rattle.model.proofs.Guards.{same_readings}
 use Rattle.model.proofs.Valid.{EdgeIn}
