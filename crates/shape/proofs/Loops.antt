@@ -178,7 +178,8 @@ and_four true false c d = sym (and_false c)
 and_four false b c d = refl
 
 pub cells_are :
-    (c rows at : ℕ) (xs : List ℕ) → (all_below (2 * rows) xs && resets_ok at xs) ≡ cells_ok at (interval_count c) rows xs
+    (c rows at : ℕ) (xs : List ℕ)
+    → (all_below (2 * rows) xs && resets_ok at xs) ≡ cells_ok at (interval_count c) rows xs
 cells_are c rows at [] = refl
 cells_are c rows at (x ∷ xs) =
     and_four (ltb x (2 * rows)) (all_below (2 * rows) xs) (eqb (x % 2) 0 || eqb (at % 2) 0) (resets_ok (suc at) xs)

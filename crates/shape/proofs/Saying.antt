@@ -9,7 +9,7 @@ use native.Mathlib.Nat.{one-le-pow, mul-le-mul_right}
 use lib.Dec.{eqb, ltb, leb}
 use lib.ListN.{length, get_or, take, drop, length-drop, drop_of_length-le}
 use lib.Seq.{drop-cons, get_or-take, get_or-drop, length-take-le}
-use borrow.Author.Tests.{eqb-true, ltb-true, leb-true, eq-eqb, ne_eqb}
+use borrow.Author.Tests.{ltb-true, leb-true, eq-eqb, ne_eqb}
 use Rattle.model.specs.declared.Built.{Built}
 use Rattle.model.specs.Basics.{one_if, bit, within, all_below}
 use Rattle.model.specs.Rules.{most_pairs, most_constant, sizes_ok}
@@ -68,7 +68,8 @@ abbrev pub Under : ℕ → List ℕ → Type 0
 Under n xs = (k : ℕ) → k < length xs → get_or xs k 0 < n
 
 module _ (w : ℕ) (pos : 0 < w) (most : w ≤ most_pairs) where
-  pub final_by_lem : (ends : ℕ) (xs : List ℕ) → Under most_pairs xs → final_by (reciprocal w) ends xs ≡ any_final w ends xs
+  pub final_by_lem :
+      (ends : ℕ) (xs : List ℕ) → Under most_pairs xs → final_by (reciprocal w) ends xs ≡ any_final w ends xs
   final_by_lem ends [] u = refl
   final_by_lem ends (x ∷ xs) u =
       rw (by_reciprocal w x pos most (u 0 (omega arith)), final_by_lem ends xs (λ k h. u (suc k) (omega arith)))
@@ -173,7 +174,8 @@ module _ {b : Built} {rows pool : List ℕ} {i : ℕ} (inv : Checked b rows pool
 
   -- a turn of it: `r` is what the codes say, `v` the number stored
   module _
-      (r v : ℕ) (h : i < b.rows) (says : r ≡ one_if (codes_say b (codes_at rows pool i))) (stored : v ≡ row_verdict rows i)
+      (r v : ℕ) (h : i < b.rows) (says : r ≡ one_if (codes_say b (codes_at rows pool i)))
+      (stored : v ≡ row_verdict rows i)
     where
       checked_rest :
           verdicts_ok b.rows 0 b rows pool ≡ (eqb v r && verdicts_ok (b.rows - (i + 1)) (i + 1) b rows pool)

@@ -56,7 +56,8 @@ module _ (b : Built) (i : InRange b) where
   module _ (n s t : ℕ) (en : n ≡ b.rows) (es : s ≡ b.symbols) (et : t ≡ b.top) where
     pub row_cells_most : s * (2 * t + 2) ≤ most_symbols * (2 * most_constant + 2)
     row_cells_most =
-        mul-le-mul {n₁ = s} {m₁ = 2 * t + 2} {n₂ = most_symbols} {m₂ = 2 * most_constant + 2} (omega arith) (omega arith)
+        mul-le-mul {n₁ = s} {m₁ = 2 * t + 2} {n₂ = most_symbols} {m₂ = 2 * most_constant + 2} (omega arith)
+        (omega arith)
 
     pub cells_fit : n < 2 ^ 32 → n * (s * (2 * t + 2)) < 2 ^ 64
     cells_fit f = omega (arith, mul-le-mul {n₁ = n} {n₂ = 4294967295} (omega arith) row_cells_most)

@@ -1,5 +1,6 @@
 -- What codes say, their locations by a multiplication; and what is settled before stored verdicts are looked at.
-use Rattle.std.specs.Prelude.{◌≡◌, Bool, true, false, ◌||◌, List, [], ◌∷◌, ℕ, ◌+◌, ◌*◌, ◌/◌, ◌^◌, ◌≤◌, ◌<◌, length, get_or, take}
+use Rattle.std.specs.Prelude.{◌≡◌, Bool, true, false, ◌||◌, List, [], ◌∷◌, ℕ, ◌+◌, ◌*◌, ◌/◌, ◌^◌, ◌≤◌, ◌<◌}
+use Rattle.std.specs.Prelude.{length, get_or, take}
 use Rattle.model.specs.declared.Built.{Built}
 use Rattle.model.specs.Basics.{bit, all_below}
 use Rattle.model.specs.Walks.{built_pairs, built_sizes_ok}

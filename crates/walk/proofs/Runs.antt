@@ -48,7 +48,8 @@ module _ (b : Built) (cs ns ps : List ℕ) (d : ℕ) (xs ts : List ℕ) where
   abbrev Answers : Answer → Type 0
   Answers a = a ≡ answer_of (run_refusal (tables b cs ns ps) d xs ts) value
 
-  pub shape_refuses : {a : Answer} → a ≡ answer_of (shape_refusal (tables b cs ns ps)) 0 → (a.number ≡ 0 → ⊥) → Answers a
+  pub shape_refuses :
+      {a : Answer} → a ≡ answer_of (shape_refusal (tables b cs ns ps)) 0 → (a.number ≡ 0 → ⊥) → Answers a
   unfolding run_refusal
   shape_refuses e n = first_refuses (shape_refusal (tables b cs ns ps)) word 0 value e n
 
