@@ -18,13 +18,13 @@ use model::{Age, MOST_CLOCKS, MOST_LOCATIONS};
 use numbers::{has_bit, part_of, wide16, wide32};
 
 // The ages of as many clocks as a rule may have.
-#[derive(Drop)]
+#[derive(Clone, Copy)]
 pub struct Ages {
     pub of: [Age; MOST_CLOCKS],
 }
 
 // A location and the ages of the clocks.
-#[derive(Drop)]
+#[derive(Clone, Copy)]
 pub struct Configuration {
     pub location: u32,
     pub ages: Ages,

@@ -15,7 +15,7 @@ use model::{MOST_SCRATCH, SCRATCH_BITS};
 use numbers::{larger, lesser, narrow32, wide32};
 
 // The marks lie in the numbers from `low` on and below `past`, and `count` codes are marked.
-#[derive(Drop)]
+#[derive(Clone, Copy)]
 pub struct Span {
     pub low: usize,
     pub past: usize,

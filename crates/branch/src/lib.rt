@@ -20,14 +20,14 @@ use rule::check_rule;
 use word::check_word;
 
 // What every step of the search is given alike: 32 bytes, which are copied in two halves that do not overlap.
-#[derive(Drop)]
+#[derive(Clone, Copy)]
 pub(crate) struct Given {
     pub head: Head,
     pub grain: u32,
 }
 
 // A run while it is searched for: its edges from some place on, all else zero. Small, for every step answers one.
-#[derive(Drop)]
+#[derive(Clone, Copy)]
 pub(crate) struct Run {
     pub edges: [u16; MOST_BRANCH_EVENTS],
     pub found: bool,

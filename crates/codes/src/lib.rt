@@ -16,7 +16,7 @@ pub const POWER_PLACES: usize = 5;
 
 // What the codes of a rule's pairs are made by, worked out once in a build: the clocks, cm as `top`, and the powers 0
 // to K of cm + 2, those past K zero. `weight`, what a location counts, is power K: at hand without an index.
-#[derive(Drop)]
+#[derive(Clone, Copy)]
 pub struct Scale {
     pub clocks: u32,
     pub top: u8,
@@ -25,7 +25,7 @@ pub struct Scale {
 }
 
 // A location with a base for each clock; a base is the clock's value at the last timer reset.
-#[derive(Drop)]
+#[derive(Clone, Copy)]
 pub struct Pair {
     pub location: usize,
     pub bases: [u16; MOST_CLOCKS],

@@ -15,21 +15,21 @@ mod marks;
 mod rows;
 
 // What the marks of a next row come with: whether the timer is reset, and where they lie.
-#[derive(Drop)]
+#[derive(Clone, Copy)]
 pub(crate) struct Marked {
     pub(crate) timer: bool,
     pub(crate) span: Span,
 }
 
 // Where the row that is marked is found among those already numbered.
-#[derive(Drop)]
+#[derive(Clone, Copy)]
 pub(crate) enum Found {
     At(usize),
     Nothing,
 }
 
 // What a row's verdict is worked out by: the weight of a location in a code, and the final locations.
-#[derive(Drop)]
+#[derive(Clone, Copy)]
 pub(crate) struct Finals {
     pub(crate) weight: u32,
     pub(crate) ends: u32,
@@ -38,7 +38,7 @@ pub(crate) struct Finals {
 // How far the rows are numbered: their count, how much of the pool they fill, and how many there is room for.
 // The number is 23 or 24 where the next did not fit, else 0.
 // `last` is the row that was placed last, `before` another one placed before it: where a row is looked for first.
-#[derive(Drop)]
+#[derive(Clone, Copy)]
 pub(crate) struct Progress {
     pub(crate) number: usize,
     pub(crate) rows: usize,
@@ -49,7 +49,7 @@ pub(crate) struct Progress {
 }
 
 // A cell, and how far the rows are numbered with the row that it leads to.
-#[derive(Drop)]
+#[derive(Clone, Copy)]
 pub(crate) struct Filled {
     pub(crate) cell: u32,
     pub(crate) progress: Progress,

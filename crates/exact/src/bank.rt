@@ -12,7 +12,7 @@ use model::Age;
 use numbers::entry_at;
 
 // What adding a configuration to a bank finds.
-#[derive(Drop)]
+#[derive(Clone, Copy)]
 pub enum Added {
     // So many are there now.
     Count(usize),

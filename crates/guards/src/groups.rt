@@ -12,7 +12,7 @@ use numbers::number_at;
 use texts::opens;
 
 // A group's answer: whether it holds, and where the text goes on past its closing mark.
-#[derive(Drop)]
+#[derive(Clone, Copy)]
 pub(crate) struct Group {
     pub holds: bool,
     pub past: usize,

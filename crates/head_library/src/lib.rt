@@ -15,7 +15,7 @@ use model::{
 
 // The branch runner's answer, its edges in a lent array.
 #[repr(C)]
-#[derive(Drop)]
+#[derive(Clone, Copy)]
 pub struct BranchAnswer {
     pub number: u8,
     pub place: usize,

@@ -22,7 +22,7 @@ mod states;
 mod trail;
 
 // The rows and the ages of the two timers, in half seconds and cut at each table's top interval.
-#[derive(Drop)]
+#[derive(Clone, Copy)]
 pub(crate) struct Joint {
     pub(crate) row: usize,
     pub(crate) age: usize,
@@ -31,7 +31,7 @@ pub(crate) struct Joint {
 }
 
 // How many states are found, and whether the last of them is a goal.
-#[derive(Drop)]
+#[derive(Clone, Copy)]
 pub(crate) struct Progress {
     pub(crate) tail: usize,
     pub(crate) goal: bool,

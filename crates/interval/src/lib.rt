@@ -7,7 +7,7 @@ ghost use Rattle.model.specs.Construction.{top_interval, interval_of};
 
 use model::Age;
 
-#[derive(Drop)]
+#[derive(Clone, Copy)]
 pub struct Interval(pub u64);
 
 impl Interval {

@@ -139,12 +139,12 @@ pub const MOST_SCRATCH: usize = 2048;
 
 // A time since the start of the word, in D-ths of a second.
 #[repr(C)]
-#[derive(Drop)]
+#[derive(Clone, Copy)]
 pub struct Stamp(pub u32);
 
 // A time since a reset, in D-ths of a second.
 #[repr(C)]
-#[derive(Drop)]
+#[derive(Clone, Copy)]
 pub struct Age(pub u32);
 
 impl Stamp {
@@ -163,7 +163,7 @@ impl Stamp {
 
 // The head record of a rule: sizes, initial and final locations as masks, the edge count.
 #[repr(C)]
-#[derive(Drop)]
+#[derive(Clone, Copy)]
 pub struct Head {
     pub locations: u32,
     pub symbols: u32,
@@ -175,7 +175,7 @@ pub struct Head {
 
 // The built record of a table: sizes, cm as `top`, final locations as a mask, the row count R, the pool total P.
 #[repr(C)]
-#[derive(Drop)]
+#[derive(Clone, Copy)]
 pub struct Built {
     pub locations: u32,
     pub symbols: u32,
@@ -189,7 +189,7 @@ pub struct Built {
 // In every answer: the number of the refusal, 0 for none, and its place.
 // The value is the bytes written, or 1 for yes and 0 for no; 0 on a refusal.
 #[repr(C)]
-#[derive(Drop)]
+#[derive(Clone, Copy)]
 pub struct Answer {
     pub number: u8,
     pub place: usize,
@@ -197,7 +197,7 @@ pub struct Answer {
 }
 
 #[repr(C)]
-#[derive(Drop)]
+#[derive(Clone, Copy)]
 pub struct Reading {
     pub number: u8,
     pub place: usize,
@@ -205,7 +205,7 @@ pub struct Reading {
 }
 
 #[repr(C)]
-#[derive(Drop)]
+#[derive(Clone, Copy)]
 pub struct Building {
     pub number: u8,
     pub place: usize,
@@ -213,7 +213,7 @@ pub struct Building {
 }
 
 // A guard's answer: it holds, or the first member of its outermost level, by position from 0, that does not.
-#[derive(Drop)]
+#[derive(Clone, Copy)]
 pub enum Guard {
     Holds,
     Fails(usize),
@@ -223,7 +223,7 @@ pub enum Guard {
 // `held`: a guard held the rule back at the first event; its member at `position`, from 0, is the first that does not
 // hold. Both are zero where a run accepts, and wherever no guard is to be named.
 #[repr(C)]
-#[derive(Drop)]
+#[derive(Clone, Copy)]
 pub struct Branch {
     pub number: u8,
     pub place: usize,
@@ -236,7 +236,7 @@ pub struct Branch {
 
 // One timer over a table: D as `grain`, the row, the stamp of the last timer reset, the last stamp, the event count.
 #[repr(C)]
-#[derive(Drop)]
+#[derive(Clone, Copy)]
 pub struct Follower {
     pub grain: u32,
     pub row: u32,
@@ -246,7 +246,7 @@ pub struct Follower {
 }
 
 #[repr(C)]
-#[derive(Drop)]
+#[derive(Clone, Copy)]
 pub struct Started {
     pub number: u8,
     pub place: usize,
@@ -254,7 +254,7 @@ pub struct Started {
 }
 
 #[repr(C)]
-#[derive(Drop)]
+#[derive(Clone, Copy)]
 pub struct Followed {
     pub number: u8,
     pub place: usize,
@@ -264,7 +264,7 @@ pub struct Followed {
 
 // What following an event answers where the follower stays in its place.
 #[repr(C)]
-#[derive(Drop)]
+#[derive(Clone, Copy)]
 pub struct Moved {
     pub number: u8,
     pub place: usize,
@@ -273,7 +273,7 @@ pub struct Moved {
 
 // The size of a list of words: S symbols, at most m `events`, stamps up to H whole `seconds`.
 #[repr(C)]
-#[derive(Drop)]
+#[derive(Clone, Copy)]
 pub struct Size {
     pub symbols: u32,
     pub events: u32,
@@ -282,7 +282,7 @@ pub struct Size {
 
 // A word by value, D = 2: its number of events and six places, unused ones zero.
 #[repr(C)]
-#[derive(Drop)]
+#[derive(Clone, Copy)]
 pub struct Listed {
     pub count: u32,
     pub symbols: [u16; MOST_LISTED_EVENTS],
@@ -291,7 +291,7 @@ pub struct Listed {
 
 // The next word of a list; `last`: there is none, and the word is the one given. It is that on a refusal too.
 #[repr(C)]
-#[derive(Drop)]
+#[derive(Clone, Copy)]
 pub struct Next {
     pub number: u8,
     pub place: usize,
@@ -301,7 +301,7 @@ pub struct Next {
 
 // Does the first table allow only what the second allows? If not, a word of so many `events` stands in the lent room.
 #[repr(C)]
-#[derive(Drop)]
+#[derive(Clone, Copy)]
 pub struct Inclusion {
     pub number: u8,
     pub place: usize,
@@ -311,7 +311,7 @@ pub struct Inclusion {
 
 // Up to 16 built records, by value; their cells, rows and pools stand one after another in the three lent tables.
 #[repr(C)]
-#[derive(Drop)]
+#[derive(Clone, Copy)]
 pub struct Batch {
     pub count: u32,
     pub tables: [Built; MOST_TABLES],
@@ -321,7 +321,7 @@ pub struct Batch {
 // four numbers: the words accepted, out of how many, and that share in lowest terms, numerator and denominator.
 // `greatest` is the table with the greatest share in all, from 1.
 #[repr(C)]
-#[derive(Drop)]
+#[derive(Clone, Copy)]
 pub struct Shares {
     pub number: u8,
     pub place: usize,

@@ -8,7 +8,7 @@ pub mod regions;
 pub mod resets;
 
 // What a row is left by: a symbol, and the number of the timer's interval.
-#[derive(Drop)]
+#[derive(Clone, Copy)]
 pub struct Input {
     pub symbol: u32,
     pub interval: u32,

@@ -18,7 +18,7 @@ use numbers::clear16;
 
 // A reading under way: where the next record starts, the kind of the record before (0 at the start), the least initial
 // and final location that may come next, the head record so far.
-#[derive(Drop)]
+#[derive(Clone, Copy)]
 pub(crate) struct Cursor {
     at: usize,
     last: usize,
@@ -28,7 +28,7 @@ pub(crate) struct Cursor {
 }
 
 // What a record does to a reading.
-#[derive(Drop)]
+#[derive(Clone, Copy)]
 pub(crate) enum Step {
     Next(Cursor),
     Refused(u8),

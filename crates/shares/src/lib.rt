@@ -27,7 +27,7 @@ mod terms;
 mod tree;
 
 // Where a table's part begins in the three lent tables.
-#[derive(Drop)]
+#[derive(Clone, Copy)]
 pub(crate) struct Part {
     pub(crate) cells: usize,
     pub(crate) rows: usize,

@@ -18,7 +18,7 @@ use tables::row_verdict;
 use word::check_word;
 
 // Where a walk stands: its row, and the stamp of the last timer reset.
-#[derive(Drop)]
+#[derive(Clone, Copy)]
 pub struct Walk {
     pub row: u32,
     pub reset: Stamp,
