@@ -7,9 +7,9 @@ ghost use Rattle.model.specs.Rules.{most_locations};
 
 use codes::powers::scale_by;
 use codes::{Scale, pack, unpack};
-use libc::STDOUT_FILENO;
 use model::{MOST_CLOCKS, MOST_CONSTANT, MOST_LOCATIONS, MOST_PAIRS};
 use numbers::{narrow16, wide8, wide32};
+use std::io;
 
 // What was seen. The sums stop at the top of their range, which they do not reach.
 #[derive(Clone, Copy)]
@@ -83,12 +83,7 @@ fn of_clocks(clocks: u32, before: Tally) -> Tally {
     tally
 }
 
-fn print_number(n: u32, after: &[u8]) {
-    io::print_decimal(STDOUT_FILENO, n as u64);
-    io::write_all(STDOUT_FILENO, after);
-}
-
-fn main() {
+fn main(rt: HostRuntime) -> io::Result<()> {
     let mut tally = Tally {
         sizes: 0,
         codes: 0,
@@ -99,7 +94,5 @@ fn main() {
         tally = of_clocks(clocks, tally);
         clocks += 1;
     }
-    print_number(tally.sizes, b" ");
-    print_number(tally.codes, b" ");
-    print_number(tally.wrong, b"\n");
+    println!(rt; "{} {} {}", tally.sizes, tally.codes, tally.wrong)
 }

@@ -1,155 +1,108 @@
 // The listing program: a rule file from standard input, its table on standard output.
 #![tactic(auto)]
 
+ghost use Rattle.std.specs.Prelude.{◌≤◌, IfOk, length};
+
 use construct::build_table;
-use libc::STDOUT_FILENO;
 use model::{Built, EDGE_NEED};
 use numbers::{part_of, wide32};
 use reader::read_rule;
+use std::io::Read;
+use std::{fmt, io};
 use tables::{row_length, row_start, row_verdict};
 
 // The bytes of a file that are read; the longest legal file has 44,432.
 const LISTED_FILE: usize = 49152;
 
-// Where the next byte of a line goes, after `used` others. A full buffer is written and begun anew, so that a line of
-// any length comes out whole.
-fn place_in(line: &[u8], used: usize) -> usize {
-    if used < line.len() {
-        return used;
+// Reads until the buffer is full or the input ends; the answer is how many bytes stand at the start of the buffer.
+fn read_full(input: &mut impl Read, buffer: &mut [u8]) -> io::Result<usize>
+    ensures { IfOk result (λ size. size ≤ length buffer.new) }
+{
+    let mut size = 0;
+    while size < buffer.len() {
+        let count = input.read(&mut buffer[size..])?;
+        if count == 0 {
+            break;
+        }
+        size += count;
     }
-    io::write_all(STDOUT_FILENO, line);
-    0
-}
-
-fn put(line: &mut [u8], used: usize, byte: u8) -> usize {
-    let at = place_in(line, used);
-    if line.len() <= at {
-        return 0;
-    }
-    line[at] = byte;
-    at + 1
-}
-
-fn put_text(line: &mut [u8], used: usize, text: &[u8]) -> usize {
-    let mut at = used;
-    let mut i: usize = 0;
-    while i < text.len() {
-        at = put(line, at, text[i]);
-        i += 1;
-    }
-    at
-}
-
-fn put_number(line: &mut [u8], used: usize, n: usize) -> usize {
-    let mut text = [0u8; 20];
-    let count = io::decimal(n as u64, &mut text);
-    put_text(line, used, &text[..count])
+    Ok(size)
 }
 
 // The numbers of a part of a table, each after a blank.
-fn put_after_blanks(line: &mut [u8], used: usize, part: &[u32]) -> usize {
-    let mut at = used;
-    let mut i: usize = 0;
-    while i < part.len() {
-        at = put(line, at, 32);
-        at = put_number(line, at, wide32(part[i]));
-        i += 1;
+#[derive(Clone, Copy)]
+struct AfterBlanks<'a>(&'a [u32]);
+
+impl fmt::Display for AfterBlanks<'_> {
+    fn fmt<W: fmt::Write>(&self, f: &mut fmt::Formatter<W>) -> fmt::Result {
+        for number in self.0 {
+            write!(f, " {number}")?;
+        }
+        Ok(())
     }
-    at
 }
 
-// The first bytes of a line, as far as there are so many.
-fn front(line: &[u8], count: usize) -> &[u8] {
-    if line.len() <= count {
-        return line;
-    }
-    &line[0..count]
-}
-
-// Ends the line and writes it.
-fn print_line(line: &mut [u8], used: usize) {
-    let end = put(line, used, 10);
-    io::write_all(STDOUT_FILENO, front(line, end));
-}
-
-fn print_refusal(line: &mut [u8], number: u8, place: usize) {
-    let mut at = put_text(line, 0, b"no ");
-    at = put_number(line, at, number as usize);
-    at = put(line, at, 32);
-    at = put_number(line, at, place);
-    print_line(line, at);
+fn print_refusal(rt: &impl Print, number: u8, place: usize) -> io::Result<()> {
+    println!(rt; "no {number} {place}")
 }
 
 // A row: its number, the verdict that it stores, its codes.
-fn print_head(line: &mut [u8], rows: &[u32], pool: &[u32], row: u32) {
+fn print_head(rt: &impl Print, rows: &[u32], pool: &[u32], row: u32) -> io::Result<()> {
     let codes = part_of(pool, row_start(rows, row), row_length(rows, row));
-    let mut at = put_number(line, 0, wide32(row));
-    at = put(line, at, 32);
-    at = put_number(line, at, wide32(row_verdict(rows, row)));
-    at = put(line, at, 32);
-    at = put_number(line, at, codes.len());
-    at = put_after_blanks(line, at, codes);
-    print_line(line, at);
+    let verdict = row_verdict(rows, row);
+    println!(rt; "{row} {verdict} {}{}", codes.len(), AfterBlanks(codes))
 }
 
 // A line of cells.
-fn print_part(line: &mut [u8], part: &[u32]) {
-    if part.len() == 0 {
-        print_line(line, 0);
-        return;
+fn print_part(rt: &impl Print, part: &[u32]) -> io::Result<()> {
+    match part {
+        [] => println!(rt),
+        [first, rest @ ..] => println!(rt; "{first}{}", AfterBlanks(rest)),
     }
-    let at = put_number(line, 0, wide32(part[0]));
-    let end = put_after_blanks(line, at, &part[1..]);
-    print_line(line, end);
 }
 
 // A line of cells for each symbol, from a place on; the next row's cells start at the answer.
-fn print_cells(line: &mut [u8], built: Built, cells: &[u32], at: usize) -> usize {
+fn print_cells(rt: &impl Print, built: Built, cells: &[u32], at: usize) -> io::Result<usize> {
     let width = 2 * wide32(built.top) + 2;
     let mut next = at;
-    let mut symbol: u32 = 0;
-    while symbol < built.symbols {
-        print_part(line, part_of(cells, next, width));
+    for _ in 0..built.symbols {
+        print_part(rt, part_of(cells, next, width))?;
         if next < cells.len() {
-            next = next + width;
+            next += width;
         }
-        symbol += 1;
     }
-    next
+    Ok(next)
 }
 
 // R, P, S and W.
-fn print_sizes(line: &mut [u8], built: Built) {
-    let mut at = put_number(line, 0, wide32(built.rows));
-    at = put(line, at, 32);
-    at = put_number(line, at, wide32(built.total));
-    at = put(line, at, 32);
-    at = put_number(line, at, wide32(built.symbols));
-    at = put(line, at, 32);
-    at = put_number(line, at, 2 * wide32(built.top) + 2);
-    print_line(line, at);
+fn print_sizes(rt: &impl Print, built: Built) -> io::Result<()> {
+    let width = 2 * wide32(built.top) + 2;
+    println!(rt; "{} {} {} {width}", built.rows, built.total, built.symbols)
 }
 
-fn print_table(line: &mut [u8], built: Built, cells: &[u32], rows: &[u32], pool: &[u32]) {
-    print_sizes(line, built);
-    let mut at: usize = 0;
-    let mut row: u32 = 0;
-    while row < built.rows {
-        print_head(line, rows, pool, row);
-        at = print_cells(line, built, cells, at);
-        row += 1;
+fn print_table(
+    rt: &impl Print,
+    built: Built,
+    cells: &[u32],
+    rows: &[u32],
+    pool: &[u32],
+) -> io::Result<()> {
+    print_sizes(rt, built)?;
+    let mut at = 0;
+    for row in 0..built.rows {
+        print_head(rt, rows, pool, row)?;
+        at = print_cells(rt, built, cells, at)?;
     }
+    Ok(())
 }
 
-fn main() {
-    let mut line = [0u8; 4096];
+fn main(rt: HostRuntime) -> io::Result<()> {
     let mut file = [0u8; LISTED_FILE];
-    let size = io::read_full(0, &mut file);
+    let size = read_full(&mut rt.reader(), &mut file)?;
     let mut edges = [0u16; EDGE_NEED];
     let reading = read_rule(&file[..size], &mut edges);
     if reading.number != 0 {
-        print_refusal(&mut line, reading.number, reading.place);
-        return;
+        return print_refusal(&rt, reading.number, reading.place);
     }
     let mut scratch = [0u32; 16384];
     let mut cells = [0u32; 16384];
@@ -158,9 +111,8 @@ fn main() {
     let head = reading.head;
     let building = build_table(head, &edges, &mut scratch, &mut cells, &mut rows, &mut pool);
     if building.number != 0 {
-        print_refusal(&mut line, building.number, building.place);
-        return;
+        return print_refusal(&rt, building.number, building.place);
     }
     let built = building.built;
-    print_table(&mut line, built, &cells, &rows, &pool);
+    print_table(&rt, built, &cells, &rows, &pool)
 }
