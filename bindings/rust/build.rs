@@ -1,5 +1,5 @@
 //! Finds `libhead_library.a`: in the folder that ALDERSKEIN_LIB_DIR names, else in the repository's
-//! `target/staticlib`, where `rt staticlib head_library` puts it.
+//! `crates/head_library/out`, where `rt lib` in `crates/head_library` puts it.
 
 use std::path::PathBuf;
 use std::{env, process};
@@ -11,7 +11,7 @@ fn main() {
     let folder = folder();
     let archive = folder.join(ARCHIVE);
     if !archive.is_file() {
-        eprintln!("{} is missing: `rt staticlib head_library` makes it", archive.display());
+        eprintln!("{} is missing: `rt lib` in crates/head_library makes it", archive.display());
         eprintln!("(ALDERSKEIN_LIB_DIR names another folder to look in)");
         process::exit(1);
     }
@@ -23,6 +23,6 @@ fn main() {
 fn folder() -> PathBuf {
     match env::var_os("ALDERSKEIN_LIB_DIR") {
         Some(folder) => PathBuf::from(folder),
-        None => PathBuf::from(env!("CARGO_MANIFEST_DIR")).join("../../target/staticlib"),
+        None => PathBuf::from(env!("CARGO_MANIFEST_DIR")).join("../../crates/head_library/out"),
     }
 }

@@ -47,7 +47,7 @@
 //! The calls without allocation, with every part of their answers, are in [`raw`].
 //!
 //! The archive is looked for in the folder that the environment variable `ALDERSKEIN_LIB_DIR` names at build
-//! time, else in the repository's `target/staticlib`.
+//! time, else in the repository's `crates/head_library/out`.
 
 mod follower;
 mod listing;
