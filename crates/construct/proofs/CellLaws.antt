@@ -46,7 +46,8 @@ pub cell_made :
     → x ≡ row_at rs row
     → length marks₁ ≡ length marks
     → NextMarked r at x marks₁ marked
-    → MarksNumbered says room (with_row (codes_in marks₁) rs) (number_of (codes_in marks₁) rs) marks₁ marks' rows' pool' p
+    → MarksNumbered says room (with_row (codes_in marks₁) rs) (number_of (codes_in marks₁) rs) marks₁ marks' rows'
+    pool' p
     → cell ≡ 2 * p.last + one_if marked.timer
     → CellMade says r row at rs room marks marks' rows' pool' (record { cell = cell; progress = p })
 unfolding cell_of

@@ -60,7 +60,8 @@ fields_of h t count n valid q l =
     let es : List Edge = edges_in h.count t in
     let v : Valid (rule_in h t) = valid_of (rule_in h t) valid in
     let k : n < length es = omega (arith, edges_length h.count t) in
-    let e : EdgeIn (rule_in h t) (edge_of es n) = v.edges_in (edge_of es n) (rw (edges_of h t) (in_at no_edge es n k)) in
+    let e : EdgeIn (rule_in h t) (edge_of es n) =
+    v.edges_in (edge_of es n) (rw (edges_of h t) (in_at no_edge es n k)) in
     let same_edge : edge_at n t ≡ edge_of es n = sym (edge_at_lem h.count n t (omega arith)) in
     rw q
     (record {
@@ -157,7 +158,8 @@ targets_from r s i timer x row n =
 
 -- What the code tests at edge n, and where it leads, is the construction's.
 module _
-    (h : Head) (t : List ℕ) {z : Scale} (valid : valid_rule (rule_in h t) ≡ true) (scaled : Scaled (rule_in h t) z) {n : ℕ}
+    (h : Head) (t : List ℕ) {z : Scale} (valid : valid_rule (rule_in h t) ≡ true) (scaled : Scaled (rule_in h t) z)
+    {n : ℕ}
     (inside : n < h.count) where
   pub edge_in_lem : EdgeIn (rule_in h t) (edge_of (rule_in h t).edges n)
   edge_in_lem =

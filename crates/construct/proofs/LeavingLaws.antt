@@ -169,7 +169,9 @@ module _
       → get_or links' (next_place k) 0 ≡ leaving_from es (edge_of es k).source (edge_of es k).symbol (suc k)
   next' k hk hl = go (cmp k n)
     where
-      go : Cmp k n → get_or links' (next_place k) 0 ≡ leaving_from es (edge_of es k).source (edge_of es k).symbol (suc k)
+      go :
+          Cmp k n
+          → get_or links' (next_place k) 0 ≡ leaving_from es (edge_of es k).source (edge_of es k).symbol (suc k)
       go (is_lt h) = absurd (omega arith)
       go (is_eq h) =
           rw h

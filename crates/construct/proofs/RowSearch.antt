@@ -279,7 +279,8 @@ at_longer {count} {row} {rows} {pool} marks n within h is-length d =
 
 pub at_marked :
     {count row start n : ℕ} {marks rows pool : List ℕ} → row < count → AsLong marks rows pool row start n
-    → all_marked marks (take (start + n - start) (drop start pool)) ≡ is_at row (codes_in marks) (rows_in count rows pool)
+    → all_marked marks (take (start + n - start) (drop start pool))
+    ≡ is_at row (codes_in marks) (rows_in count rows pool)
 at_marked {count} {row} {start} {n} {marks} {rows} {pool} h long =
     let z : start + n - start ≡ n = omega arith in
     let e : take (start + n - start) (drop start pool) ≡ codes_at rows pool row = rw z (sym long.part_is) in

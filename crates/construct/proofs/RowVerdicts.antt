@@ -57,7 +57,8 @@ pub says_rule :
     → says_in h z xs ≡ holds_final (rule_in h t) xs
 says_rule h t xs passed scaled =
     ap₂ (λ (w e : ℕ). any_final w e xs) (weight_is scaled) (final_mask h t passed)
-    ∙ codes_say_lem (rule_in h t) [] 0 0 0 xs (final_asc (rule_in h t) (valid_of (rule_in h t) (passes_valid h t passed)))
+    ∙ codes_say_lem (rule_in h t) [] 0 0 0 xs
+    (final_asc (rule_in h t) (valid_of (rule_in h t) (passes_valid h t passed)))
 
 -- the same numbers, where codes say the same
 pub numbers_say :

@@ -4,7 +4,7 @@ use Rattle.std.specs.Prelude.{◌≡◌, Bool, List, [], ◌∷◌, ◌++◌, �
 use Rattle.numbers.specs.Lent.{laid}
 use Rattle.model.specs.Basics.{zeros, filled}
 use Rattle.model.specs.Rules.{Rule}
-use Rattle.model.specs.Construction.{width, start_row, next_row, row_at, number_of, with_row, by_intervals, by_symbols, rows_of}
+use Rattle.model.specs.Construction.{width, start_row, next_row, row_at, with_row, by_intervals, by_symbols, rows_of}
 use Rattle.model.specs.Construction.{cell_of}
 use Rattle.model.specs.Tables.{cells_from, symbol_cells, cell_numbers}
 use Rattle.codes.specs.declared.Scale.{Scale}

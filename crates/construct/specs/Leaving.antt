@@ -38,7 +38,9 @@ first_link count l s links =
 -- the edges from n on are linked
 pub record LinkedFrom (es : List Edge) (n : ℕ) (links : List ℕ) : Type 0 where
   pub long : length links ≡ link_count
-  pub firsts : (l s : ℕ) → l < most_locations → s < most_symbols → get_or links (first_place l s) 0 ≡ leaving_from es l s n
+  pub firsts :
+      (l s : ℕ) → l < most_locations → s < most_symbols
+      → get_or links (first_place l s) 0 ≡ leaving_from es l s n
   pub nexts :
       (k : ℕ) → n ≤ k → k < length es
       → get_or links (next_place k) 0 ≡ leaving_from es (edge_of es k).source (edge_of es k).symbol (suc k)

@@ -40,7 +40,8 @@ pub(crate) fn make_cell(
     pool: &mut [u32],
     p: Progress,
 ) -> Filled
-    requires can_leave { CanLeave (says_in head scale) (rule_in head edges.now) scale marks.old rows.old pool.old p row }
+    requires can_leave { CanLeave (says_in head scale) (rule_in head edges.now) scale marks.old
+        rows.old pool.old p row }
     requires linked { Linked (rule_in head edges.now) links.now }
     ensures { CellMade (says_in head scale) (rule_in head edges.now) row input
         (rows_in p.rows rows.old pool.old) p.room marks.old marks.new
@@ -83,7 +84,8 @@ pub(crate) fn fill_symbol(
     pool: &mut [u32],
     p: Progress,
 ) -> Progress
-    requires can_fill { CanFill (says_in head scale) (rule_in head edges.now) scale marks.old cells.old rows.old pool.old p row }
+    requires can_fill { CanFill (says_in head scale) (rule_in head edges.now) scale marks.old
+        cells.old rows.old pool.old p row }
     requires symbol_lt_symbols { symbol < head.symbols }
     requires linked { Linked (rule_in head edges.now) links.now }
     ensures { SymbolFilled (says_in head scale) (rule_in head edges.now) row symbol
@@ -125,7 +127,8 @@ pub(crate) fn fill_row(
     pool: &mut [u32],
     p: Progress,
 ) -> Progress
-    requires can_fill { CanFill (says_in head scale) (rule_in head edges.now) scale marks.old cells.old rows.old pool.old p row }
+    requires can_fill { CanFill (says_in head scale) (rule_in head edges.now) scale marks.old
+        cells.old rows.old pool.old p row }
     requires linked { Linked (rule_in head edges.now) links.now }
     ensures { RowFilled (says_in head scale) (rule_in head edges.now) row
         (rows_in p.rows rows.old pool.old) p.room marks.old marks.new
@@ -157,7 +160,8 @@ pub(crate) fn fill_rows(
     pool: &mut [u32],
     p: Progress,
 ) -> Progress
-    requires can_fill_all { CanFillAll (says_in head scale) (rule_in head edges.now) scale marks.old cells.old rows.old pool.old p }
+    requires can_fill_all { CanFillAll (says_in head scale) (rule_in head edges.now) scale marks.old
+        cells.old rows.old pool.old p }
     requires linked { Linked (rule_in head edges.now) links.now }
     ensures { AllFilled (says_in head scale) (rule_in head edges.now) p.room marks.old
         marks.new cells.old cells.new rows.new pool.new result }
