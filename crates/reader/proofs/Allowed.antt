@@ -84,7 +84,8 @@ numbers_wide last r (some s) = edges_numbers_length r r.edges s.parts.edges_ok
 
 -- a location's mask fits
 location_fits :
-    (l : ℕ) (xs : List ℕ) (x m : ℕ) → l ≤ most_locations → rising 0 l xs ≡ true → past_last xs ≤ x → x < l → m ≡ mask_of xs
+    (l : ℕ) (xs : List ℕ) (x m : ℕ) → l ≤ most_locations → rising 0 l xs ≡ true → past_last xs ≤ x → x < l
+    → m ≡ mask_of xs
     → (x < most_locations) × (m + 2 ^ x < 2 ^ 32)
 location_fits l xs x m a b c d e = (
   omega arith,
@@ -149,7 +150,8 @@ table_after last r count t t' kind n body s c is q (ceiling e a) = rw e ((rw e a
 table_after last r count t t' kind n body s c is q (edge l m a) =
     let wide = numbers_wide last r s ∙ ap (λ (k : ℕ). edge_width * k) (sym c) in
     let fits = sized_from kind n body l m a.length_ok in
-    let stored : t' ≡ table_with count (edge_from kind n body) t = rw (in_within plain_edge grouped_edge kind l m) at q in
+    let stored : t' ≡ table_with count (edge_from kind n body) t =
+    rw (in_within plain_edge grouped_edge kind l m) at q in
     rw (with_edge_lem r kind n body l) (stored ∙ table_more r t count wide is (edge_from kind n body) fits)
 
 -- cursor and table after a record

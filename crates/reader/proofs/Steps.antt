@@ -9,8 +9,9 @@ use lib.ListN.{length, take, drop, length-drop}
 use borrow.Author.Tests.{ltb-false, leb-false, eqb-true, ne_eqb, le-leb, lt-leb}
 use Rattle.model.specs.Basics.{pick, within, Refusal, refuse, ◌⨾◌}
 use Rattle.model.specs.Rules.{Edge, Rule, plain_edge, grouped_edge, most_edges, edge_ok, integer_reset}
-use Rattle.model.specs.Files.{record_head, number_bytes, sizes_body, fields_body, atom_body, most_plain_body, most_grouped_body}
-use Rattle.model.specs.Files.{body_length, kind_of, body_of, is_edge, plain_body, grouped_body, body_ok, cut_short, edge_from}
+use Rattle.model.specs.Files.{record_head, number_bytes, sizes_body, fields_body, atom_body, most_plain_body}
+use Rattle.model.specs.Files.{most_grouped_body, body_length, kind_of, body_of, is_edge, plain_body, grouped_body}
+use Rattle.model.specs.Files.{body_ok, cut_short, edge_from}
 use Rattle.model.specs.Files.{record_refusal, out_of_order, one_too_many, bad_sizes, out_of_range, not_pinned}
 use Rattle.model.proofs.Logic.{by_test, and_left, and_right, neither_right, within_least, within_most}
 use Rattle.model.proofs.FileRecords.{Allowed}
@@ -57,7 +58,10 @@ plain_sizes n h =
 grouped_sizes : (n : ℕ) → grouped_body n ≡ true → Sizes n
 grouped_sizes n h =
     let a = and_left (within fields_body most_grouped_body n) (eqb (n % number_bytes) 0) h in
-    record { least = within_least fields_body most_grouped_body n a; most = within_most fields_body most_grouped_body n a }
+    record {
+      least = within_least fields_body most_grouped_body n a;
+      most = within_most fields_body most_grouped_body n a;
+    }
 
 edge_sizes : (kind n : ℕ) → plain_edge ≤ kind → body_ok kind n ≡ true → Sizes n
 edge_sizes kind n a h =
@@ -119,11 +123,13 @@ module _ (p last : ℕ) (r : Rule) (kind n : ℕ) (body : List ℕ) where
     order_passes = none_refuses (out_of_order last r kind body) (one_too_many r kind) (bad_sizes kind body) fine
 
     later_refuses :
-        body_refusal p last r kind n body ≡ (refuse (out_of_range r kind n body) 6 p ⨾ refuse (not_pinned kind n body) 7 p)
+        body_refusal p last r kind n body
+        ≡ (refuse (out_of_range r kind n body) 6 p ⨾ refuse (not_pinned kind n body) 7 p)
     unfolding body_refusal
     later_refuses = rw (order_passes.0, order_passes.1, order_passes.2)
 
-    edge_known : is_edge kind ≡ true → body_refusal p last r kind n body ≡ numbered (fault_of r (edge_from kind n body)) p
+    edge_known :
+        is_edge kind ≡ true → body_refusal p last r kind n body ≡ numbered (fault_of r (edge_from kind n body)) p
     unfolding fault_of
     edge_known k =
         let low = within_least plain_edge grouped_edge kind k in
@@ -166,7 +172,7 @@ module _ (file : List ℕ) (c : Cursor) {x : Bool} (cut : x ≡ cut_short (rest_
       kind_known : kind ≡ kind_of (drop c.at file)
       kind_known = kind_is ∙ ap kind_of (rest_is file c.at)
 
-      pub stops_body : (r : Rule) → not y ≡ true → Stops file r c 2
+      pub stops_body : (r : Rule) → y ≡ false → Stops file r c 2
       unfolding record_refusal
       stops_body r h =
           let not_cut : cut_short (drop c.at file) ≡ false = sym cut_known ∙ uncut in
@@ -174,7 +180,7 @@ module _ (file : List ℕ) (c : Cursor) {x : Bool} (cut : x ≡ cut_short (rest_
           rw (← kind_known, ← length_known) (failed ok h) in
           record { refused_is = rw (not_cut, bad); refuses = λ z. omega arith }
 
-      pub whole_read : not y ≡ false → Whole file c size kind
+      pub whole_read : y ≡ true → Whole file c size kind
       whole_read good = record {
         long = omega (arith, rest_whole (rest_of file c.at) cut uncut);
         not_cut = sym cut_known ∙ uncut;

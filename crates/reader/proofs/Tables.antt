@@ -52,7 +52,8 @@ module _ (front t : List ℕ) (n : ℕ) (wide : length front ≡ edge_width * n)
 -- the table of a rule, and with one edge more
 module _ (r : Rule) (t : List ℕ) (n : ℕ) where
   module _ (wide : length (edges_numbers r.edges) ≡ edge_width * n) (is : t ≡ edge_table (length t) r) where
-    pub next_zero : edge_width * n + edge_width ≤ length t → take edge_width (drop (edge_width * n) t) ≡ zeros edge_width
+    pub next_zero :
+        edge_width * n + edge_width ≤ length t → take edge_width (drop (edge_width * n) t) ≡ zeros edge_width
     unfolding edge_table
     next_zero h = edge_zero (edges_numbers r.edges) t n wide is h
 

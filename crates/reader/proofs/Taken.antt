@@ -11,7 +11,8 @@ use borrow.Rule.Slice.PartMut.{put_mid}
 use Rattle.model.specs.declared.Head.{Head}
 use Rattle.model.specs.Basics.{zeros, mask_of}
 use Rattle.model.specs.Rules.{Edge, Rule, plain_edge, grouped_edge}
-use Rattle.model.specs.Files.{number_at, record_head, is_edge, edge_from, with_sizes, with_initial, with_final, with_edge}
+use Rattle.model.specs.Files.{number_at, record_head, is_edge, edge_from, with_sizes, with_initial, with_final}
+use Rattle.model.specs.Files.{with_edge}
 use Rattle.model.specs.Files.{with_record}
 use Rattle.model.specs.Layout.{edge_width, head_of, edge_numbers, edge_in}
 use Rattle.model.proofs.Logic.{in_within}

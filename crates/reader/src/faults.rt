@@ -2,8 +2,8 @@
 // the table.
 ghost use Rattle.std.specs.Prelude.{◌≡◌, false, ℕ, ◌≤◌, length};
 ghost use Rattle.model.specs.Rules.{Rule};
-ghost use Rattle.model.specs.Files.{is_edge, plain_body, grouped_body, body_ok, cut_short, out_of_order, one_too_many, bad_sizes};
-ghost use Rattle.model.specs.Files.{out_of_range};
+ghost use Rattle.model.specs.Files.{is_edge, plain_body, grouped_body, body_ok, cut_short, out_of_order};
+ghost use Rattle.model.specs.Files.{one_too_many, bad_sizes, out_of_range};
 ghost use Rattle.model.specs.Layout.{head_of};
 ghost use Rattle.model.specs.Files.{number_bytes, sizes_body};
 ghost use Rattle.reader.specs.State.{Holds, order_fault, Body};
@@ -123,7 +123,8 @@ pub(crate) fn bad_sizes(kind: usize, body: &[u8]) -> bool
 // 6, for all kinds but an edge: location or ceiling outside its range.
 pub(crate) fn out_of_range(head: Head, kind: usize, body: &[u8]) -> bool
     requires { number_bytes ≤ length body.now }
-    ensures { (r : Rule) → head ≡ head_of r → (is_edge kind ≡ false) → (n : ℕ) → result ≡ out_of_range r kind n body.now }
+    ensures { (r : Rule) → head ≡ head_of r → (is_edge kind ≡ false)
+        → (n : ℕ) → result ≡ out_of_range r kind n body.now }
 {
     match kind {
         2 | 3 => wide32(head.locations) <= number_at(body, 0),

@@ -1,0 +1,12 @@
+-- `reader::Cursor::with_final` meets its contract.
+use mathlib.Core.Path.{refl}
+use Rattle.reader.proofs.Taken.{final_held}
+use Rattle.reader.proofs.Cursor.with_final.Goals as goal
+
+pub returns : goal.returns
+returns c =
+    let a = c.args in (
+      record { at_is = refl; last_is = refl },
+      λ r h. final_held a.self r h a.location _
+          c.mask_of.ensures,
+    )
