@@ -1,17 +1,18 @@
 -- A guard's answer, member by member: those passed hold, so the answer is what those to come give. One invariant for
 -- the atoms of kind 5 and the outermost level of kind 6.
 use mathlib.Core.Path.{◌≡◌, refl, sym, ◌∙◌, ap}
-use mathlib.Core.Bool.{Bool, true, false, not}
+use mathlib.Core.Bool.{Bool, true, false}
 use mathlib.Core.List.{List}
 use Prim.Native.Nat.{ℕ, ◌+◌, ◌-◌, ◌≤◌, ◌<◌}
 use native.Mathlib.Omega.{arith}
 use native.Mathlib.Numerals.{add-one}
 use lib.ListN.{length, get_or, take, drop, drop_of_length-le, length-drop}
 use lib.Seq.{take_all}
-use borrow.Author.Tests.{eq-eqb, ne_eqb, not-true, not-false}
+use borrow.Author.Tests.{eq-eqb, ne_eqb}
 use Rattle.model.specs.declared.Guard.TheVariants.{Holds, Fails}
 use Rattle.model.specs.Basics.{pick}
-use Rattle.model.specs.Texts.{Atom, atom_at, Members, end, plain_atoms, flat, first, levels_past, members_in, opens_group}
+use Rattle.model.specs.Texts.{Atom, atom_at, Members, end, plain_atoms, flat, first, levels_past, members_in}
+use Rattle.model.specs.Texts.{opens_group}
 use Rattle.model.specs.Rules.{Edge, plain_edge, atom_width, guard_of}
 use Rattle.model.specs.Guards.{first_failing}
 use Rattle.texts.proofs.Found.{plain_none, plain_front}
@@ -47,14 +48,14 @@ module _
     (inv : Holding spell test text position at)
   where
     module _ {next : ℕ} {met : Bool} (member : Member spell test text at next met) where
-      pub holding_next : not met ≡ false → Holding spell test text (position + 1) next
+      pub holding_next : met ≡ true → Holding spell test text (position + 1) next
       holding_next y = record {
         few = omega (arith, inv.few, member.forward);
-        answer_is = sym (rw (not-false met y) at (member.answers position)) ∙ inv.answer_is;
+        answer_is = sym (rw y at (member.answers position)) ∙ inv.answer_is;
       }
 
-      pub failing : not met ≡ true → Fails position ≡ first_failing 0 test (spell text)
-      failing y = sym (rw (not-true met y) at (member.answers position)) ∙ inv.answer_is
+      pub failing : met ≡ false → Fails position ≡ first_failing 0 test (spell text)
+      failing y = sym (rw y at (member.answers position)) ∙ inv.answer_is
 
     -- no member is left
     pub holding_end : spell (drop at text) ≡ end → Holds ≡ first_failing 0 test (spell text)

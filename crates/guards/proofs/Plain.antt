@@ -1,7 +1,7 @@
 -- An edge of kind 5 that the table holds whole, its atoms by their places: those passed hold, so the answer is what
 -- those to come give.
 use mathlib.Core.Path.{◌≡◌, refl, sym, ◌∙◌, ap}
-use mathlib.Core.Bool.{Bool, true, false, not}
+use mathlib.Core.Bool.{Bool, true, false}
 use mathlib.Core.List.{List}
 use Prim.Native.Nat.{ℕ, ◌+◌, ◌-◌, ◌*◌, ◌≤◌, ◌<◌, min}
 use native.Mathlib.Omega.{arith}
@@ -21,7 +21,8 @@ use Rattle.guards.proofs.Answers.{plain_member, plain_over, guard_plain}
 
 -- three numbers that are alike are one atom
 atom_by :
-    (t u : List ℕ) (a b : ℕ) → ((k : ℕ) → k < atom_width → get_or t (a + k) 0 ≡ get_or u (b + k) 0) → atom_at a t ≡ atom_at b u
+    (t u : List ℕ) (a b : ℕ) → ((k : ℕ) → k < atom_width → get_or t (a + k) 0 ≡ get_or u (b + k) 0)
+    → atom_at a t ≡ atom_at b u
 atom_by t u a b same =
     let x : a + 0 ≡ a = omega arith in
     let y : b + 0 ≡ b = omega arith in
@@ -57,7 +58,8 @@ module _ {test : Atom → Bool} {t : List ℕ} {e at left : ℕ} (inv : Answerin
       rw (eq-eqb (get_or (drop (edge_width * e) t) 0 0) plain_edge inv.whole.kind_is)
       (ap (take (atom_width * count_at e t)) (drop-drop edge_fields (edge_width * e) t))
 
-  text_length_lem : length (edge_at e t).text ≡ min (atom_width * count_at e t) (length t - (edge_width * e + edge_fields))
+  text_length_lem :
+      length (edge_at e t).text ≡ min (atom_width * count_at e t) (length t - (edge_width * e + edge_fields))
   text_length_lem = ap length text_is ∙ simp (length-take, length-drop)
 
   spelt :
@@ -96,13 +98,14 @@ module _ {test : Atom → Bool} {t : List ℕ} {e at left : ℕ} (inv : Answerin
             (atom_width * (count_at e t - (left - 1))) r
         member =
             let j : ℕ = count_at e t - left in
-            let next : atom_width * j + atom_width ≡ atom_width * (count_at e t - (left - 1)) = omega (arith, next_left) in
+            let next : atom_width * j + atom_width ≡ atom_width * (count_at e t - (left - 1)) =
+            omega (arith, next_left) in
             rw (← next)
             (plain_member (edge_at e t).text (atom_width * j) test r
             (omega (arith, text_length_lem, inv.room, inv.place_is))
             (here ∙ ap test (atom_by t (edge_at e t).text at (atom_width * j) number_is)))
 
-        pub answering_next : not r ≡ false → Answering test t e (at + atom_width) (left - 1)
+        pub answering_next : r ≡ true → Answering test t e (at + atom_width) (left - 1)
         answering_next y = record {
           whole = inv.whole;
           some_left = omega (arith, inv.some_left);
@@ -111,7 +114,7 @@ module _ {test : Atom → Bool} {t : List ℕ} {e at left : ℕ} (inv : Answerin
           holding = rw next_left at (holding_next inv.holding member y);
         }
 
-        pub answering_fails : not r ≡ true → false ≡ is_met (first_failing 0 test (guard_of (edge_at e t)))
+        pub answering_fails : r ≡ false → false ≡ is_met (first_failing 0 test (guard_of (edge_at e t)))
         answering_fails y = spelt (failing inv.holding member y) refl
 
   pub answering_end : left ≤ 0 → true ≡ is_met (first_failing 0 test (guard_of (edge_at e t)))
