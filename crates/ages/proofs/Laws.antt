@@ -1,14 +1,14 @@
 -- Four ages by their places, and as clocks read them; ages that do not reach the cap grow as the definitions say; an
 -- edge is tested by its source and symbol, then by its guard.
 use mathlib.Core.Path.{◌≡◌, refl, sym, ◌∙◌, ap}
-use mathlib.Core.Bool.{Bool, true, false, ◌&&◌, not}
+use mathlib.Core.Bool.{Bool, true, false, ◌&&◌}
 use mathlib.Core.List.{List, [], ◌∷◌, map}
 use Prim.Native.Nat.{ℕ, zero, suc, ◌+◌, ◌≤◌, ◌<◌}
 use native.Mathlib.Omega.{arith}
 use lib.Dec.{eqb}
 use lib.ListN.{length, get_or, drop, take, get_or-eq_default, drop_of_length-le, length-take}
 use lib.Seq.{drop-nil, get_or-take}
-use borrow.Author.Tests.{not-true, le-leb, lt-leb, eq-eqb, ne_eqb}
+use borrow.Author.Tests.{le-leb, lt-leb, eq-eqb, ne_eqb}
 use Rattle.model.specs.declared.Age.{Age}
 use Rattle.model.specs.Basics.{same, pick, lesser, bit, is_in}
 use Rattle.model.specs.Rules.{Edge, guard_of, most_locations, most_clocks}
@@ -69,7 +69,8 @@ zeroed_four mask a b c d (p ∷ q ∷ s ∷ t ∷ u ∷ xs) n e f g h = absurd (
 -- four ages, as clocks read them
 pub read_four :
     (xs : List Age) → length xs ≡ most_clocks
-    → (get_or xs 0 no_age).0 ∷ (get_or xs 1 no_age).0 ∷ (get_or xs 2 no_age).0 ∷ (get_or xs 3 no_age).0 ∷ [] ≡ numbers_of xs
+    → (get_or xs 0 no_age).0 ∷ (get_or xs 1 no_age).0 ∷ (get_or xs 2 no_age).0 ∷ (get_or xs 3 no_age).0 ∷ []
+    ≡ numbers_of xs
 read_four (p ∷ q ∷ s ∷ t ∷ []) n = refl
 read_four [] n = absurd (omega arith)
 read_four (p ∷ []) n = absurd (omega arith)
@@ -105,7 +106,8 @@ past_four k clock ages n h =
     (get_or-eq_default (ages_of k ages) 0
     (rw (length-take k (numbers_of ages.of)) (omega (arith, numbers_length ages.of))))
 
-pub in_clocks : (k clock : ℕ) (ages : Ages) → clock < k → (get_or ages.of clock no_age).0 ≡ get_or (ages_of k ages) clock 0
+pub in_clocks :
+    (k clock : ℕ) (ages : Ages) → clock < k → (get_or ages.of clock no_age).0 ≡ get_or (ages_of k ages) clock 0
 in_clocks k clock ages h = sym (get_or-take k (numbers_of ages.of) clock 0 h ∙ numbers_at ages.of clock)
 
 -- the locations of a set are its bits, as far as a rule may have locations
@@ -132,8 +134,8 @@ module _ (d k symbol : ℕ) (from : Configuration) (e : Edge) (r : Bool)
   pub not_leaving : r ≡ false → r ≡ takes d k symbol from e
   not_leaving f = f ∙ rw (sym t ∙ f)
 
-  pub false_not_leaving : not r ≡ true → false ≡ takes d k symbol from e
-  false_not_leaving f = let no : r ≡ false = not-true r f in sym no ∙ not_leaving no
+  pub false_not_leaving : r ≡ false → false ≡ takes d k symbol from e
+  false_not_leaving f = sym f ∙ not_leaving f
 
   pub guard_decides :
       (g : Bool) (by : List ℕ) → r ≡ true → by ≡ ages_of k from.ages → g ≡ is_met (guard d by (guard_of e))
@@ -178,7 +180,8 @@ module _ {xs ys : List ℕ} {k : ℕ} (inv : SameRest xs ys k) where
 
   pub same_differs : (a b : ℕ) → a ≡ get_or xs k 0 → b ≡ get_or ys k 0 → (a ≡ b → ⊥) → false ≡ same xs ys
   same_differs a b p q n =
-      let t : eqb (get_or xs k 0) (get_or ys k 0) ≡ false = ne_eqb (get_or xs k 0) (get_or ys k 0) (λ e. n (p ∙ (e ∙ sym q))) in
+      let t : eqb (get_or xs k 0) (get_or ys k 0) ≡ false =
+      ne_eqb (get_or xs k 0) (get_or ys k 0) (λ e. n (p ∙ (e ∙ sym q))) in
       (rw t at (sym (same_step xs ys k inv.lengths_equal))) ∙ inv.rest_is
 
   pub same_all : length xs ≤ k → true ≡ same xs ys
