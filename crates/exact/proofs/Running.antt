@@ -118,6 +118,12 @@ module _ (head : Head) (edges : List ℕ) (d : ℕ) (symbols stamps : List ℕ) 
     pub delay_is : delay ≡ get_or stamps i 0 - last
     pub small : get_or stamps i 0 < 2 ^ 32
 
+  pub next_known :
+      {from last i to delay : ℕ} → i < length symbols → to ≡ size - from → delay ≡ get_or stamps i 0 - last
+      → get_or stamps i 0 < 2 ^ 32
+      → Next from last i to delay
+  next_known h t e b = record { there = h; to_is = t; delay_is = e; small = b }
+
   module _ {n from last i len : ℕ} {s : List ℕ} {to delay : ℕ} (inv : Running n from last i len s)
       (next : Next from last i to delay) where
     abbrev now_there : List Config
@@ -171,7 +177,8 @@ module _ (head : Head) (edges : List ℕ) (d : ℕ) (symbols stamps : List ℕ) 
         sym (event_room rule d room i last now_there (event_at symbols stamps i) (left (i + 1)) there_most)
         ∙ (ap (room_refusal_from rule d room i last now_there) (sym next_event) ∙ inv.refusal_is)
 
-    next_accepts : accepts_some rule d (left (i + 1)) (get_or stamps i 0) after ≡ accepts rule d (events_of symbols stamps)
+    next_accepts :
+        accepts_some rule d (left (i + 1)) (get_or stamps i 0) after ≡ accepts rule d (events_of symbols stamps)
     next_accepts =
         event_some rule d (event_at symbols stamps i) (left (i + 1)) last now_there
         ∙ (ap (λ (vs : List Event). accepts_some rule d vs last now_there) (sym next_event) ∙ inv.accepts_is)

@@ -70,7 +70,8 @@ module _ (k mask room : ℕ) where
 
       -- this one written, the others are left
       then_rest :
-          (configs_at k n 0 bank ++ (config_of k c ∷ [])) ++ starts_at k (bits_from (most_locations - (l + 1)) (l + 1) mask)
+          (configs_at k n 0 bank ++ (config_of k c ∷ []))
+          ++ starts_at k (bits_from (most_locations - (l + 1)) (l + 1) mask)
           ≡ starts_over k mask
       then_rest =
           let set : bit l mask ≡ true = sym test ∙ yes in
