@@ -23,7 +23,7 @@ use Rattle.model.specs.JointStates.{JointReached, begin, wait, take}
 use Rattle.model.specs.Claims.{HalfSecondsSuffice, JointWalkIs}
 use Rattle.model.proofs.Logic.{by_test, and_left, and_right, and_both, within_least, within_most, in_within}
 use Rattle.model.proofs.Words.{Ordered, Below, events_keep, events_fine}
-use Rattle.model.proofs.Seconds.{half_rises, half_zero, interval_half, cut}
+use Rattle.model.proofs.Seconds.{half_rises, half_zero, cut}
 use Rattle.model.proofs.Alike.{half_two, interval_two, length_halves}
 use Rattle.model.proofs.AlikeTables.{Alike, none, more, table_alike}
 

@@ -1,14 +1,13 @@
 -- Tables with the same parts, whatever stands behind them: what rows in shape read is there, so they accept the same
 -- words; and tables laid one after another are found again part by part.
 use mathlib.Core.Path.{◌≡◌, refl, sym, ◌∙◌, ap}
-use mathlib.Core.Bool.{true, ◌&&◌}
+use mathlib.Core.Bool.{true}
 use mathlib.Core.List.{List, [], ◌∷◌, ◌++◌, append_assoc}
 use Prim.Native.Nat.{ℕ, zero, suc, ◌+◌, ◌-◌, ◌*◌, ◌≤◌, ◌<◌}
 use native.Mathlib.Omega.{arith}
-use lib.Dec.{eqb, leb}
+use lib.Dec.{eqb}
 use lib.ListN.{length, get_or, take, drop}
 use lib.Seq.{get_or-take, length-take-le, take_at, drop_at}
-use borrow.Author.Tests.{leb-true}
 use Rattle.model.specs.declared.Built.{Built}
 use Rattle.model.specs.declared.Follower.{Follower}
 use Rattle.model.specs.Words.{Event}

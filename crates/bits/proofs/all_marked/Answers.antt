@@ -1,6 +1,5 @@
 -- `bits::all_marked` meets its contract: what is asked of the codes from j on is asked of the row.
 use mathlib.Core.Path.{refl, sym, ◌∙◌}
-use Prim.Native.Nat.{◌-◌}
 use borrow.Author.Rules.{rules}
 use Rattle.bits.proofs.Loops.{none_there, one_there, rest_end}
 use Rattle.bits.proofs.all_marked.Goals as goal

@@ -1,6 +1,5 @@
 -- `bits::lay_codes` meets its contract: the codes of the first k numbers stand in the table.
 use mathlib.Core.Path.{refl, ◌∙◌}
-use Prim.Native.Nat.{◌-◌}
 use native.Mathlib.Omega.{arith}
 use lib.ListN.{length}
 use borrow.Author.Rules.{rules}

@@ -1,6 +1,6 @@
 -- `edges::grouped_largest` meets its contract: what was found so far, with the atoms to come, is what there is in all.
 use mathlib.Core.Path.{◌∙◌}
-use Prim.Native.Nat.{ℕ, ◌-◌}
+use Prim.Native.Nat.{ℕ}
 use Rattle.texts.proofs.AtomLoop.{left_start, left_less}
 use Rattle.edges.proofs.Laws.{largest_from, largest_next, largest_end, larger_less, larger_least}
 use Rattle.edges.proofs.grouped_largest.Goals as goal

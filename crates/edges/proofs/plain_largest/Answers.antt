@@ -1,6 +1,6 @@
 -- `edges::plain_largest` meets its contract: what was found so far, with the atoms to come, is what there is in all.
 use mathlib.Core.Path.{◌∙◌}
-use Prim.Native.Nat.{ℕ, ◌-◌}
+use Prim.Native.Nat.{ℕ}
 use Rattle.texts.proofs.PlainLoop.{plain_start}
 use Rattle.edges.proofs.Laws.{largest_from, plain_next, plain_last, larger_less, larger_least}
 use Rattle.edges.proofs.plain_largest.Goals as goal

@@ -1,6 +1,5 @@
 -- `edges::small_power` meets its contract: after k turns the product is the k-th power, which fits.
 use mathlib.Core.Path.{◌≡◌, sym}
-use Prim.Native.Nat.{◌-◌}
 use native.Mathlib.Omega.{arith}
 use native.Mathlib.Nat.{pow-zero}
 use borrow.Author.Rules.{rules}

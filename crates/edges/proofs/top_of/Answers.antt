@@ -1,6 +1,5 @@
 -- `edges::top_of` meets its contract: each edge's largest constant, one after another.
 use mathlib.Core.Path.{◌∙◌, ap}
-use Prim.Native.Nat.{◌-◌}
 use borrow.Author.Rules.{rules}
 use Rattle.model.specs.Layout.{edge_at}
 use Rattle.edges.proofs.Laws.{edges_start, edges_next, edges_end, cm_found}

@@ -1,5 +1,4 @@
 -- `lists::events_fit` meets its contract: what is left fits from the last stamp on exactly if all events fit.
-use Prim.Native.Nat.{◌-◌}
 use borrow.Author.Rules.{rules}
 use Rattle.lists.proofs.Fitting.{fit_start, fit_symbol, fit_falls, fit_late, fit_turn, fit_end}
 use Rattle.lists.proofs.events_fit.Goals as goal

@@ -1,6 +1,5 @@
 -- `lists::rest_zero` meets its contract: the places passed were zero, so those left decide.
 use mathlib.Core.Path.{refl}
-use Prim.Native.Nat.{◌-◌}
 use borrow.Author.Rules.{rules}
 use Rattle.lists.proofs.Fitting.{zeroed_start, zeroed_symbol, zeroed_stamp, zeroed_turn, zeroed_end}
 use Rattle.lists.proofs.rest_zero.Goals as goal

@@ -1,6 +1,5 @@
 -- `texts::groups_ok` meets its contract: the numbers passed keep the rules, so what is left decides.
 use mathlib.Core.Path.{sym, ◌∙◌}
-use Prim.Native.Nat.{◌-◌}
 use borrow.Author.Rules.{rules}
 use Rattle.texts.proofs.GroupRules.{ruled_start, no_atoms, cut_atom, ruled_atom, no_level, ruled_close}
 use Rattle.texts.proofs.GroupRules.{wrong_mark, too_deep, no_groups, ruled_open, ruled_end}

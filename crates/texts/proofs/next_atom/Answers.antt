@@ -1,5 +1,4 @@
 -- `texts::next_atom` meets its contract: from here on there are the same atoms as from the place asked for.
-use Prim.Native.Nat.{◌-◌}
 use Rattle.texts.proofs.Found.{passed_start, passed_mark, passed_atom}
 use Rattle.texts.proofs.Found.{passed_end}
 use Rattle.texts.proofs.next_atom.Goals as goal

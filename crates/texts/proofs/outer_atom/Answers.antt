@@ -1,6 +1,5 @@
 -- `texts::outer_atom` meets its contract: the outermost level goes on behind as many levels as are open.
 use mathlib.Core.Path.{sym, ◌∙◌}
-use Prim.Native.Nat.{◌-◌}
 use Rattle.texts.proofs.Outermost.{deep_start, outer_found, deep_atom, deep_open, outer_closed, deep_close}
 use Rattle.texts.proofs.Outermost.{deep_end}
 use Rattle.texts.proofs.outer_atom.Goals as goal

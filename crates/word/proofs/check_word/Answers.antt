@@ -1,8 +1,7 @@
 -- `word::check_word` meets its contract: 30, then 31, then event by event.
 use mathlib.Core.Path.{◌∙◌}
-use mathlib.Core.Logic.{⊎_elim}
 use native.Mathlib.Omega.{arith}
-use borrow.Author.Tests.{ltb-true, ltb-false}
+use borrow.Author.Tests.{ltb-false}
 use Rattle.model.proofs.Flags.{is_false, is_true}
 use Rattle.word.proofs.Laws.{grain_refused, counts_differ, too_many, events_checked}
 use borrow.Author.Rules.{rules}

@@ -1,5 +1,4 @@
 -- `word::good_events` meets its contract: what is to be found from event i on is what is to be found in all.
-use Prim.Native.Nat.{◌-◌}
 use borrow.Author.Rules.{rules}
 use Rattle.word.proofs.Laws.{passed_none, passed_next, stops_end, stops_symbol, stops_stamp}
 use Rattle.word.proofs.good_events.Goals as goal
