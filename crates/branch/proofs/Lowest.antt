@@ -1,13 +1,12 @@
 -- What held a rule back: edges that leave no initial location on the first symbol are passed, so the answer is what the
 -- edges still to come give; and what the clocks read at the first event.
 use mathlib.Core.Path.{◌≡◌, refl, sym, ◌∙◌, ap}
-use mathlib.Core.Bool.{Bool, true, false, ◌&&◌, not}
+use mathlib.Core.Bool.{Bool, true, false, ◌&&◌}
 use mathlib.Core.List.{List, [], ◌∷◌}
 use Prim.Native.Nat.{ℕ, ◌+◌, ◌-◌, ◌*◌, ◌^◌, ◌≤◌, ◌<◌}
 use native.Mathlib.Omega.{arith}
 use lib.Dec.{eqb}
 use lib.ListN.{length, get_or, take, drop}
-use borrow.Author.Tests.{not-true, not-false}
 use Rattle.model.specs.declared.Head.{Head}
 use Rattle.model.specs.declared.Guard.{Guard}
 use Rattle.model.specs.declared.Guard.TheVariants.{Holds}
@@ -31,16 +30,16 @@ abbrev leaves_some : List ℕ → ℕ → Edge → Bool
 leaves_some initial s e = is_in e.source initial && eqb e.symbol s
 
 pub no_location :
-    (initial : List ℕ) (s n : ℕ) (e : Edge) (r : Bool) → n ≡ e.source → r ≡ is_in n initial → not r ≡ true
+    (initial : List ℕ) (s n : ℕ) (e : Edge) (r : Bool) → n ≡ e.source → r ≡ is_in n initial → r ≡ false
     → false ≡ leaves_some initial s e
-no_location initial s n e r h i f = rw (← h, sym i ∙ not-true r f)
+no_location initial s n e r h i f = rw (← h, sym i ∙ f)
 
 pub symbol_decides :
-    (initial : List ℕ) (s n m m' : ℕ) (e : Edge) (r : Bool) → n ≡ e.source → r ≡ is_in n initial → not r ≡ false
+    (initial : List ℕ) (s n m m' : ℕ) (e : Edge) (r : Bool) → n ≡ e.source → r ≡ is_in n initial → r ≡ true
     → m ≡ e.symbol
     → m' ≡ s
     → eqb m m' ≡ leaves_some initial s e
-symbol_decides initial s n m m' e r h i f a b = rw (← h, sym i ∙ not-false r f, a, b)
+symbol_decides initial s n m m' e r h i f a b = rw (← h, sym i ∙ f, a, b)
 
 -- The edges from number e on are left, over what the clocks read.
 module _ (starts symbol count d : ℕ) (edges by : List ℕ) where
