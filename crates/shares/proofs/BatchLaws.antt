@@ -1,7 +1,7 @@
 -- The tables of a batch, one after another: what a table that passes leaves behind it, and the refusal of the rest.
 use mathlib.Core.Path.{◌≡◌, refl, sym, ◌∙◌, ap}
 use mathlib.Core.Bool.{true, false}
-use mathlib.Core.List.{List, [], ◌∷◌, map}
+use mathlib.Core.List.{List, [], ◌∷◌}
 use Prim.Native.Nat.{ℕ, zero, suc, ◌+◌, ◌-◌, ◌*◌, ◌^◌, ◌≤◌, ◌<◌}
 use native.Mathlib.Omega.{arith}
 use native.Mathlib.Numerals.{add-one}
@@ -11,12 +11,11 @@ use mir.Val.{Val, Fits}
 use denote.Laws.{Is}
 use denote.Array.{each}
 use denote.Shadow.{shadow}
-use denote.Struct.Field.{Field}
-use denote.Struct.Declared.{row, field}
+use denote.Struct.Declared.{row}
 use Rattle.model.specs.contracts.Built as built
 use Rattle.model.specs.contracts.Batch.{the_type}
 use lib.Dec.{ltb}
-use lib.ListN.{length, get_or, take, drop, length-drop, length-map, drop_of_length-le}
+use lib.ListN.{length, get_or, take, drop, length-drop, drop_of_length-le}
 use lib.Seq.{drop-cons, drop-drop, get_or-take, length-take-le}
 use borrow.Author.Tests.{ltb-false, le-ltb, ne_eqb}
 use Rattle.model.specs.declared.Built.{Built}
@@ -37,15 +36,12 @@ use Rattle.shares.proofs.ShapeLaws.{shape_celled, shape_rowed, shape_pool}
 
 -- what owning a batch tells: it has sixteen places
 pub sixteen : (x : Batch) (vs : List Val) → Is (row the_type) x vs → length x.tables ≡ most_tables
-sixteen x vs is = sym (length-map x.tables _) ∙ is.1.1.1.0.1.0.1
+sixteen x vs is = is.1.1.1.0.1.0.1
 
 -- and every total is a u32
-abbrev table : Field
-table = field built.the_type
-
 each_total :
     (bs : List Built) (us : List Val) (i : ℕ)
-    → shadow (each table.row.Denot table.row.own_val (map table.into bs) us)
+    → shadow (each (built.the_row).Denot (built.the_row).own_val bs us)
     → (get_or bs i no_built).total < 2 ^ 32
 each_total [] us i p = omega arith
 each_total (b ∷ bs) [] i p = absurd p
@@ -219,7 +215,9 @@ module _ {bs : List Built} {count : ℕ} {cells rows pool : List ℕ} {m h : ℕ
         ≡ answer_of (tables_refusal 1 (batch_of x cells rows pool) m h) 0
     found_some x {r} eb ec e n =
         let f : r ≡ fault_of t m h = e ∙ found_is in
-        let refused : tables_refusal 1 (laid_out (take count bs) cells rows pool) m h ≡ refusal (fault_of t m h) (suc i) =
+        let refused :
+        tables_refusal 1 (laid_out (take count bs) cells rows pool) m h
+        ≡ refusal (fault_of t m h) (suc i) =
         sym here ∙ refused_here t m h (suc i) left (λ z. n (f ∙ z)) in
         rw (eb, ← ec, refused, ← f, ne_eqb r 0 n, add-one)
 

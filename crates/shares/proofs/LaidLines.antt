@@ -17,7 +17,8 @@ use Rattle.model.specs.Words.{Event}
 use Rattle.model.specs.Tables.{Tables, tables, row_width, row_verdict, no_built}
 use Rattle.model.specs.Walks.{cell_need, verdict, start_at, step, step_all, table_accepts}
 use Rattle.model.specs.Lists.{most_listed_events, most_seconds, list_grain}
-use Rattle.model.specs.Shares.{most_tables, most_words, out_of_all, line_width, line_of, lines_of, table_says, laid_out, batch_of}
+use Rattle.model.specs.Shares.{most_tables, most_words, out_of_all, line_width, line_of, lines_of}
+use Rattle.model.specs.Shares.{table_says, laid_out, batch_of}
 use Rattle.model.specs.Shares.{line_by, tables_refusal}
 use Rattle.numbers.proofs.Parts.{part_rest}
 use Rattle.shares.specs.declared.Part.{Part}
@@ -150,7 +151,8 @@ module _ {bs : List Built} {count : ℕ} {cells rows : List ℕ} {m h : ℕ} {li
           let next :
           put_mid (line_width * i) (line_width * i + line_width - line_width * i) lines mid
           ≡ filled (line_width * most_tables) (k.done ++ mid) =
-          ap (λ (xs : List ℕ). put_mid (line_width * i) (line_width * i + line_width - line_width * i) xs mid) k.lines_are
+          ap (λ (xs : List ℕ). put_mid (line_width * i) (line_width * i + line_width - line_width * i) xs mid)
+          k.lines_are
           ∙ part_laid (line_width * most_tables) (line_width * i) line_width k.done k.done_long place_fits mid wide in
           record {
             pool = k.pool;

@@ -14,7 +14,8 @@ use Rattle.model.specs.Basics.{zeros, filled}
 use Rattle.model.specs.Words.{Event}
 use Rattle.model.specs.Tables.{Tables}
 use Rattle.model.specs.Lists.{most_listed_events, most_seconds}
-use Rattle.model.specs.Shares.{most_words, out_of, accepted_of, out_of_all, accepted_of_all, share_width, share, line_width}
+use Rattle.model.specs.Shares.{most_words, out_of, accepted_of, out_of_all, accepted_of_all}
+use Rattle.model.specs.Shares.{share_width, share, line_width}
 use Rattle.model.specs.Shares.{shares_from, line_by, table_says, words_for}
 use Rattle.model.proofs.Logic.{less, least, two, zeros_at}
 use Rattle.model.proofs.ShareCounts.{adds_up_0, adds_up, words_add_up_0, words_add_up, some_words}

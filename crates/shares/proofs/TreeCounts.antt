@@ -242,9 +242,6 @@ module _ (t : Tables) (stamps row reset : ℕ) where
   -- the end of a walk
   module _ {counts₀ counts : List ℕ} {here : ℕ} (from x : ℕ) (end : stamps ≤ x)
       (k : Kept counts₀ 0 (below t stamps row reset from) counts here (below t stamps row reset x)) where
-    pub end_most : get_or counts 0 0 + here ≤ most_words
-    end_most = omega (arith, room_now k 0 (omega (arith, k.some, k.same_length)))
-
     pub end_long : length (settled counts here) ≡ length counts₀
     end_long = length-set counts 0 (get_or counts 0 0 + here) ∙ k.same_length
 

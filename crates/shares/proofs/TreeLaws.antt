@@ -7,6 +7,7 @@ use Prim.Native.Nat.{ℕ, zero, suc, ◌+◌, ◌-◌, ◌/◌, ◌%◌, ◌≤�
 use native.Mathlib.Numerals.{add-one}
 use native.Mathlib.Omega.{arith}
 use lib.Dec.{eqb}
+use Rattle.model.specs.declared.Follower.{Follower}
 use Rattle.model.specs.declared.Stamp.{Stamp}
 use Rattle.model.specs.Basics.{pick, one_if}
 use Rattle.model.specs.Words.{Event}
@@ -26,7 +27,9 @@ walk_same :
 unfolding step_all step
 walk_same t row reset last last' count count' [] = refl
 walk_same t row reset last last' count count' (v ∷ w) =
-    walk_same t _ _ (stamp v.stamp) (stamp v.stamp) (suc count) (suc count') w
+    let next : Follower =
+    step t (record { grain = list_grain; row = row; reset = reset; last = last; count = count }) v in
+    walk_same t next.row next.reset (stamp v.stamp) (stamp v.stamp) (suc count) (suc count') w
 
 -- the cell that an event takes at a node, and the reset after it
 abbrev pub taken : Tables → ℕ → ℕ → ℕ → ℕ → ℕ

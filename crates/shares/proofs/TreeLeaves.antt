@@ -48,7 +48,8 @@ module _ (t : Tables) (stamps row reset from : ℕ) where
   leaves_roomy z d = record { some = omega arith; room = at_place }
     where
       at_place :
-          (n : ℕ) → n < length empty → get_or empty n 0 + tree_count t row reset (suc n) (stamps - from) from ≤ most_words
+          (n : ℕ) → n < length empty
+          → get_or empty n 0 + tree_count t row reset (suc n) (stamps - from) from ≤ most_words
       at_place zero h = omega (arith, leaves_most z d)
       at_place (suc n) h = absurd (omega arith)
 
@@ -81,7 +82,8 @@ raised_tallied t stamps row reset x counts r two e =
         → get_or (settled (tail counts) r) n 0
         ≡ get_or (tail counts) n 0 + tree_count t row reset (suc n) (stamps - x) x
     at_place zero h =
-        get_or-set_same (tail counts) 0 (get_or (tail counts) 0 0 + r) 0 h ∙ ap (λ (z : ℕ). get_or (tail counts) 0 0 + z) e
+        get_or-set_same (tail counts) 0 (get_or (tail counts) 0 0 + r) 0 h
+        ∙ ap (λ (z : ℕ). get_or (tail counts) 0 0 + z) e
     at_place (suc n) h = absurd (omega (arith, tail_long counts))
 
 -- after an event, at the last length but one: r words one event below the child

@@ -1,9 +1,9 @@
 -- A batch of tables, and its lines.
-use Rattle.std.specs.Prelude.{◌≡◌, true, false, List, [], ℕ, zero, suc, ◌+◌, ◌-◌, ◌*◌, ◌≤◌, ◌<◌, ltb, length, get_or}
+use Rattle.std.specs.Prelude.{◌≡◌, true, false, List, ℕ, zero, suc, ◌+◌, ◌-◌, ◌*◌, ◌≤◌, ltb, get_or}
 use Rattle.model.specs.declared.Built.{Built}
 use Rattle.model.specs.declared.Batch.{Batch}
 use Rattle.model.specs.declared.Shares.{Shares}
-use Rattle.model.specs.Basics.{pick, zeros, fine}
+use Rattle.model.specs.Basics.{pick, fine}
 use Rattle.model.specs.Tables.{Tables, row_width}
 use Rattle.model.specs.Walks.{cell_need, in_shape}
 use Rattle.model.specs.Lists.{most_listed_events, most_seconds}

@@ -1,5 +1,5 @@
 -- How many words a list has, by length, every number cut just above 1,000,000.
-use Rattle.std.specs.Prelude.{◌≡◌, List, [], ◌∷◌, ℕ, suc, ◌+◌, ◌*◌, ◌≤◌, ◌<◌, ltb, length, get_or}
+use Rattle.std.specs.Prelude.{◌≡◌, List, [], ◌∷◌, ℕ, suc, ◌+◌, ◌<◌, ltb, length, get_or}
 use Rattle.model.specs.Basics.{pick}
 use Rattle.model.specs.Lists.{words_from}
 use Rattle.model.specs.Shares.{most_words, out_of}

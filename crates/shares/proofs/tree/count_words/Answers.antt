@@ -1,0 +1,40 @@
+-- `shares::tree::count_words` meets its contract: the word of no event is counted by row 0, the longer words below the
+-- root.
+use mathlib.Core.Path.{◌≡◌, refl}
+use Prim.Native.Nat.{◌+◌, ◌*◌}
+use native.Mathlib.Omega.{arith}
+use Rattle.model.specs.Lists.{list_grain, stamp_count}
+use Rattle.shares.proofs.TreeWhole.{root_node, root_roomy, root_alone, whole_long, whole_tree}
+use Rattle.shares.proofs.tree.count_words.Goals as goal
+
+pub tally-requires : goal.tally-requires
+tally-requires c =
+    let stamps_are : list_grain * c.wide32.result + 1 ≡ stamp_count c.args.seconds =
+    omega (arith, c.wide32.ensures.0) in
+    let e = c.stored_at.ensures in
+    let p = c.requires in (
+      p.0,
+      p.1,
+      p.2,
+      root_node p.0 p.3 stamps_are,
+      root_roomy _ p.3 stamps_are e.0 e.1 c.if-counts-gt1.true,
+    )
+
+pub shape_of-counts-then-counts-gt1 : goal.shape_of-counts-then-counts-gt1
+shape_of-counts-then-counts-gt1 c =
+    let stamps_are : list_grain * c.wide32.result + 1 ≡ stamp_count c.args.seconds =
+    omega (arith, c.wide32.ensures.0) in
+    let e = c.stored_at.ensures in
+    whole_long _ c.requires.3 stamps_are e.0 e.1 c.if-counts-gt1.true c.tally.ensures
+
+pub returns-then-counts-gt1 : goal.returns-then-counts-gt1
+returns-then-counts-gt1 c =
+    let stamps_are : list_grain * c.wide32.result + 1 ≡ stamp_count c.args.seconds =
+    omega (arith, c.wide32.ensures.0) in
+    let e = c.stored_at.ensures in
+    whole_tree _ c.requires.3 stamps_are e.0 e.1 c.if-counts-gt1.true c.tally.ensures
+
+pub returns-else-counts-gt1 : goal.returns-else-counts-gt1
+returns-else-counts-gt1 c =
+    let e = c.stored_at.ensures in
+    root_alone _ c.requires.3 refl e.0 e.1 c.if-counts-gt1.false
