@@ -15,7 +15,6 @@ use Rattle.model.specs.Files.{number_at, number_bytes, fields_body, numbers_of, 
 use Rattle.model.specs.Layout.{edge_fields, edge_width, text_count, edge_numbers}
 use Rattle.model.proofs.Logic.{by_test}
 use Rattle.model.proofs.Bytes.{number_later, numbers_of_length}
-use Rattle.model.proofs.EdgesWritten.{edge_numbers_length}
 use Rattle.model.proofs.FileSoFar.{sized_from}
 use Rattle.numbers.proofs.Parts.{part_rest}
 use Rattle.reader.specs.State.{EdgeBody, Places}
@@ -135,9 +134,3 @@ module _ {kind size : ℕ} {body edge : List ℕ} (p : Places kind size body edg
           edge_stored =
               let n : ℕ = text_size size in
               rw (past_is, begun_is, text_is, numbers_of_length n (drop fields_body body), drop_zeros n text_places)
-
-          pub stored_long :
-              length (put_mid edge_fields (edge_fields + text_size size - edge_fields) begun text) ≡ length edge
-          stored_long =
-              ap length edge_stored
-              ∙ (edge_numbers_length (edge_from kind size body) (edge_sized p.known) ∙ sym p.wide)

@@ -23,9 +23,6 @@ pub record Counted (mask i count : ℕ) : Type 0 where
   pub few : count ≤ i
   pub rest_is : count + length (bits_from (most_locations - i) i mask) ≡ length (locations_in mask)
 
-pub counted_start : (mask : ℕ) → Counted mask 0 0
-counted_start mask = record { turns = omega arith; few = omega arith; rest_is = omega arith }
-
 bit_length : (i mask : ℕ) → length (pick (bit i mask) (i ∷ []) []) ≡ mask / 2 ^ i % 2
 bit_length i mask =
     by_test (bit i mask) (λ e. rw e (sym (eqb-true (mask / 2 ^ i % 2) 1 e)))
@@ -53,11 +50,6 @@ pub record Summed (count : ℕ) (t : List ℕ) (e sum : ℕ) : Type 0 where
   pub rest_is :
       sum + length (edge_records (edges_in (count - e) (drop (edge_width * e) t)))
       ≡ length (edge_records (edges_in count t))
-
-pub summed_start : (count : ℕ) (t : List ℕ) → Summed count t 0 0
-summed_start count t =
-    let z : count - 0 ≡ count = omega arith in
-    record { turns = omega arith; few = omega arith; rest_is = rw z (omega arith) }
 
 module _ {count e sum : ℕ} {t : List ℕ} (inv : Summed count t e sum) where
   pub summed_next :
