@@ -8,7 +8,7 @@ ghost use Rattle.model.specs.Rules.{most_locations};
 use codes::powers::scale_by;
 use codes::{Scale, pack, unpack};
 use model::{MOST_CLOCKS, MOST_CONSTANT, MOST_LOCATIONS, MOST_PAIRS};
-use numbers::{narrow16, wide8, wide32};
+use numbers::{narrow16, wide32};
 use std::io;
 
 // What was seen. The sums stop at the top of their range, which they do not reach.
@@ -17,13 +17,6 @@ struct Tally {
     sizes: u32,
     codes: u32,
     wrong: u32,
-}
-
-fn sum(a: u32, b: u32) -> u32 {
-    if 4294967295 - a < b {
-        return 4294967295;
-    }
-    a + b
 }
 
 // Does a code come back, from a location below L?
@@ -46,17 +39,16 @@ fn of_size(scale: Scale, locations: usize, before: Tally) -> Tally
     if MOST_PAIRS < pairs {
         return before;
     }
+    let codes = pairs as u32;
     let mut wrong = before.wrong;
-    let mut code: u32 = 0;
-    while wide32(code) < pairs {
+    for code in 0..codes {
         if !comes_back(scale, locations, code) {
-            wrong = sum(wrong, 1);
+            wrong = wrong.saturating_add(1);
         }
-        code += 1;
     }
     Tally {
-        sizes: sum(before.sizes, 1),
-        codes: sum(before.codes, code),
+        sizes: before.sizes.saturating_add(1),
+        codes: before.codes.saturating_add(codes),
         wrong,
     }
 }
@@ -64,10 +56,8 @@ fn of_size(scale: Scale, locations: usize, before: Tally) -> Tally
 // All L.
 fn of_scale(scale: Scale, before: Tally) -> Tally {
     let mut tally = before;
-    let mut locations: usize = 1;
-    while locations <= MOST_LOCATIONS {
+    for locations in 1..=MOST_LOCATIONS {
         tally = of_size(scale, locations, tally);
-        locations += 1;
     }
     tally
 }
@@ -75,10 +65,8 @@ fn of_scale(scale: Scale, before: Tally) -> Tally {
 // All cm.
 fn of_clocks(clocks: u32, before: Tally) -> Tally {
     let mut tally = before;
-    let mut top: u8 = 0;
-    while wide8(top) <= MOST_CONSTANT {
+    for top in 0..=MOST_CONSTANT as u8 {
         tally = of_scale(scale_by(top, clocks), tally);
-        top += 1;
     }
     tally
 }
@@ -89,10 +77,8 @@ fn main(rt: HostRuntime) -> io::Result<()> {
         codes: 0,
         wrong: 0,
     };
-    let mut clocks: u32 = 1;
-    while wide32(clocks) <= MOST_CLOCKS {
+    for clocks in 1..=MOST_CLOCKS as u32 {
         tally = of_clocks(clocks, tally);
-        clocks += 1;
     }
     println!(rt; "{} {} {}", tally.sizes, tally.codes, tally.wrong)
 }

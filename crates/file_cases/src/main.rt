@@ -35,11 +35,9 @@ fn print_short_table(rt: &impl Print, file: &[u8]) -> io::Result<()> {
 
 // Edges of 8 bytes from place 10 on, up to the end of the file: 257 of them.
 fn put_edges(file: &mut [u8; 3094]) {
-    let mut e: usize = 0;
-    while e < 257 {
+    for e in 0..257 {
         file[12 * e + 10] = 8;
         file[12 * e + 12] = 5;
-        e += 1;
     }
 }
 

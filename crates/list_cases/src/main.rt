@@ -25,18 +25,15 @@ fn word_of(count: u32, symbol: u16, stamp: u32, symbol2: u16, stamp2: u32) -> Li
 // The number of words up to the last; 0 if there are more than `most`, or if one is refused.
 fn count_words(size: Size, most: usize) -> usize {
     let mut word = word_of(0, 0, 0, 0, 0);
-    let mut count: usize = 0;
-    while count < most {
-        count += 1;
+    for count in 0..most {
         let next = next_word(size, word);
         if next.number != 0 {
             return 0;
         }
         if next.last {
-            return count;
+            return count + 1;
         }
-        let after = next.word;
-        word = after;
+        word = next.word;
     }
     0
 }
