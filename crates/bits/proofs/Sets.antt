@@ -135,7 +135,8 @@ marked_set ws c x h =
     (λ e.
     let v : ℕ = Bits.bit_or (get_or ws (c / 32) 0) (2 ^ (c % 32)) in
     let ne : x / 32 ≡ c / 32 → ⊥ = eqb-false (x / 32) (c / 32) e in
-    let g : get_or (set ws (c / 32) v) (x / 32) 0 ≡ get_or ws (x / 32) 0 = get_or-set_other ws (c / 32) (x / 32) v 0 ne in
+    let g : get_or (set ws (c / 32) v) (x / 32) 0 ≡ get_or ws (x / 32) 0 = get_or-set_other ws (c / 32) (x / 32) v 0 ne
+    in
     let t : eqb x c ≡ false = ne_eqb x c (λ p. ne (ap (λ (n : ℕ). n / 32) p)) in
     rw (g, t) (sym (or_none (marked ws x))))
 

@@ -1,5 +1,6 @@
 -- Sets of codes as marks: bits in lent numbers, 32 to a number. Code x is bit x % 32 of number x / 32.
-use Rattle.std.specs.Prelude.{◌≡◌, Bool, true, ◌&&◌, List, [], ◌∷◌, ◌++◌, ℕ, zero, suc, ◌+◌, ◌*◌, ◌/◌, ◌%◌, ◌≤◌, ◌<◌, eqb, length, get_or}
+use Rattle.std.specs.Prelude.{◌≡◌, Bool, true, ◌&&◌, List, [], ◌∷◌, ◌++◌, ℕ, zero, suc, ◌+◌, ◌*◌, ◌/◌, ◌%◌, ◌≤◌, ◌<◌}
+use Rattle.std.specs.Prelude.{eqb, length, get_or}
 use Rattle.model.specs.Basics.{pick, bit}
 use Rattle.model.specs.Rules.{most_pairs}
 use Rattle.model.specs.Tables.{scratch_bits, most_scratch}

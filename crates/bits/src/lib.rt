@@ -102,7 +102,8 @@ pub fn lay_codes(marks: &[u32], span: Span, out: &mut [u32])
     }
 }
 
-// Takes the marks away. Mostly they lie in one number, so the first stands before the loop, of which the compiler makes a
+// Takes the marks away. Mostly they lie in one number, so the first stands before the loop, of which the compiler makes
+// a
 // call.
 pub fn unmark(marks: &mut [u32], span: Span)
     ensures { InSpan marks.old span → marks.new ≡ zeros (length marks.old) }

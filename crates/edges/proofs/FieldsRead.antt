@@ -9,7 +9,8 @@ use Rattle.edges.specs.Counts.{count_at}
 
 -- the field at place k of edge e; w is e as it was widened
 pub field_read :
-    (t : List ℕ) (e k w : ℕ) {r : ℕ} → w ≡ e → r ≡ get_or t (edge_width * w + k) 0 → r ≡ get_or (drop (edge_width * e) t) k 0
+    (t : List ℕ) (e k w : ℕ) {r : ℕ} → w ≡ e → r ≡ get_or t (edge_width * w + k) 0
+    → r ≡ get_or (drop (edge_width * e) t) k 0
 field_read t e k w is r = r ∙ rw is (sym (get_or-drop (edge_width * e) t k 0))
 
 -- the text, as the part of the table from its place on

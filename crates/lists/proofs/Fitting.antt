@@ -132,7 +132,8 @@ same_filled n k xs e h =
     ∙ same_front (take n xs) (zeros (length (drop n xs))) (drop n xs)
     ∙ same_zeros (drop n xs)
 
-same_listed_lem : (w : Listed) → Six w → w.count ≤ most_listed_events → same_listed (listed_of (events_in w)) w ≡ rest_zero w
+same_listed_lem : (w : Listed) → Six w → w.count ≤ most_listed_events
+    → same_listed (listed_of (events_in w)) w ≡ rest_zero w
 same_listed_lem w f h =
     rw (
       eq-eqb (length (events_in w)) w.count (events_count w f h),

@@ -13,7 +13,8 @@ use Rattle.model.specs.declared.Listed.{Listed}
 use Rattle.model.specs.Basics.{pick, one_if, zeros, filled}
 use Rattle.model.specs.Words.{Event}
 use Rattle.model.specs.Rules.{most_symbols}
-use Rattle.model.specs.Lists.{most_listed_events, most_seconds, event_of, fits_from, symbols_of, stamps_of, events_in, listed_of}
+use Rattle.model.specs.Lists.{most_listed_events, most_seconds, event_of, fits_from, symbols_of, stamps_of, events_in}
+use Rattle.model.specs.Lists.{listed_of}
 use Rattle.model.specs.Lists.{top_stamp}
 use Rattle.model.proofs.Logic.{by_test, ltb_suc, zeros_at, or_left, or_right, neither_left, neither_right, and_right}
 use Rattle.model.proofs.Events.{event_at}
@@ -21,7 +22,8 @@ use Rattle.model.proofs.Lists.{symbols_length, stamps_length, fits_of}
 use Rattle.model.proofs.NextWord.{nothing, found, bump, floor, raised}
 use Rattle.numbers.specs.Lent.{all_zero}
 use Rattle.numbers.proofs.Zeros.{zeros_are}
-use Rattle.lists.specs.Odometer.{Six, rest_zero, can_raise, raised_event, up_to_raised, least_from, raised_at, symbol_at}
+use Rattle.lists.specs.Odometer.{Six, rest_zero, can_raise, raised_event, up_to_raised, least_from, raised_at}
+use Rattle.lists.specs.Odometer.{symbol_at}
 use Rattle.lists.specs.Odometer.{stamp_at, placed, Raising}
 use Rattle.lists.proofs.Fitting.{in_range, member}
 use Rattle.lists.proofs.Places.{events_count, symbols_are, stamps_are, event_at_lem}
@@ -238,7 +240,8 @@ module _ (s : ℕ) where
 
   raised_symbols :
       (i : ℕ) (vs rest : List Event) (v : Event) → drop i vs ≡ v ∷ rest
-      → symbols_of (raised_at s i vs) ≡ take i (symbols_of vs) ++ ((raised_event s v).symbol ∷ zeros (length vs - suc i))
+      → symbols_of (raised_at s i vs) ≡ take i (symbols_of vs)
+      ++ ((raised_event s v).symbol ∷ zeros (length vs - suc i))
   raised_symbols zero [] rest v e = absurd (never_event v rest e)
   raised_symbols (suc i) [] rest v e = absurd (never_event v rest e)
   raised_symbols zero (u ∷ vs) rest v e =

@@ -1,5 +1,6 @@
 -- The next word of a list as an odometer finds it: which event is raised, and the word that comes of it.
-use Rattle.std.specs.Prelude.{◌≡◌, Bool, true, ◌&&◌, ◌||◌, List, [], ◌∷◌, ◌++◌, ℕ, zero, suc, ◌-◌, ◌<◌, eqb, ltb, length, take, drop, replicate}
+use Rattle.std.specs.Prelude.{◌≡◌, Bool, true, ◌&&◌, ◌||◌, List, [], ◌∷◌, ◌++◌, ℕ, zero, suc, ◌-◌, ◌<◌, eqb, ltb}
+use Rattle.std.specs.Prelude.{length, take, drop, replicate}
 use Rattle.model.specs.declared.Size.{Size}
 use Rattle.model.specs.declared.Listed.{Listed}
 use Rattle.model.specs.declared.Next.{Next}

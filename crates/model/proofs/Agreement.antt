@@ -91,8 +91,13 @@ module _ (r : Rule) (valid : Valid r) (d : ℕ) (hd : 1 ≤ d) where
       record {
         location_is = target_location r i false x e;
         tracks =
-            rw
-            (target_bases r i false x e, no_reset r s i x e xs j k a f, zeroed_none 0 (bases_of r x), zeroed_none 0 ages)
+            rw (
+              target_bases r i false x e,
+              no_reset r s i x e xs j k a f,
+              zeroed_none 0 (bases_of r x),
+              zeroed_none 0
+                  ages,
+            )
             h.tracks;
       }
 

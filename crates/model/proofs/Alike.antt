@@ -121,6 +121,7 @@ pub each_once :
     → count_if (λ w. alike d (events_of symbols stamps) list_grain w) (words_up_to s h m) ≡ 1
 each_once s h m d symbols stamps f u =
     let vs : List Event = events_of symbols stamps in
-    count_same (λ w. alike d vs list_grain w) (same_word (in_halves d vs)) (words_up_to s h m) (λ w i. alike_same d vs w)
+    count_same (λ w. alike d vs list_grain w) (same_word (in_halves d vs)) (words_up_to s h m)
+    (λ w i. alike_same d vs w)
     ∙ list_once s h m (in_halves d vs)
     ∙ ap one_if (halves_listed s h m d symbols stamps f u)

@@ -42,7 +42,8 @@ outside low high n h a b =
 -- the built record and tables that the builder leaves are those of the construction
 pub same_tables :
     (r : Rule) (c n p : ℕ)
-    → tables (built_of r) (tables_of r c n p).cells (tables_of r c n p).rows (tables_of r c n p).pool ≡ tables_of r c n p
+    → tables (built_of r) (tables_of r c n p).cells (tables_of r c n p).rows (tables_of r c n p).pool ≡ tables_of r c n
+    p
 unfolding built_of tables_by tables_of
 same_tables r c n p = refl
 

@@ -67,7 +67,8 @@ unfolding mask_of bits_from cm pair_count valid_rule edges_numbers edge_table ru
 wide_passes = refl
 
 pub forks_passes : rule_refusal (head_of forks) (edge_table 22016 forks) ≡ fine
-unfolding mask_of bits_from cm pair_count valid_rule edges_numbers edge_table rule_in is_readable rule_refusal free_edge forks
+unfolding mask_of bits_from cm pair_count valid_rule edges_numbers edge_table rule_in is_readable rule_refusal
+    free_edge forks
 forks_passes = refl
 
 pub short_refused : rule_refusal worked_head (worked_edges 21843) ≡ refusal 20 0

@@ -43,7 +43,8 @@ once_append :
 once_append c [] h o = refl
 once_append c (x ∷ cs) h o =
     let it : Bool = eqb c.location x.location && same c.ages x.ages in
-    let new : has_config x cs ≡ false = not-true (has_config x cs) (and_left (not (has_config x cs)) (each_once cs) o) in
+    let new : has_config x cs ≡ false = not-true (has_config x cs) (and_left (not (has_config x cs)) (each_once cs) o)
+    in
     rw (has_append x c cs new (neither_left it (has_config c cs) h))
     (once_append c cs (neither_right it (has_config c cs) h) (and_right (not (has_config x cs)) (each_once cs) o))
 

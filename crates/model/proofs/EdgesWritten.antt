@@ -28,7 +28,8 @@ edge_written e rest h =
     rw (append_assoc e.text z rest, (sized_of e h).counted, take_at e.text (z ++ rest) n refl)
 
 -- one edge more
-pub edges_numbers_last : (es : List Edge) (e : Edge) → edges_numbers (es ++ (e ∷ [])) ≡ edges_numbers es ++ edge_numbers e
+pub edges_numbers_last : (es : List Edge) (e : Edge)
+    → edges_numbers (es ++ (e ∷ [])) ≡ edges_numbers es ++ edge_numbers e
 unfolding edges_numbers
 edges_numbers_last [] e = append-nil (edge_numbers e)
 edges_numbers_last (f ∷ es) e =

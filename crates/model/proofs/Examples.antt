@@ -73,7 +73,8 @@ nine =
     ∷ []
 
 pub nine_hold : AllHold nine
-unfolding mask_of cm pair_count accepts_from accepts_from_some accepts record_refusal with_record at_end read_from read_rule
+unfolding mask_of cm pair_count accepts_from accepts_from_some accepts record_refusal with_record at_end read_from
+    read_rule
     code_of location_of bases_of allows row_resets target_of next_row worked_file worked at_age_one edge_to ninth Holds
     AllHold nine
 nine_hold = (refl, (refl, (refl, (refl, (refl, (refl, (refl, (refl, ((refl, refl), tt)))))))))
@@ -93,7 +94,8 @@ worked_tables =
 
 pub worked_table_is : tables_of worked 24 9 2 ≡ worked_tables
 unfolding mask_of cm pair_count record_refusal with_record at_end read_from read_rule
-    code_of location_of bases_of start_row allows row_resets target_of next_row by_intervals by_symbols rows_from rows_of cell_of
+    code_of location_of bases_of start_row allows row_resets target_of next_row by_intervals by_symbols rows_from
+    rows_of cell_of
     holds_final tables_by tables_of worked_file worked worked_tables
 worked_table_is = refl
 
@@ -143,7 +145,8 @@ second_tables =
 
 pub second_table_is : tables_of second 72 18 7 ≡ second_tables
 unfolding mask_of cm pair_count record_refusal with_record at_end read_from read_rule
-    code_of location_of bases_of start_row allows row_resets target_of next_row by_intervals by_symbols rows_from rows_of cell_of
+    code_of location_of bases_of start_row allows row_resets target_of next_row by_intervals by_symbols rows_from
+    rows_of cell_of
     holds_final tables_by tables_of second_locations second_records second_file second second_tables
 second_table_is = refl
 
@@ -164,7 +167,8 @@ sided = (read_rule sided_file).rule_is
 
 pub sided_table_is : tables_of sided 72 18 7 ≡ second_tables
 unfolding mask_of cm pair_count record_refusal with_record at_end read_from read_rule
-    code_of location_of bases_of start_row allows row_resets target_of next_row by_intervals by_symbols rows_from rows_of cell_of
+    code_of location_of bases_of start_row allows row_resets target_of next_row by_intervals by_symbols rows_from
+    rows_of cell_of
     holds_final tables_by tables_of second_locations sided_file sided second_tables
 sided_table_is = refl
 
@@ -216,6 +220,7 @@ pub ceilings_are :
     × (less_ceiling worked_file ≡ worked_file) × (less_ceiling second_file ≡ second_less)
     × (less_ceiling second_less ≡ second_less) × (less_ceiling (ceiling_record 0 ++ seeming) ≡ seeming)
     × (less_ceiling (seeming ++ ceiling_record 0) ≡ seeming) × (ceiling_bytes 3 second ≡ second_file)
-unfolding mask_of cm pair_count record_refusal with_record at_end read_from read_rule edge_records file_with ceiling_bytes
+unfolding mask_of cm pair_count record_refusal with_record at_end read_from read_rule edge_records file_with
+    ceiling_bytes
     less_past kinds_past worked_file second_locations second_records second_file second_less second seeming
 ceilings_are = (refl, refl, refl, refl, refl, refl, refl, refl, refl, refl, refl, refl)

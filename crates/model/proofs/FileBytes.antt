@@ -55,7 +55,8 @@ plain_small k (c ∷ d ∷ e ∷ t) h n i =
 
 -- kind 6: marks by the group rules, the numbers of an atom by its ranges
 three_more :
-    (t : List ℕ) → get_or t 0 0 < 65536 → get_or t 1 0 < 65536 → get_or t 2 0 < 65536 → all_below 65536 (drop 3 t) ≡ true
+    (t : List ℕ) → get_or t 0 0 < 65536 → get_or t 1 0 < 65536 → get_or t 2 0 < 65536
+    → all_below 65536 (drop 3 t) ≡ true
     → all_below 65536 t ≡ true
 three_more [] a b c h = refl
 three_more (x ∷ []) a b c h = all_below_more 65536 x [] a refl

@@ -9,7 +9,8 @@ use lib.ListN.{length, drop}
 use borrow.Author.Tests.{ltb-false, le-ltb, not-false}
 use Rattle.model.specs.Basics.{Refusal, fine, refuse, ◌⨾◌}
 use Rattle.model.specs.Rules.{Rule}
-use Rattle.model.specs.Files.{record_head, body_length, kind_of, body_of, body_ok, cut_short, out_of_order, one_too_many}
+use Rattle.model.specs.Files.{record_head, body_length, kind_of, body_of, body_ok, cut_short, out_of_order}
+use Rattle.model.specs.Files.{one_too_many}
 use Rattle.model.specs.Files.{bad_sizes, out_of_range, not_pinned, record_refusal, with_record}
 use Rattle.model.proofs.Logic.{neither_right}
 use Rattle.model.proofs.Refusals.{refused_false, first_passes, then_passes}
@@ -42,7 +43,8 @@ record_allowed p last r s h =
           (neither_right (ltb (length s) record_head) (ltb (length s) (record_head + n)) cut);
       allowed = passed_allowed last r k n b (record {
         of_length = not-false (body_ok k n) bad;
-        in_order = refused_false (out_of_order last r k b) 2 p (first_passes (refuse (out_of_order last r k b) 3 p) _ h3);
+        in_order = refused_false (out_of_order last r k b) 2 p (first_passes (refuse (out_of_order last r k b) 3 p) _
+            h3);
         not_too_many = refused_false (one_too_many r k) 3 p (first_passes (refuse (one_too_many r k) 4 p) _ h4);
         good_sizes = refused_false (bad_sizes k b) 4 p (first_passes (refuse (bad_sizes k b) 5 p) _ h5);
         in_range = refused_false (out_of_range r k n b) 5 p (first_passes (refuse (out_of_range r k n b) 6 p) _ h6);

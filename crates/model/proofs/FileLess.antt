@@ -90,7 +90,8 @@ other_kind least e es h rise =
     omega (arith, leb-true least e.kind (and_left (leb least e.kind) (kinds_rise e.kind es) rise))
 
 less_edges :
-    (least : ℕ) (es : List Edge) → 5 ≤ least → kinds_rise least es ≡ true → less_ceiling (edge_records es) ≡ edge_records es
+    (least : ℕ) (es : List Edge) → 5 ≤ least → kinds_rise least es ≡ true
+    → less_ceiling (edge_records es) ≡ edge_records es
 unfolding less_past edge_records
 less_edges least [] h rise = refl
 less_edges least (e ∷ es) h rise =

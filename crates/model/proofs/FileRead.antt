@@ -107,7 +107,8 @@ edge_step p last r e rest h b room ok =
       in_range = ap (edge_ok r) back ∙ ok.in_range;
       pinned = ap integer_reset back ∙ ok.pinned;
     }))
-    ∙ (ap (λ (q : Rule). read_on (p + (record_head + n)) k q rest) (with_edge_lem r k n (edge_bytes e rest) fits.kind_least)
+    ∙ (ap (λ (q : Rule). read_on (p + (record_head + n)) k q rest) (with_edge_lem r k n (edge_bytes e rest)
+    fits.kind_least)
     ∙ ap (λ (f : Edge). read_on (p + (record_head + n)) k (with_edge r f) rest) back)
 
 pub ceiling_step :

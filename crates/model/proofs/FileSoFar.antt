@@ -173,4 +173,5 @@ module _ (last : ℕ) (r : Rule) (was : SoFar last r) where
   record_so_far kind n body (initial e a) = rw e (initial_so_far n body a)
   record_so_far kind n body (final e a) = rw e (final_so_far n body a)
   record_so_far kind n body (ceiling e a) = rw e (ceiling_so_far n body a)
-  record_so_far kind n body (edge low high a) = rw (with_edge_lem r kind n body low) (edge_so_far kind n body low high a)
+  record_so_far kind n body (edge low high a) = rw (with_edge_lem r kind n body low)
+      (edge_so_far kind n body low high a)

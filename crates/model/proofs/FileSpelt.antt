@@ -58,7 +58,8 @@ edge_again last kind r s b whole k a =
     ∙ record_again s (4 + m) kind vs b whole long k (four_numbers m (body_of s))
 
 -- the rule after a record, by its kind
-after_kind : (r : Rule) (s : List ℕ) (k : ℕ) → kind_of s ≡ k → rule_after r s ≡ with_record r k (body_length s) (body_of s)
+after_kind : (r : Rule) (s : List ℕ) (k : ℕ) → kind_of s ≡ k
+    → rule_after r s ≡ with_record r k (body_length s) (body_of s)
 after_kind r s k e = ap (λ (j : ℕ). with_record r j (body_length s) (body_of s)) e
 
 -- What may stand between locations and edges of a file once a record of kind `last` has been read: nothing or, from
@@ -87,11 +88,13 @@ module _
     (b : all_below 256 s ≡ true)
   where
     adds :
-        (after : List ℕ) (q : Rule) (part : List ℕ) → rule_after r s ≡ q → file_with after q ≡ file_with between r ++ part
+        (after : List ℕ) (q : Rule) (part : List ℕ) → rule_after r s ≡ q
+        → file_with after q ≡ file_with between r ++ part
         → part ++ bytes_after s ≡ s
         → file_with after (rule_after r s) ++ bytes_after s ≡ file_with between r ++ s
     adds after q part e p same =
-        joined (file_with after (rule_after r s)) (file_with between r) part (bytes_after s) s (ap (file_with after) e ∙ p)
+        joined (file_with after (rule_after r s)) (file_with between r) part (bytes_after s) s (ap (file_with after) e
+        ∙ p)
         same
 
     record_read_past :

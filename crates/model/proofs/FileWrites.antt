@@ -16,7 +16,8 @@ use Rattle.model.proofs.Bytes.{number_later, numbers_back}
 
 -- records one after another
 pub locations_append :
-    (kind : ℕ) (xs ys : List ℕ) → location_records kind (xs ++ ys) ≡ location_records kind xs ++ location_records kind ys
+    (kind : ℕ) (xs ys : List ℕ) → location_records kind (xs ++ ys) ≡ location_records kind xs ++ location_records kind
+    ys
 locations_append kind [] ys = refl
 locations_append kind (x ∷ xs) ys = ap (λ (l : List ℕ). numbers (2 ∷ kind ∷ x ∷ []) ++ l) (locations_append kind xs ys)
 

@@ -133,7 +133,8 @@ module _ (m h : ℕ) where
   unfolding greatest_of
   best_of t ts = best ts 1 (A t) (B t) 2 (some_of t)
 
-  at_place : (t : Tables) (ts : List Tables) (g : ℕ) → greatest_of (t ∷ ts) m h ≡ suc g → Best 1 (A t) (B t) 2 ts (suc g)
+  at_place : (t : Tables) (ts : List Tables) (g : ℕ) → greatest_of (t ∷ ts) m h ≡ suc g
+      → Best 1 (A t) (B t) 2 ts (suc g)
   at_place t ts g e = subst (λ (x : ℕ). Best 1 (A t) (B t) 2 ts x) e (best_of t ts)
 
   in_batch : (t : Tables) (ts : List Tables) (g : ℕ) → Best 1 (A t) (B t) 2 ts g → (1 ≤ g) × (g ≤ suc (length ts))

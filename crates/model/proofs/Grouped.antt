@@ -111,8 +111,10 @@ one_table =
     (0 ∷ 3 ∷ [])
 
 same_table : (tables_of one_edge 12 9 2 ≡ one_table) × (tables_of two_edges 12 9 2 ≡ one_table)
-unfolding mask_of levels_past atoms_past cm pair_count code_of location_of bases_of start_row allows row_resets target_of next_row
-    by_intervals by_symbols rows_from rows_of cell_of holds_final tables_by tables_of grouped plain one_edge two_edges one_table
+unfolding mask_of levels_past atoms_past cm pair_count code_of location_of bases_of start_row allows row_resets
+    target_of next_row
+    by_intervals by_symbols rows_from rows_of cell_of holds_final tables_by tables_of grouped plain one_edge two_edges
+    one_table
 same_table = (refl, refl)
 
 -- a word of one event, at so many half seconds: accepted alike; what held the rule back is a member, or an atom

@@ -37,7 +37,8 @@ use Rattle.model.proofs.Cases.{Case, case, all_met}
 
 -- D from 1 to 1,000; symbols below S; stamps that do not fall; no event at all, and equal stamps
 words_any :
-    (keeps_any 2 0 [] ≡ false) × (keeps_any 2 1 [] ≡ true) × (keeps_any 2 1000 [] ≡ true) × (keeps_any 2 1001 [] ≡ false)
+    (keeps_any 2 0 [] ≡ false) × (keeps_any 2 1 [] ≡ true) × (keeps_any 2 1000 [] ≡ true) ×
+    (keeps_any 2 1001 [] ≡ false)
     × (keeps_any 2 7 (event_of 1 0 ∷ event_of 0 0 ∷ event_of 1 9 ∷ []) ≡ true)
     × (keeps_any 2 7 (event_of 2 0 ∷ []) ≡ false)
     × (keeps_any 2 7 (event_of 1 5 ∷ event_of 0 4 ∷ []) ≡ false)
@@ -207,7 +208,8 @@ call_long = record {
   refused = λ h. no_way (sym h);
   searched = λ h. (
     refl,
-    too_long refl (record { word = event_of 0 2 ∷ event_of 1 4 ∷ []; fits = refl; only = only_worked }) none_shorter refl
+    too_long refl (record { word = event_of 0 2 ∷ event_of 1 4 ∷ []; fits = refl; only = only_worked }) none_shorter
+        refl
         refl,
   );
 }
@@ -305,8 +307,10 @@ call_refused = (
 -- The rules' side: the worked table is that of the worked rule, as built in room that it fills; of the worked rule and
 -- one without edges only the worked rule accepts P3.
 worked_as_built : AsBuilt worked worked_tables
-unfolding cm pair_count record_refusal with_record at_end read_from read_rule code_of location_of bases_of start_row allows
-    row_resets target_of next_row by_intervals by_symbols rows_from rows_of row_room fit_refusal scratch_need table_refusal
+unfolding cm pair_count record_refusal with_record at_end read_from read_rule code_of location_of bases_of start_row
+    allows
+    row_resets target_of next_row by_intervals by_symbols rows_from rows_of row_room fit_refusal scratch_need
+    table_refusal
     valid_rule worked_file worked
 worked_as_built = record {
   valid = refl;
@@ -322,6 +326,7 @@ without_edges : Rule
 without_edges = rule 1 2 1 (0 ∷ []) (0 ∷ []) []
 
 only_worked_rule : OnlyFirstRule worked without_edges list_grain (event_of 0 2 ∷ event_of 1 4 ∷ [])
-unfolding mask_of cm pair_count accepts_from accepts_from_some accepts record_refusal with_record at_end read_from read_rule
+unfolding mask_of cm pair_count accepts_from accepts_from_some accepts record_refusal with_record at_end read_from
+    read_rule
     worked_file worked without_edges
 only_worked_rule = record { keeps = refl; accepted = refl; not_accepted = refl }

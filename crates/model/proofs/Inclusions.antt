@@ -145,10 +145,12 @@ module _ (t u : Tables) where
       → But-for-the-word ss' ss'' xs' xs'' ts' ts'' a b
   one_search ss' ss'' xs xs' xs'' ts ts' ts'' a b f (holds e i p q) (holds e' i' p' q') =
       both_zero ss' ss'' xs xs' xs'' ts ts' ts'' a b f (e ∙ sym e') p q p' q'
-  one_search ss' ss'' xs xs' xs'' ts ts' ts'' a b f (holds e i p q) (shown vs e' r z o m p' q') = never list_grain vs i o
+  one_search ss' ss'' xs xs' xs'' ts ts' ts'' a b f (holds e i p q) (shown vs e' r z o m p' q') =
+      never list_grain vs i o
   one_search ss' ss'' xs xs' xs'' ts ts' ts'' a b f (holds e i p q) (too_long e' x m p' q') =
       never list_grain x.word i x.only
-  one_search ss' ss'' xs xs' xs'' ts ts' ts'' a b f (shown vs e r z o m p q) (holds e' i p' q') = never list_grain vs i o
+  one_search ss' ss'' xs xs' xs'' ts ts' ts'' a b f (shown vs e r z o m p q) (holds e' i p' q') =
+      never list_grain vs i o
   one_search ss' ss'' xs xs' xs'' ts ts' ts'' a b f (shown vs e r z o m p q) (shown ws e' r' z' o' m' p' q') =
       let n : length vs ≡ length ws = omega (arith, m list_grain ws o', m' list_grain vs o) in
       let k : a.events ≡ length vs = ap (λ (x : Inclusion). x.events) e in

@@ -53,7 +53,8 @@ module _ (head : Head) (edges : List ℕ) (d most : ℕ) (symbols stamps : List 
   -- 20 or 21, else 30 to 33
   rule_first : ((rule_refusal head edges).number ≡ 0 → ⊥) → input ≡ rule_refusal head edges
   unfolding input_refusal
-  rule_first n = on_refused (rule_refusal head edges) (word_refusal (rule_in head edges).symbols d most symbols stamps) n
+  rule_first n = on_refused (rule_refusal head edges) (word_refusal (rule_in head edges).symbols d most symbols stamps)
+      n
 
   then_word : (rule_refusal head edges).number ≡ 0 → input ≡ word
   unfolding input_refusal rule_in

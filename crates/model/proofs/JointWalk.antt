@@ -153,7 +153,8 @@ halves_below : (s d : ℕ) (vs : List Event) → Below s vs → Below s (in_halv
 halves_below s d [] b = tt
 halves_below s d (v ∷ vs) b = (b.0, halves_below s d vs b.1)
 
-halves_ordered : (d last : ℕ) (vs : List Event) → 1 ≤ d → Ordered last vs → Ordered (half_seconds d last) (in_halves d vs)
+halves_ordered : (d last : ℕ) (vs : List Event) → 1 ≤ d → Ordered last vs
+    → Ordered (half_seconds d last) (in_halves d vs)
 halves_ordered d last [] hd o = tt
 halves_ordered d last (v ∷ vs) hd o = (half_rises d last v.stamp hd o.0, halves_ordered d v.stamp vs hd o.1)
 

@@ -88,7 +88,8 @@ rest_first :
     (u v : Event) (a b : List Event) → same_event v u ≡ true → by_event a b ≡ true → by_event (u ∷ a) (v ∷ b) ≡ true
 rest_first u v a b e h =
     or_right (event_before u v) (same_event u v && by_event a b)
-    (and_both (same_event u v) (by_event a b) (ap (λ (x : Event). same_event u x) (event_is v u e) ∙ same_event_lem u) h)
+    (and_both (same_event u v) (by_event a b) (ap (λ (x : Event). same_event u x) (event_is v u e) ∙ same_event_lem u)
+    h)
 
 -- behind one event
 in_behind :
@@ -195,7 +196,8 @@ list_rises s h zero = words_rise s h 0
 list_rises s h (suc m) =
     rising_both before (words_up_to s h m) (words_of s h (suc m)) (list_rises s h m) (words_rise s h (suc m)) across
   where
-    across : (x y : List Event) → 1 ≤ times x (words_up_to s h m) → 1 ≤ times y (words_of s h (suc m)) → before x y ≡ true
+    across : (x y : List Event) → 1 ≤ times x (words_up_to s h m) → 1 ≤ times y (words_of s h (suc m))
+        → before x y ≡ true
     across x y a b =
         let short-is = is_one (fits s h m x) (rw (list_once s h m x) at a) in
         let short = leb-true (length x) m (and_left (leb (length x) m) (fits_from s (top_stamp h) 0 x) short-is) in

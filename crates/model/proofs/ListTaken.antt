@@ -73,7 +73,8 @@ module _ (z : Size) where
       ∙ and_both (fits_z w) (same_listed (listed_of w) (listed_of w)) (is_one (fits_z w) (omega (arith, h, once_z w)))
       (same_itself (listed_of w))
 
-  taken_listed : (w : Listed) → in_list z w ≡ true → (times (events_in w) (list_of z) ≡ 1) × (listed_of (events_in w) ≡ w)
+  taken_listed : (w : Listed) → in_list z w ≡ true
+      → (times (events_in w) (list_of z) ≡ 1) × (listed_of (events_in w) ≡ w)
   unfolding in_list
   taken_listed w h =
       let fit : Bool = fits_z (events_in w) in

@@ -193,7 +193,8 @@ long_none s k t u w = refl
 times_grown :
     (s n k t : ℕ) (u : Event) (w : List Event)
     → times (u ∷ w) (words_from s (suc n) (suc k) t)
-    ≡ pick (among_symbols s 0 t u) (times w (words_from s n (suc k) t)) 0 + times (u ∷ w) (words_from s (suc n) k (suc t))
+    ≡ pick (among_symbols s 0 t u) (times w (words_from s n (suc k) t)) 0 + times (u ∷ w)
+    (words_from s (suc n) k (suc t))
 unfolding words_from
 times_grown s n k t u w =
     count_both (same_word (u ∷ w)) (by_symbols s 0 t (words_from s n (suc k) t)) (words_from s (suc n) k (suc t))

@@ -35,7 +35,8 @@ unfolding common_up_to
 common_up_some zero a b = omega arith
 common_up_some (suc n) a b = go (divides (suc n) a && divides (suc n) b) refl (common_up_some n a b)
   where
-    go : (z : Bool) → (divides (suc n) a && divides (suc n) b) ≡ z → 1 ≤ common_up_to n a b → 1 ≤ common_up_to (suc n) a b
+    go : (z : Bool) → (divides (suc n) a && divides (suc n) b) ≡ z → 1 ≤ common_up_to n a b
+        → 1 ≤ common_up_to (suc n) a b
     go true e h = rw (e, common_up_to) (omega arith)
     go false e h = rw (e, common_up_to) h
 

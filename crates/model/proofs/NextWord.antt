@@ -80,7 +80,8 @@ in_first w [] ys r h = absurd (omega arith)
 in_first w (x ∷ xs) ys r h = go (same_word w x) refl (in_first w xs ys r)
   where
     go :
-        (b : Bool) → same_word w x ≡ b → (1 ≤ times w xs → word_after_or w (xs ++ ys) r ≡ word_after_or w xs (first_or ys r))
+        (b : Bool) → same_word w x ≡ b
+        → (1 ≤ times w xs → word_after_or w (xs ++ ys) r ≡ word_after_or w xs (first_or ys r))
         → word_after_or w (x ∷ xs ++ ys) r ≡ word_after_or w (x ∷ xs) (first_or ys r)
     go true e k = rw (e, word_after_or) (first_both xs ys r)
     go false e k =
@@ -123,7 +124,8 @@ next_behind v w (x ∷ xs) r h = go (same_word w x) refl (next_behind v w xs r)
         → (1 ≤ times w xs → word_after_or (v ∷ w) (behind v xs) r ≡ onto v (word_after_or w xs nothing) r)
         → word_after_or (v ∷ w) ((v ∷ x) ∷ behind v xs) r ≡ onto v (word_after_or w (x ∷ xs) nothing) r
     go true e k =
-        let both : (same_event v v && same_word w x) ≡ true = and_both (same_event v v) (same_word w x) (same_event_lem v) e in
+        let both : (same_event v v && same_word w x) ≡ true = and_both (same_event v v) (same_word w x)
+        (same_event_lem v) e in
         rw (both, e, word_after_or) (first_behind v xs r)
     go false e k =
         let n : 1 ≤ 0 + times w xs = rw e at h in
@@ -138,7 +140,8 @@ first_words zero (suc n) k t r h = absurd (omega arith)
 first_words (suc s) (suc n) k t r h =
     first_both (behind (event_of 0 t) ws ++ by_symbols s 1 t ws) (words_from (suc s) (suc n) k (suc t)) r
     ∙ first_both (behind (event_of 0 t) ws) (by_symbols s 1 t ws) (first_or (words_from (suc s) (suc n) k (suc t)) r)
-    ∙ first_behind (event_of 0 t) ws (first_or (by_symbols s 1 t ws) (first_or (words_from (suc s) (suc n) k (suc t)) r))
+    ∙ first_behind (event_of 0 t) ws (first_or (by_symbols s 1 t ws) (first_or (words_from (suc s) (suc n) k (suc t))
+    r))
     ∙ ap
     (λ (x : After).
     onto (event_of 0 t) x (first_or (by_symbols s 1 t ws) (first_or (words_from (suc s) (suc n) k (suc t)) r)))
@@ -237,7 +240,8 @@ raise_last s top k n t i r hs e = go (ltb (suc i) s) refl
 
     go :
         (b : Bool) → ltb (suc i) s ≡ b
-        → pick (ltb (suc i) (0 + s)) (found (event_of (suc i) t ∷ floor n t)) (first_or (words_from s (suc n) k (suc t)) r)
+        → pick (ltb (suc i) (0 + s)) (found (event_of (suc i) t ∷ floor n t))
+        (first_or (words_from s (suc n) k (suc t)) r)
         ≡ or_else (raised s top (event_of i t) n) r
     go true f = rw (z, f)
     go false f = rw (z, f) (rest k e)
@@ -299,7 +303,8 @@ next_words s top (suc n) (suc k) t (u ∷ w) r hs e l f =
         Two t u.stamp
         → (fits_from s top (suc t) (u ∷ w) ≡ true
         → word_after_or (u ∷ w) (words_from s (suc n) k (suc t)) r ≡ or_else (bump s top (u ∷ w)) r)
-        → (fits_from s top t w ≡ true → word_after_or w (words_from s n (suc k) t) nothing ≡ or_else (bump s top w) nothing)
+        → (fits_from s top t w ≡ true → word_after_or w (words_from s n (suc k) t) nothing ≡ or_else (bump s top w)
+        nothing)
         → word_after_or (u ∷ w) (by_symbols s 0 t (words_from s n (suc k) t) ++ words_from s (suc n) k (suc t)) r
         ≡ or_else (bump s top (u ∷ w)) r
     go (less m) later within =
@@ -394,5 +399,6 @@ next_or s h (suc m) w r hs f = go (two m (length w)) (next_or s h m w)
         last_length (is_gt k) = absurd (omega arith)
 
 pub next_is :
-    (s h m : ℕ) (w : List Event) → 1 ≤ s → fits s h m w ≡ true → word_after w (words_up_to s h m) ≡ next_or_longer s h m w
+    (s h m : ℕ) (w : List Event) → 1 ≤ s → fits s h m w ≡ true
+    → word_after w (words_up_to s h m) ≡ next_or_longer s h m w
 next_is s h m w hs f = after_is w (words_up_to s h m) ∙ next_or s h m w nothing hs f

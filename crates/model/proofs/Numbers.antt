@@ -150,7 +150,8 @@ tables_numbers :
     (i : ℕ) (ts : List Tables) (m h : ℕ) → is_in (tables_refusal i ts m h).number share_numbers ≡ true
 tables_numbers i [] m h = refl
 tables_numbers i (t ∷ ts) m h =
-    one_then share_numbers (refuse (not (in_shape t)) 25 i) _ (one_refuse share_numbers (not (in_shape t)) 25 i refl refl)
+    one_then share_numbers (refuse (not (in_shape t)) 25 i) _ (one_refuse share_numbers (not (in_shape t)) 25 i refl
+    refl)
     (one_then share_numbers (refuse (ltb most_words (words_for t h m)) 43 i) _
     (one_refuse share_numbers (ltb most_words (words_for t h m)) 43 i refl refl)
     (tables_numbers (suc i) ts m h))

@@ -94,7 +94,8 @@ module _ (c : Config) (r : Rule) (d : ℕ) where
   start_leads vs l [] x'' h = elim x'' [ ]
   start_leads vs l (k ∷ ls) (here e) h = rw (← e, h)
   start_leads vs l (k ∷ ls) (there i) h =
-      or_right (leads_to vs 0 k (start_ages r)) (some_config (from_start vs) (start_configs r ls)) (start_leads vs l ls i h)
+      or_right (leads_to vs 0 k (start_ages r)) (some_config (from_start vs) (start_configs r ls))
+      (start_leads vs l ls i h)
 
   leads_start :
       (vs : List Event) (ls : List ℕ) → some_config (from_start vs) (start_configs r ls) ≡ true

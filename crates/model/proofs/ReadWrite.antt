@@ -135,7 +135,8 @@ ceiling_goes file bytes h =
 -- two files with one rule and one refusal are read alike
 read_alike :
     (f g edges : List ℕ) → (read_rule f).refused ≡ (read_rule g).refused → (read_rule f).rule_is ≡ (read_rule g).rule_is
-    → (reading_of (read_refusal f edges) (read_rule f).rule_is ≡ reading_of (read_refusal g edges) (read_rule g).rule_is)
+    → (reading_of (read_refusal f edges) (read_rule f).rule_is ≡ reading_of (read_refusal g edges)
+    (read_rule g).rule_is)
     × (edges_read f edges ≡ edges_read g edges)
 unfolding read_refusal
 read_alike f g edges p q = (rw (p, q), rw (p, q))

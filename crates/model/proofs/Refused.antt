@@ -66,8 +66,10 @@ rooms =
     ∷ []
 
 rooms_met : all_met rooms ≡ true
-unfolding cm pair_count record_refusal with_record at_end read_from read_rule code_of location_of bases_of start_row allows
-    row_resets target_of next_row by_intervals by_symbols rows_from rows_of row_room fit_refusal scratch_need table_refusal
+unfolding cm pair_count record_refusal with_record at_end read_from read_rule code_of location_of bases_of start_row
+    allows
+    row_resets target_of next_row by_intervals by_symbols rows_from rows_of row_room fit_refusal scratch_need
+    table_refusal
     worked_file worked second_locations second_records second_file second all_met rooms
 rooms_met = refl
 
@@ -90,14 +92,16 @@ needs_are = (refl, refl, refl, refl, refl, refl, refl)
 -- room for rows: 4,096, a third of the row table, or the cells over S · W, both rounded down; row 4,096 does not fit
 row_rooms : Type 0
 row_rooms =
-    (row_room worked 100000 100000 ≡ 4096) × (row_room worked 100000 12290 ≡ 4096) × (row_room worked 100000 12287 ≡ 4095)
+    (row_room worked 100000 100000 ≡ 4096) × (row_room worked 100000 12290 ≡ 4096) ×
+    (row_room worked 100000 12287 ≡ 4095)
     × (row_room worked 32775 100000 ≡ 4096)
     × (row_room worked 32767 100000 ≡ 4095)
     × (fit_refusal 4095 4096 0 0 ([] ∷ []) ≡ fine)
     × (fit_refusal 4095 4096 0 0 ([] ∷ [] ∷ []) ≡ refusal 23 0)
 
 row_rooms_are : row_rooms
-unfolding cm pair_count record_refusal with_record at_end read_from read_rule row_room fit_refusal worked_file worked row_rooms
+unfolding cm pair_count record_refusal with_record at_end read_from read_rule row_room fit_refusal worked_file worked
+    row_rooms
 row_rooms_are = (refl, refl, refl, refl, refl, refl, refl)
 
 -- 26: more configurations than room, before the first event and after the first and the second; equal ones are one
@@ -121,6 +125,7 @@ fulls =
     ∷ []
 
 fulls_met : all_met fulls ≡ true
-unfolding cm pair_count record_refusal with_record at_end read_from read_rule by_edges by_configs room_refusal_from room_refusal
+unfolding cm pair_count record_refusal with_record at_end read_from read_rule by_edges by_configs room_refusal_from
+    room_refusal
     worked_file worked second_locations second_records second_file second free_edge forks all_met fulls
 fulls_met = refl

@@ -64,7 +64,8 @@ cuts =
     ∷ []
 
 cuts_met : all_met cuts ≡ true
-unfolding cm pair_count record_refusal with_record at_end read_from read_rule worked_file all_met reads sized sizes location
+unfolding cm pair_count record_refusal with_record at_end read_from read_rule worked_file all_met reads sized sizes
+    location
     edge cuts
 cuts_met = refl
 
@@ -106,7 +107,8 @@ orders =
     ∷ []
 
 orders_met : all_met orders ≡ true
-unfolding cm pair_count record_refusal with_record at_end read_from read_rule all_met reads sized sizes location edge bare
+unfolding cm pair_count record_refusal with_record at_end read_from read_rule all_met reads sized sizes location edge
+    bare
     times orders
 orders_met = refl
 
@@ -164,7 +166,8 @@ ranges =
     ∷ []
 
 ranges_met : all_met ranges ≡ true
-unfolding cm pair_count record_refusal with_record at_end read_from read_rule all_met reads sized sizes location edge bare
+unfolding cm pair_count record_refusal with_record at_end read_from read_rule all_met reads sized sizes location edge
+    bare
     times ranges
 ranges_met = refl
 
@@ -260,6 +263,7 @@ groups =
     ∷ []
 
 groups_met : all_met groups ≡ true
-unfolding levels_past atoms_past groups_past cm pair_count record_refusal with_record at_end read_from read_rule all_met reads
+unfolding levels_past atoms_past groups_past cm pair_count record_refusal with_record at_end read_from read_rule
+    all_met reads
     sized sizes location edge times grouped inside groups
 groups_met = refl

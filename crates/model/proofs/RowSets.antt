@@ -212,7 +212,8 @@ module _ (r : Rule) (s i : ℕ) where
       ]
 
   -- where the guard of an allowed edge holds
-  pub guard_of_lem : (x : ℕ) (e : Edge) → allows r s i x e ≡ true → regions_hold (cm r) i (bases_of r x) (guard_of e) ≡ true
+  pub guard_of_lem : (x : ℕ) (e : Edge) → allows r s i x e ≡ true
+      → regions_hold (cm r) i (bases_of r x) (guard_of e) ≡ true
   unfolding allows
   guard_of_lem x e a =
       and_right (eqb e.source (location_of r x) && eqb e.symbol s)
@@ -252,7 +253,8 @@ starts_have : (r : Rule) (l : ℕ) (ls : List ℕ) → In l ls → In (code_of r
 starts_have r l [] x' = elim x' [ ]
 starts_have r l (k ∷ ls) (here h) = rw (← h) (with_code_has (code_of r l (start_bases r)) (start_codes r ls))
 starts_have r l (k ∷ ls) (there h) =
-    with_code_keeps (code_of r k (start_bases r)) (code_of r l (start_bases r)) (start_codes r ls) (starts_have r l ls h)
+    with_code_keeps (code_of r k (start_bases r)) (code_of r l (start_bases r)) (start_codes r ls)
+    (starts_have r l ls h)
 
 starts_of : (r : Rule) (x : ℕ) (ls : List ℕ) → In x (start_codes r ls) → Some (λ l. x ≡ code_of r l (start_bases r)) ls
 starts_of r x [] h = not_in_nil h

@@ -123,12 +123,14 @@ stays_or_resets =
 -- "above cm" is above it at every interval, and a base brought forward is cut there: codes 2 and 5 have base 2, cm is 1
 aboves : Type 0
 aboves =
-    (next_row worked 1 0 (5 ∷ []) ≡ 2 ∷ []) × (next_row worked 1 3 (5 ∷ []) ≡ 2 ∷ []) × (next_row worked 0 2 (2 ∷ []) ≡ [])
+    (next_row worked 1 0 (5 ∷ []) ≡ 2 ∷ []) × (next_row worked 1 3 (5 ∷ []) ≡ 2 ∷ []) ×
+    (next_row worked 0 2 (2 ∷ []) ≡ [])
     × (next_row worked 0 0 (1 ∷ []) ≡ 3 ∷ [])
     × (next_row stays_or_resets 0 2 (0 ∷ 2 ∷ []) ≡ 1 ∷ 2 ∷ 3 ∷ [])
 
 aboves_are : aboves
-unfolding cm pair_count record_refusal with_record at_end read_from read_rule code_of location_of bases_of allows row_resets
+unfolding cm pair_count record_refusal with_record at_end read_from read_rule code_of location_of bases_of allows
+    row_resets
     target_of next_row worked_file worked free_edge stays_or_resets aboves
 aboves_are = (refl, refl, refl, refl, refl)
 
@@ -143,6 +145,7 @@ walks_all =
     × (walks worked 2 (events_of (0 ∷ 1 ∷ 0 ∷ 1 ∷ []) (2 ∷ 5 ∷ 7 ∷ 9 ∷ [])) ≡ false)
 
 walks_are : walks_all
-unfolding cm pair_count record_refusal with_record at_end read_from read_rule code_of location_of bases_of start_row allows
+unfolding cm pair_count record_refusal with_record at_end read_from read_rule code_of location_of bases_of start_row
+    allows
     row_resets target_of next_row holds_final walks_from walks worked_file worked third seventh walks_all
 walks_are = (refl, refl, refl, refl, refl, refl, refl, refl)

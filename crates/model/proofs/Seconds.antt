@@ -130,7 +130,8 @@ half_plus d k a hd = go (parts d a hd)
 pub half_less : (d t k : ℕ) → 1 ≤ d → k * d ≤ t → half_seconds d (t - k * d) ≡ half_seconds d t - 2 * k
 half_less d t k hd h =
     let e : t ≡ k * d + (t - k * d) = omega arith in
-    let f : half_seconds d t ≡ 2 * k + half_seconds d (t - k * d) = ap (half_seconds d) e ∙ half_plus d k (t - k * d) hd in
+    let f : half_seconds d t ≡ 2 * k + half_seconds d (t - k * d) = ap (half_seconds d) e
+    ∙ half_plus d k (t - k * d) hd in
     omega (arith, f)
 
 -- an even number of half seconds is a whole number of seconds

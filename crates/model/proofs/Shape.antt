@@ -16,7 +16,8 @@ use Rattle.model.specs.Rules.{Rule, cm, pair_count, most_pairs, sizes_ok}
 use Rattle.model.specs.Construction.{width, next_row, row_resets, number_of, rows_of, most_rows, cell_of, holds_final}
 use Rattle.model.specs.Tables.{Tables, row_width, row_verdict, cells_from, symbol_cells, cell_numbers, row_numbers}
 use Rattle.model.specs.Tables.{pool_numbers, built_by, tables_by, tables_of}
-use Rattle.model.specs.Walks.{built_pairs, built_sizes_ok, cell_need, long_enough, rows_chain, cell_ok, cells_ok, in_shape}
+use Rattle.model.specs.Walks.{built_pairs, built_sizes_ok, cell_need, long_enough, rows_chain, cell_ok, cells_ok}
+use Rattle.model.specs.Walks.{in_shape}
 use Rattle.model.specs.Walks.{codes_say, row_codes, verdicts_ok}
 use Rattle.model.specs.Demands.{BuiltInShape}
 use Rattle.model.proofs.Logic.{and_left, and_right, and_both, or_right, in_within, remainder_is, In, here, there}
@@ -222,7 +223,8 @@ shape_by r rows c n p v some few closed below =
     (and_both (sizes && long && chain) codes
     (and_both (sizes && long) chain
     (and_both sizes long (built_sizes r rows v some few) (long_enough_lem r rows c n p))
-    (rows_chain_lem (holds_final r) 0 b.total rows (zeros (n - length (row_numbers (holds_final r) 0 rows))) (omega arith)))
+    (rows_chain_lem (holds_final r) 0 b.total rows (zeros (n - length (row_numbers (holds_final r) 0 rows)))
+    (omega arith)))
     (rw front (below_test (pair_count r) (pool_numbers rows) (pool_below (pair_count r) rows below))))
     (rw whole (rw z at (rows_cells r rows 0 rows (cell_ok_lem r rows v closed)))))
     (verdicts_ok_lem r rows c n p v (length rows) 0 (omega arith))

@@ -172,34 +172,35 @@ pub record CellAsked (b : Built) (cells : List ℕ) (row symbol interval n w : �
   pub symbols_are : n ≡ b.symbols
   pub width_is : w ≡ built_width b
 
-module _ {b : Built} {cells : List ℕ} {row symbol interval n w : ℕ} (k : CellAsked b cells row symbol interval n w) where
-  line_is : row * n + symbol ≡ row * b.symbols + symbol
-  line_is = ap (λ (z : ℕ). row * z + symbol) k.symbols_are
+module _ {b : Built} {cells : List ℕ} {row symbol interval n w : ℕ} (k : CellAsked b cells row symbol interval n w)
+  where
+    line_is : row * n + symbol ≡ row * b.symbols + symbol
+    line_is = ap (λ (z : ℕ). row * z + symbol) k.symbols_are
 
-  pub line_most : row * n + symbol ≤ most_rows * most_symbols
-  line_most =
-      omega (
-        arith,
-        line_is,
-        digits_lt {q = row} {m = b.rows} {r = symbol} {c = b.symbols} k.row_in k.symbol_in,
-        mul-le-mul k.rows_most k.symbols_most,
-      )
+    pub line_most : row * n + symbol ≤ most_rows * most_symbols
+    line_most =
+        omega (
+          arith,
+          line_is,
+          digits_lt {q = row} {m = b.rows} {r = symbol} {c = b.symbols} k.row_in k.symbol_in,
+          mul-le-mul k.rows_most k.symbols_most,
+        )
 
-  place_is : (row * n + symbol) * w + interval ≡ cell_place b row symbol interval
-  place_is = ap₂ (λ (z v : ℕ). z * v + interval) line_is k.width_is
+    place_is : (row * n + symbol) * w + interval ≡ cell_place b row symbol interval
+    place_is = ap₂ (λ (z v : ℕ). z * v + interval) line_is k.width_is
 
-  pub place_in : (row * n + symbol) * w + interval < length cells
-  place_in =
-      let p : cell_place b row symbol interval < cell_need b =
-      place_below row symbol interval b.rows b.symbols (built_width b) k.row_in k.symbol_in
-      k.interval_in in
-      subst (λ (z : ℕ). z < length cells) (sym place_is) (omega (arith, p, k.cells_long))
+    pub place_in : (row * n + symbol) * w + interval < length cells
+    place_in =
+        let p : cell_place b row symbol interval < cell_need b =
+        place_below row symbol interval b.rows b.symbols (built_width b) k.row_in k.symbol_in
+        k.interval_in in
+        subst (λ (z : ℕ). z < length cells) (sym place_is) (omega (arith, p, k.cells_long))
 
-  -- the cell as it was read there
-  pub cell_is :
-      {cell : ℕ} → cell ≡ get_or cells ((row * n + symbol) * w + interval) 0
-      → cell ≡ get_or cells (cell_place b row symbol interval) 0
-  cell_is r = r ∙ ap (λ (z : ℕ). get_or cells z 0) place_is
+    -- the cell as it was read there
+    pub cell_is :
+        {cell : ℕ} → cell ≡ get_or cells ((row * n + symbol) * w + interval) 0
+        → cell ≡ get_or cells (cell_place b row symbol interval) 0
+    cell_is r = r ∙ ap (λ (z : ℕ). get_or cells z 0) place_is
 
 remainder_of : (q w i : ℕ) → i < w → remainder (0 + (q * w + i)) w ≡ i
 remainder_of q w i h =

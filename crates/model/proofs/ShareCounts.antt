@@ -16,7 +16,8 @@ use Rattle.model.specs.Tables.{Tables}
 use Rattle.model.specs.Lists.{most_listed_events, list_grain, top_stamp, stamp_count, behind, words_from, words_of}
 use Rattle.model.specs.Lists.{words_up_to, count_if, fits_from, fits}
 use Rattle.model.specs.Inclusion.{keeps_any}
-use Rattle.model.specs.Shares.{out_of, accepted_of, out_of_all, accepted_of_all, share_width, share, shares_from, line_by}
+use Rattle.model.specs.Shares.{out_of, accepted_of, out_of_all, accepted_of_all, share_width, share, shares_from}
+use Rattle.model.specs.Shares.{line_by}
 use Rattle.model.specs.Shares.{table_says, rule_says, line_of, rule_line, SameParts}
 use Rattle.model.specs.Claims.{times, AsBuilt}
 use Rattle.model.proofs.Logic.{by_test, and_right, is_one, In, here, there}
@@ -29,7 +30,8 @@ use Rattle.model.proofs.SameParts.{accepts_same}
 
 -- One law for each way to put words together, beside count-both.
 pub count_behind :
-    (p : List Event → Bool) (v : Event) (ws : List (List Event)) → count_if p (behind v ws) ≡ count_if (λ w. p (v ∷ w)) ws
+    (p : List Event → Bool) (v : Event) (ws : List (List Event))
+    → count_if p (behind v ws) ≡ count_if (λ w. p (v ∷ w)) ws
 unfolding count_if
 count_behind p v [] = refl
 count_behind p v (w ∷ ws) = ap (λ (k : ℕ). one_if (p (v ∷ w)) + k) (count_behind p v ws)
@@ -114,7 +116,8 @@ listed_keep s h m w i =
     (and_right (leb (length w) m) (fits_from s (top_stamp h) 0 w) (is_one (fits s h m w) k))
 
 -- Two tests that say the same of words that keep the rules have one line.
-module _ (p q : List Event → Bool) (s : ℕ) (agree : (w : List Event) → keeps_any s list_grain w ≡ true → p w ≡ q w) where
+module _ (p q : List Event → Bool) (s : ℕ) (agree : (w : List Event) → keeps_any s list_grain w ≡ true
+    → p w ≡ q w) where
   pub accepted_same : (h n : ℕ) → accepted_of p s h n ≡ accepted_of q s h n
   unfolding accepted_of
   accepted_same h n = count_same p q (words_of s h n) (λ w i. agree w (words_keep s h n w i))

@@ -62,7 +62,8 @@ lines_are :
     ++ (none_of_one
     ++ (none_of_one ++ (none_of_one ++ (none_of_one ++ (none_of_one ++ (1 ∷ 7 ∷ 1 ∷ 7 ∷ []))))))))
     × (line_of empty_alone 0 30 ≡ (1 ∷ 1 ∷ 1 ∷ 1 ∷ []) ++ (zeros 24 ++ (1 ∷ 1 ∷ 1 ∷ 1 ∷ [])))
-unfolding line_by accepted_of accepted_of_all words_up_to words_from count_if common_up_to table_accepts step_all step verdict
+unfolding line_by accepted_of accepted_of_all words_up_to words_from count_if common_up_to table_accepts step_all step
+    verdict
     empty_alone none_of_one
 lines_are = (refl, refl)
 
@@ -121,7 +122,8 @@ shares_in_all :
     × (words_for worked_tables 4 2 ≡ 199)
     × (accepted_by every_word 2 1 ≡ 11)
     × (words_for every_word 2 1 ≡ 11)
-unfolding accepted_of_all words_up_to words_from count_if table_accepts step_all step verdict worked_tables plain nothing_else
+unfolding accepted_of_all words_up_to words_from count_if table_accepts step_all step verdict worked_tables plain
+    nothing_else
     empty_alone every_word no_word
 shares_in_all = (refl, refl, refl, refl, refl, refl, refl, refl, refl, refl, refl)
 
@@ -145,7 +147,8 @@ greatest_are :
     × (greatest_of (no_word ∷ nothing_else ∷ nothing_else ∷ []) 1 0 ≡ 2)
     × (greatest_of (no_word ∷ []) 2 2 ≡ 1)
     × (greatest_of [] 2 2 ≡ 0)
-unfolding greatest_of accepted_of_all words_up_to words_from count_if table_accepts step_all step verdict worked_tables plain
+unfolding greatest_of accepted_of_all words_up_to words_from count_if table_accepts step_all step verdict worked_tables
+    plain
     nothing_else empty_alone every_word no_word
 greatest_are = (refl, refl, refl, refl, refl, refl, refl, refl, refl, refl, refl, refl, refl, refl, refl, refl, refl)
 
@@ -231,7 +234,8 @@ refusals =
     ∷ []
 
 refusals_met : all_met refusals ≡ true
-unfolding in_shape shares_refusal words_up_to words_from worked_tables plain nothing_else both_cells both_rows both_pools
+unfolding in_shape shares_refusal words_up_to words_from worked_tables plain nothing_else both_cells both_rows
+    both_pools
     batch lent sixteen all_met refusals
 refusals_met = refl
 
@@ -248,7 +252,8 @@ list_total s h (suc m) =
     ∙ ap₂ ◌+◌ (list_total s h m) (words_counted s (suc m) (top_stamp h) 0)
 
 totals_are :
-    (out_of_all 2 4 2 ≡ 199) × (out_of_all 16 30 2 ≡ 485073) × (out_of_all 16 0 4 ≡ 69905) × (out_of_all 16 0 5 ≡ 1118481)
+    (out_of_all 2 4 2 ≡ 199) × (out_of_all 16 30 2 ≡ 485073) × (out_of_all 16 0 4 ≡ 69905) ×
+    (out_of_all 16 0 5 ≡ 1118481)
     × (out_of_all 1 0 5 ≡ 6)
     × (out_of_all 2 6 6 ≡ 1419263)
     × (out_of_all 1 6 6 ≡ 27132)
@@ -314,7 +319,8 @@ whole_answers :
     (answers 25 2 0 (zeros 512))
     × CountsShares (batch 0 (worked_tables.built ∷ [])) both_cells both_rows both_pools 1 0
     (answers 40 0 0 (zeros 512))
-unfolding in_shape shares_refusal greatest_of line_by accepted_of accepted_of_all words_up_to words_from count_if common_up_to
+unfolding in_shape shares_refusal greatest_of line_by accepted_of accepted_of_all words_up_to words_from count_if
+    common_up_to
     table_accepts step_all step verdict worked_tables nothing_else every_word both_cells both_rows both_pools batch
     answers one_of_three all_of_three
 whole_answers = (

@@ -66,7 +66,12 @@ line_at (t ∷ ts) m h rest (suc i) few l =
     let line : List ℕ = line_of t m h in
     let places : line_width * suc i ≡ length line + line_width * i =
     omega (arith, line_length (table_says t) t.built.symbols m h few) in
-    rw (places, append_assoc line (lines_of ts m h) rest, drop-append-add line (lines_of ts m h ++ rest) (line_width * i))
+    rw (
+      places,
+      append_assoc line (lines_of ts m h) rest,
+      drop-append-add line (lines_of ts m h ++ rest)
+          (line_width * i),
+    )
     (line_at ts m h rest i few (omega arith))
 
 -- What is counted has passed 38.

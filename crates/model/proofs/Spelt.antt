@@ -94,7 +94,8 @@ read_back m =
 atoms_open : (level : ℕ) (t : List ℕ) → atoms_past 0 (open_mark level ∷ t) ≡ atoms_past 0 t
 atoms_open level t = atoms_mark (open_mark level) t ∙ rw (no_atom_mark level)
 
-atoms_spelt : (level : ℕ) (m : Members) (t : List ℕ) → atoms_past 0 (spelt level m ++ t) ≡ atoms_within m ++ atoms_past 0 t
+atoms_spelt : (level : ℕ) (m : Members) (t : List ℕ) → atoms_past 0 (spelt level m ++ t) ≡ atoms_within m ++ atoms_past
+    0 t
 unfolding atoms_past
 atoms_spelt level end t = refl
 atoms_spelt level (atom a m) t = ap (λ (l : List Atom). a ∷ l) (atoms_spelt level m t)
@@ -229,7 +230,8 @@ of_allowed level groups atoms (group g m) t p =
     let atoms_left :
     atoms - length (atoms_within g ++ atoms_within m) ≡ atoms - length (atoms_within g) - length (atoms_within m) =
     omega (arith, count) in
-    let behind_is : groups_past 0 level (groups - 1 - groups_in g) (atoms - length (atoms_within g)) behind_group ≡ true =
+    let behind_is : groups_past 0 level (groups - 1 - groups_in g) (atoms - length (atoms_within g)) behind_group
+    ≡ true =
     of_allowed level (groups - 1 - groups_in g) (atoms - length (atoms_within g)) m t
     (record {
       levels_most = omega (arith, p.levels_most, larger_right (levels_in g + 1) (levels_in m));
@@ -265,7 +267,8 @@ of_allowed level groups atoms (group g m) t p =
 rules_kept :
     (m : Members)
     → groups_ok (spelt 0 m)
-    ≡ (leb (levels_in m) most_levels && leb (groups_in m) most_groups && leb (length (atoms_within m)) most_grouped_atoms)
+    ≡ (leb (levels_in m) most_levels && leb (groups_in m) most_groups && leb (length (atoms_within m))
+    most_grouped_atoms)
 unfolding groups_past
 rules_kept m =
     let a : Bool = leb (levels_in m) most_levels in

@@ -11,7 +11,8 @@ use borrow.Author.Tests.{ltb-false, lt-ltb, le-ltb, le-leb, lt-leb}
 use Rattle.model.specs.Basics.{lesser, quotient, Refusal, refusal, fine, refuse}
 use Rattle.model.specs.Rules.{Rule, pair_count}
 use Rattle.model.specs.Construction.{width, rows_of, most_rows}
-use Rattle.model.specs.Tables.{row_width, pool_numbers, row_room, fit_refusal, scratch_bits, scratch_need, table_refusal}
+use Rattle.model.specs.Tables.{row_width, pool_numbers, row_room, fit_refusal, scratch_bits, scratch_need}
+use Rattle.model.specs.Tables.{table_refusal}
 use Rattle.model.proofs.Logic.{Two, two, less, least, lesser_left, lesser_right}
 use Rattle.model.proofs.Discovery.{Closed, discovered}
 use Rattle.model.proofs.Refusals.{refused_false, first_passes, then_passes}

@@ -62,7 +62,8 @@ builds_untouched =
     × leaves_all 5 wide_head 21844 1 24 9 2 22
 
 builds_untouched_are : builds_untouched
-unfolding mask_of bits_from cm pair_count rule_in code_of location_of bases_of start_row allows row_resets target_of next_row
+unfolding mask_of bits_from cm pair_count rule_in code_of location_of bases_of start_row allows row_resets target_of
+    next_row
     by_intervals by_symbols rows_from rows_of row_room fit_refusal scratch_need table_refusal building leaves_all
     wide_head builds_untouched
 builds_untouched_are = (
@@ -81,7 +82,8 @@ builds_zeroed =
     × leaves_all 0 worked_head 21844 1 24 9 1 24
 
 builds_zeroed_are : builds_zeroed
-unfolding mask_of bits_from cm pair_count rule_in code_of location_of bases_of start_row allows row_resets target_of next_row
+unfolding mask_of bits_from cm pair_count rule_in code_of location_of bases_of start_row allows row_resets target_of
+    next_row
     by_intervals by_symbols rows_from rows_of row_room fit_refusal scratch_need table_refusal building leaves_all
     builds_zeroed
 builds_zeroed_are = (
@@ -99,7 +101,9 @@ builds_filled :
     (replicate 3 5)
     (worked_tables.pool ++ (0 ∷ []))
     (building 0 worked_tables.built)
-unfolding mask_of bits_from cm pair_count rule_in code_of location_of bases_of start_row allows row_resets target_of next_row
-    by_intervals by_symbols rows_from rows_of cell_of holds_final row_room fit_refusal built_of tables_by tables_of scratch_need
+unfolding mask_of bits_from cm pair_count rule_in code_of location_of bases_of start_row allows row_resets target_of
+    next_row
+    by_intervals by_symbols rows_from rows_of cell_of holds_final row_room fit_refusal built_of tables_by tables_of
+    scratch_need
     table_refusal worked_tables building
 builds_filled = built_as fine worked_passes refl refl refl refl refl refl

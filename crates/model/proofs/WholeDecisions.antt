@@ -49,8 +49,10 @@ refused =
     × decides_all 0 worked_file (replicate 22016 5) (worked_edges 21844) 1 24 9 1 0 (answer 24 0 0)
 
 refused_are : refused
-unfolding mask_of cm pair_count record_refusal with_record at_end read_from read_rule edges_numbers edge_table code_of location_of
-    bases_of start_row allows row_resets target_of next_row by_intervals by_symbols rows_from rows_of row_room fit_refusal
+unfolding mask_of cm pair_count record_refusal with_record at_end read_from read_rule edges_numbers edge_table code_of
+    location_of
+    bases_of start_row allows row_resets target_of next_row by_intervals by_symbols rows_from rows_of row_room
+    fit_refusal
     scratch_need table_refusal read_refusal roomed_refusal decide_refusal worked_file wide_file answer decides_all
     refused
 refused_are = (
@@ -126,8 +128,10 @@ built =
     × decides_built 2 (0 ∷ 1 ∷ []) (2 ∷ 3 ∷ []) (answer 0 0 0)
 
 built_are : built
-unfolding mask_of cm pair_count record_refusal with_record at_end read_from read_rule edges_numbers edge_table word_refusal
-    accepts_from accepts_from_some accepts code_of location_of bases_of start_row allows row_resets target_of next_row by_intervals
+unfolding mask_of cm pair_count record_refusal with_record at_end read_from read_rule edges_numbers edge_table
+    word_refusal
+    accepts_from accepts_from_some accepts code_of location_of bases_of start_row allows row_resets target_of next_row
+    by_intervals
     by_symbols rows_from rows_of cell_of holds_final tables_by tables_of row_room fit_refusal scratch_need table_refusal
     read_refusal roomed_refusal decide_refusal worked_file worked_tables answer decides_built built
 built_are = (

@@ -97,7 +97,8 @@ reads_untouched =
     × ReadsRule (0 ∷ []) (5 ∷ []) (5 ∷ []) (reading 20 0 zero_head)
 
 reads_untouched_are : reads_untouched
-unfolding mask_of cm pair_count record_refusal with_record at_end read_from read_rule edges_numbers edge_table read_refusal
+unfolding mask_of cm pair_count record_refusal with_record at_end read_from read_rule edges_numbers edge_table
+    read_refusal
     worked_file reading reads_untouched
 reads_untouched_are = (record { answer_is = refl; edges_are = refl }, record { answer_is = refl; edges_are = refl })
 
@@ -121,7 +122,8 @@ reads_zeroed =
     (reading 8 28 zero_head)
 
 reads_zeroed_are : reads_zeroed
-unfolding mask_of cm pair_count record_refusal with_record at_end read_from read_rule edges_numbers edge_table read_refusal
+unfolding mask_of cm pair_count record_refusal with_record at_end read_from read_rule edges_numbers edge_table
+    read_refusal
     worked_file eight_atoms widest_with reading reads_zeroed
 reads_zeroed_are = (
   record { answer_is = refl; edges_are = refl },
@@ -147,7 +149,8 @@ reads_filled =
     × ReadsRule mixed_file (replicate 22016 5) mixed_edges (reading 0 0 mixed_head)
 
 reads_filled_are : reads_filled
-unfolding mask_of cm pair_count record_refusal with_record at_end read_from read_rule edges_numbers edge_table read_refusal
+unfolding mask_of cm pair_count record_refusal with_record at_end read_from read_rule edges_numbers edge_table
+    read_refusal
     worked_file second_locations second_records second_file second_less second_head second_edges sided_file sided_edges
     eight_atoms widest_with widest_file widest_head widest_edges mixed_text mixed_file mixed_head mixed_edge plain_edge
     mixed_edges levels_past atoms_past groups_past reading reads_filled
@@ -250,7 +253,8 @@ writes =
     × WritesRule mixed_head mixed_edges (replicate 73 9) (mixed_file ++ (9 ∷ [])) (answer 0 72)
 
 writes_are : writes
-unfolding mask_of bits_from cm pair_count valid_rule edges_numbers edge_table rule_in is_readable rule_refusal edge_records
+unfolding mask_of bits_from cm pair_count valid_rule edges_numbers edge_table rule_in is_readable rule_refusal
+    edge_records
     file_with rule_bytes write_refusal worked_file second_locations second_records second_less second_head second_edges
     eight_atoms widest_with widest_file widest_head widest_edges mixed_text mixed_file mixed_head mixed_edge plain_edge
     mixed_edges levels_past atoms_past groups_past answer writes

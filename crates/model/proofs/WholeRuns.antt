@@ -95,7 +95,8 @@ exacts_zeroed =
     × forked 1 (0 ∷ 0 ∷ []) (0 ∷ 0 ∷ []) 7 (answer 0 0 0)
 
 exacts_zeroed_are : exacts_zeroed
-unfolding mask_of bits_from edges_numbers edge_table rule_in word_refusal accepts_from accepts_from_some accepts by_edges
+unfolding mask_of bits_from edges_numbers edge_table rule_in word_refusal accepts_from accepts_from_some accepts
+    by_edges
     by_configs room_refusal_from room_refusal answer exact free_edge forks forked exacts_zeroed
 exacts_zeroed_are = (
   run_as fine worked_passes refl refl refl,
@@ -160,7 +161,8 @@ branches =
     (run_by (replicate 11 2 ++ (3 ∷ [])))
 
 branches_are : branches
-unfolding mask_of bits_from edges_numbers edge_table rule_in word_refusal accepts_from accepts_from_some accepts least_from
+unfolding mask_of bits_from edges_numbers edge_table rule_in word_refusal accepts_from accepts_from_some accepts
+    least_from
     least_start least_run held_back branch held_at run_by free_edge forks branches
 branches_are = (
   branch_as both_refused refl,

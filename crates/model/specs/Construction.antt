@@ -1,5 +1,6 @@
 -- The deterministic one-clock construction (document 000, section 3.2): sets of pairs of a location and bases.
-use Rattle.std.specs.Prelude.{Bool, true, false, ◌&&◌, ◌||◌, List, [], ◌∷◌, ◌++◌, ℕ, zero, suc, ◌+◌, ◌-◌, ◌*◌, ◌/◌, ◌^◌, eqb, ltb, leb, length, get_or}
+use Rattle.std.specs.Prelude.{Bool, true, false, ◌&&◌, ◌||◌, List, [], ◌∷◌, ◌++◌, ℕ, zero, suc, ◌+◌, ◌-◌, ◌*◌, ◌/◌, ◌^◌}
+use Rattle.std.specs.Prelude.{eqb, ltb, leb, length, get_or}
 use Rattle.model.specs.Basics.{pick, one_if, is_in, same, zeros, quotient, remainder}
 use Rattle.model.specs.Texts.{Members}
 use Rattle.model.specs.Rules.{Edge, Rule, guard_of, cm, base_count}

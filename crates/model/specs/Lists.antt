@@ -1,5 +1,6 @@
 -- All words up to a size, in order, D being 2: their stamps are half seconds (2.6).
-use Rattle.std.specs.Prelude.{Bool, true, false, ◌&&◌, not, List, [], ◌∷◌, ◌++◌, ℕ, zero, suc, ◌+◌, ◌*◌, eqb, ltb, leb, length, take}
+use Rattle.std.specs.Prelude.{Bool, true, false, ◌&&◌, not, List, [], ◌∷◌, ◌++◌, ℕ, zero, suc, ◌+◌, ◌*◌, eqb, ltb, leb}
+use Rattle.std.specs.Prelude.{length, take}
 use Rattle.model.specs.declared.Size.{Size}
 use Rattle.model.specs.declared.Listed.{Listed}
 use Rattle.model.specs.Basics.{one_if, within, same, filled, Refusal, refuse, ◌⨾◌}

@@ -63,7 +63,8 @@ reading_of f r = record { number = f.number; place = f.place; head = pick (passe
 abbrev pub edges_read : List ℕ → List ℕ → List ℕ
 edges_read file edges =
     pick (too_short edges) edges
-    (pick (passes (read_refusal file edges)) (edge_table (length edges) (read_rule file).rule_is) (zeros (length edges)))
+    (pick (passes (read_refusal file edges)) (edge_table (length edges) (read_rule file).rule_is)
+    (zeros (length edges)))
 
 pub record ReadsRule (file edges edges' : List ℕ) (answer : Reading) : Type 0 where
   pub answer_is : answer ≡ reading_of (read_refusal file edges) (read_rule file).rule_is

@@ -1,5 +1,6 @@
 -- Runs over a word, ages exact in D-ths of a second (document 000, section 2).
-use Rattle.std.specs.Prelude.{Bool, true, false, ◌&&◌, ◌||◌, List, [], ◌∷◌, ◌++◌, ℕ, suc, ◌-◌, ◌+◌, eqb, ltb, length, get_or}
+use Rattle.std.specs.Prelude.{Bool, true, false, ◌&&◌, ◌||◌, List, [], ◌∷◌, ◌++◌, ℕ, suc, ◌-◌, ◌+◌, eqb, ltb, length}
+use Rattle.std.specs.Prelude.{get_or}
 use Rattle.model.specs.Basics.{pick, is_in, same, zeros, bit, Refusal, refusal, refuse}
 use Rattle.model.specs.Texts.{Members}
 use Rattle.model.specs.Rules.{Edge, Rule, guard_of}

@@ -1,6 +1,7 @@
 -- How much of the list a rule allows (2.7): which words of the list are accepted, their share in lowest terms, by
 -- length and in all; a batch of tables, and which of them has the greatest share (40, 38, 25, 43).
-use Rattle.std.specs.Prelude.{◌≡◌, Bool, true, false, ◌&&◌, not, List, [], ◌∷◌, ◌++◌, ℕ, zero, suc, ◌*◌, eqb, ltb, length, get_or, take, drop}
+use Rattle.std.specs.Prelude.{◌≡◌, Bool, true, false, ◌&&◌, not, List, [], ◌∷◌, ◌++◌, ℕ, zero, suc, ◌*◌, eqb, ltb}
+use Rattle.std.specs.Prelude.{length, get_or, take, drop}
 use Rattle.model.specs.declared.Built.{Built}
 use Rattle.model.specs.declared.Batch.{Batch}
 use Rattle.model.specs.declared.Shares.{Shares}

@@ -1,5 +1,6 @@
 -- What an edge's text spells (2.9): atoms, groups of atoms, and the rules that groups keep.
-use Rattle.std.specs.Prelude.{Bool, true, false, ◌&&◌, ◌||◌, List, [], ◌∷◌, ℕ, zero, suc, ◌+◌, ◌-◌, ◌%◌, eqb, ltb, leb, get_or}
+use Rattle.std.specs.Prelude.{Bool, true, false, ◌&&◌, ◌||◌, List, [], ◌∷◌, ℕ, zero, suc, ◌+◌, ◌-◌, ◌%◌, eqb, ltb, leb}
+use Rattle.std.specs.Prelude.{get_or}
 
 -- an atom of a guard: a clock, a relation by its code, a whole constant
 pub record Atom : Type 0 where

@@ -7,7 +7,8 @@ use native.Mathlib.Omega.{arith}
 use native.Mathlib.Numerals.{add-one}
 use lib.ListN.{length, get_or, drop, drop_of_length-le}
 use borrow.Author.Tests.{ne_eqb}
-use Rattle.model.specs.Texts.{Atom, atom_at, Members, end, outer, first, rest, with_atom, with_group, levels_past, levels}
+use Rattle.model.specs.Texts.{Atom, atom_at, Members, end, outer, first, rest, with_atom, with_group, levels_past}
+use Rattle.model.specs.Texts.{levels}
 use Rattle.model.specs.Texts.{members_in, opens_group}
 use Rattle.model.proofs.Texts.{levels_mark}
 use Rattle.texts.specs.Atoms.{NextAtom}

@@ -22,7 +22,8 @@ module _
     {A : Type 0} {value : List Atom → A} {text : List ℕ} {at : ℕ} {all : A} (inv : PlainLeft value text at all)
   where
     -- the atom here, and those behind it
-    pub plain_at : atom_width ≤ length text - at → value (atom_at at text ∷ plain_atoms (drop (at + atom_width) text)) ≡ all
+    pub plain_at : atom_width ≤ length text - at → value (atom_at at text ∷ plain_atoms (drop (at + atom_width) text))
+        ≡ all
     plain_at h = sym (ap value (plain_front text at h)) ∙ inv.rest_is
 
     pub plain_first : atom_width ≤ length text - at → First value text at all

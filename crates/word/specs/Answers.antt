@@ -11,7 +11,8 @@ events_answer s xs ts = answer_of (events_refusal s 1 0 (events_of xs ts)) 0
 -- Events passed, the last stamp among them: what is still to be found is what is found in all.
 pub record Passed (s : ℕ) (xs ts : List ℕ) (i last : ℕ) : Type 0 where
   pub turns : i ≤ length xs
-  pub rest_is : events_refusal s (i + 1) last (events_of (drop i xs) (drop i ts)) ≡ events_refusal s 1 0 (events_of xs ts)
+  pub rest_is : events_refusal s (i + 1) last (events_of (drop i xs) (drop i ts)) ≡ events_refusal s 1 0
+      (events_of xs ts)
 
 -- The event after these, if there is one, is bad.
 pub record StopsAt (s : ℕ) (xs ts : List ℕ) (i : ℕ) : Type 0 where

@@ -23,7 +23,8 @@ loop-at-preserved c =
       | then-most-constant w ↦
           largest_next l.most l.invariant _ k _ h known (w.most-is ∙ larger_less l.most k w.if-most-constant.true) found
       | else-most-constant w ↦
-          largest_next l.most l.invariant _ k _ h known (w.most-is ∙ larger_least l.most k w.if-most-constant.false) found
+          largest_next l.most l.invariant _ k _ h known (w.most-is ∙ larger_least l.most k w.if-most-constant.false)
+          found
     ]
 
 pub returns : goal.returns

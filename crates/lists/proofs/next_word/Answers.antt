@@ -18,7 +18,10 @@ returns-then-not-in_list c =
     let a = c.args in
     let size_is = is_true c.size_ok.ensures c.if-not-size_ok.false in
     let word_is = own_listed a.size a.word c.wide32-count.ensures.0 c.in_list.ensures in
-    record { answer_is = c.answer-then-not-in_list.ensures ∙ word_refused _ _ size_is (is_false word_is c.if-not-in_list.true) }
+    record {
+      answer_is = c.answer-then-not-in_list.ensures
+          ∙ word_refused _ _ size_is (is_false word_is c.if-not-in_list.true);
+    }
 
 pub raisable-up_to-requires : goal.raisable-up_to-requires
 raisable-up_to-requires c =

@@ -8,7 +8,8 @@ use Rattle.numbers.proofs.clear16.Given as goal
 
 abbrev pub invariant-loop-i : goal.invariant-loop-i
 invariant-loop-i l =
-    (l.i ≤ length l.initial.table) × (length l.table ≡ length l.initial.table) × (l.table ≡ zeros l.i ++ drop l.i l.initial.table)
+    (l.i ≤ length l.initial.table) × (length l.table ≡ length l.initial.table) ×
+    (l.table ≡ zeros l.i ++ drop l.i l.initial.table)
 
 abbrev pub decreases-loop-i : goal.decreases-loop-i
 decreases-loop-i l = length l.initial.table - l.i

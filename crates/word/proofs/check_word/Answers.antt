@@ -6,7 +6,8 @@ use Rattle.model.proofs.Flags.{is_false, is_true}
 use Rattle.word.proofs.Laws.{grain_refused, counts_differ, too_many, events_checked}
 use borrow.Author.Rules.{rules}
 use Rattle.word.proofs.check_word.Goals as goal
-use Rattle.word.proofs.check_word.Goals.{then-count-stamps-via-then-count-stamps, then-count-stamps-via-else-count-stamps+then-wide32-count}
+use Rattle.word.proofs.check_word.Goals.{then-count-stamps-via-then-count-stamps}
+use Rattle.word.proofs.check_word.Goals.{then-count-stamps-via-else-count-stamps+then-wide32-count}
 
 pub returns-then-not-grain_ok : goal.returns-then-not-grain_ok
 returns-then-not-grain_ok c =
@@ -17,8 +18,10 @@ pub returns-then-count-stamps : goal.returns-then-count-stamps
 returns-then-count-stamps c =
     let grain = is_true c.grain_ok.ensures c.if-not-grain_ok.false in
     elim c.then-count-stamps.branch [
-      | then-count-stamps-via-then-count-stamps w ↦ record { answer_is = counts_differ _ _ _ _ _ grain w.if-count-stamps.true }
-      | then-count-stamps-via-else-count-stamps+then-wide32-count w ↦ record { answer_is = too_many _ _ _ _ _ grain (omega arith) }
+      | then-count-stamps-via-then-count-stamps w ↦
+          record { answer_is = counts_differ _ _ _ _ _ grain w.if-count-stamps.true }
+      | then-count-stamps-via-else-count-stamps+then-wide32-count w ↦
+          record { answer_is = too_many _ _ _ _ _ grain (omega arith) }
     ]
 
 pub returns : goal.returns
