@@ -163,8 +163,8 @@ module _
               get_or-set_other stamps left m (get_or stamps left 0 + 1) 0 (λ r. absurd (omega (arith, r, o)))
               ∙ w.zero_below m o;
           path =
-              earlier (get_or symbols left 0) (drop (suc left) symbols) (get_or stamps left 0) (drop (suc left) stamps) x d
-              d' q.j (ap (low s) i) q.state_is;
+              earlier (get_or symbols left 0) (drop (suc left) symbols) (get_or stamps left 0) (drop (suc left) stamps)
+              x d d' q.j (ap (low s) i) q.state_is;
           total = omega (arith, ap sum_of d', ap sum_of d, w.total, h);
           inside = w.inside;
           near = λ r. absurd (omega (arith, r, b));

@@ -63,7 +63,8 @@ following_start a b s last state mark x e l f u v w =
         next_is = v ∙ sym (k.waits_is (low s last) (l.states_below last (omega arith)));
         no_goal = o;
         mark_is =
-            let d : (high s (low s last) - 1) / ways ≡ z.level last % level_marks = z.level_mark_lem last (omega arith) in
+            let d : (high s (low s last) - 1) / ways ≡ z.level last % level_marks =
+            z.level_mark_lem last (omega arith) in
             let c : (high s state - 1) / ways ≡ (high s (low s last) - 1) / ways =
             ap (λ (y : ℕ). (high s y - 1) / ways) f in
             omega (arith, u, d, c);

@@ -2,24 +2,22 @@
 -- taken apart again.
 use mathlib.Core.Path.{◌≡◌, sym, ◌∙◌, ap, ap₂, subst}
 use mathlib.Core.Bool.{Bool, true, false, ◌&&◌, not}
-use mathlib.Core.List.{List, []}
+use mathlib.Core.List.{[]}
 use Prim.Native.Nat.{ℕ, ◌+◌, ◌*◌, ◌/◌, ◌%◌, ◌≤◌, ◌<◌}
 use native.Mathlib.Omega.{arith}
 use native.Mathlib.Nat.{mul-le-mul, div-lt_iff_lt-mul, mod-lt}
 use lib.Arith.{digits_lt, digits_div, digits_mod}
 use lib.Dec.{ltb}
-use lib.ListN.{length, get_or}
 use borrow.Author.Tests.{lt-ltb, le-ltb}
 use Rattle.model.specs.declared.Built.{Built}
-use Rattle.model.specs.Rules.{most_symbols, most_constant}
+use Rattle.model.specs.Rules.{most_constant}
 use Rattle.model.specs.Construction.{most_rows, interval_count, top_interval}
-use Rattle.model.specs.Walks.{built_width, cell_need, cell_place}
+use Rattle.model.specs.Walks.{built_width}
 use Rattle.model.specs.Inclusion.{state_count, joint_count}
 use Rattle.model.specs.JointStates.{State, state, start_state, waited, waits}
-use Rattle.model.proofs.ShapeCells.{place_below}
 use Rattle.inclusion.specs.declared.Joint.{Joint}
 use Rattle.inclusion.specs.Numbers.{state_number, state_of, packed, first_state, second_state}
-use Rattle.inclusion.specs.Numbers.{Sized, Celled, Inside, bare, first_in, second_in, Stands, Apart}
+use Rattle.inclusion.specs.Numbers.{Sized, Inside, bare, first_in, second_in, Stands, Apart}
 
 -- a state that a table has
 abbrev pub InState : Built → State → Type 0

@@ -79,7 +79,8 @@ marks_same [] k n h z m = refl
 marks_same (x ∷ xs) zero n h z m =
     let f : (x + n) / part ≡ x / part = omega arith in
     rw f
-marks_same (x ∷ xs) (suc k) n h z m = ap (λ (y : ℕ). one_if (eqb (x / part) 0) + y) (marks_same xs k n (omega arith) z m)
+marks_same (x ∷ xs) (suc k) n h z m =
+    ap (λ (y : ℕ). one_if (eqb (x / part) 0) + y) (marks_same xs k n (omega arith) z m)
 
 -- one place fewer is not marked: with tail + unmarked ≡ N kept, tail is below N wherever a state is not found
 unmarked_noted :

@@ -111,7 +111,8 @@ sums_fit m k [] h = refl
 sums_fit m k (p ∷ ps) h = rw (lt-ltb (k + p) m (omega (arith, h))) (sums_fit m (k + p) ps (omega (arith, h)))
 
 pub word_fits :
-    (xs ps : List ℕ) → length ps ≡ length xs → sum_of ps ≤ most_joint_states → stamps_fit (events_of xs (sums 0 ps)) ≡ true
+    (xs ps : List ℕ) → length ps ≡ length xs → sum_of ps ≤ most_joint_states
+    → stamps_fit (events_of xs (sums 0 ps)) ≡ true
 word_fits xs ps e h =
     ap (all_below (2 ^ 32)) (stamps_back xs (sums 0 ps) (sym e ∙ sym (sums_length 0 ps)))
     ∙ sums_fit (2 ^ 32) 0 ps (omega (arith, h))

@@ -59,7 +59,8 @@ pub data Next (g : Graph) (s : List ℕ) (level : ℕ → ℕ) (tail from x mark
       → mark ≡ 2 + a + ways * (n % level_marks)
       → Next g s level tail from x mark n
   waiting :
-      (j : ℕ) → tail ≡ suc j → from < tail → x ≡ g.waits_to (low s j) → n ≡ level j → mark ≡ 1 + ways * (n % level_marks)
+      (j : ℕ) → tail ≡ suc j → from < tail → x ≡ g.waits_to (low s j) → n ≡ level j
+      → mark ≡ 1 + ways * (n % level_marks)
       → Next g s level tail from x mark n
 
 -- the search ends at a goal: the last state found is the only one

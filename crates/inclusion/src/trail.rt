@@ -3,7 +3,8 @@ ghost use Rattle.std.specs.Prelude.{◌≡◌, ◌&&◌, ℕ, suc, ◌≤◌, �
 ghost use Rattle.model.specs.Inclusion.{most_joint_states};
 ghost use Rattle.inclusion.specs.Graphs.{Graph, Paired};
 ghost use Rattle.inclusion.specs.Parts.{low, high, level_mark};
-ghost use Rattle.inclusion.specs.Trails.{steps_of, Standing, Trail, Retraceable, Source, Nearest, sum_of, sums, Retraced};
+ghost use Rattle.inclusion.specs.Trails.{steps_of, Standing, Trail, Retraceable, Source, Nearest};
+ghost use Rattle.inclusion.specs.Trails.{sum_of, sums, Retraced};
 
 use crate::scan::{LEVEL_MARKS, WAYS, mark_at, state_at};
 use crate::states::{apart, pack, take_from};
