@@ -1,7 +1,8 @@
 // The listing program: a rule file from standard input, its table on standard output.
 #![tactic(auto)]
 
-ghost use Rattle.std.specs.Prelude.{◌≤◌, IfOk, length};
+ghost use Rattle.std.specs.Prelude.{◌<◌, ◌≤◌, IfOk, length, take};
+ghost use Rattle.std.specs.Io.KnownBytes.{Consumes, IsAtEnd};
 
 use construct::build_table;
 use model::{Built, EDGE_NEED};
@@ -15,14 +16,17 @@ use tables::{row_length, row_start, row_verdict};
 const LISTED_FILE: usize = 49152;
 
 // Reads until the buffer is full or the input ends; the answer is how many bytes stand at the start of the buffer.
-fn read_full(input: &mut impl Read, buffer: &mut [u8]) -> io::Result<usize>
-    ensures { IfOk result (λ size. size ≤ length buffer.new) }
+fn read_full<R: Read>(input: &mut R, buffer: &mut [u8]) -> io::Result<usize>
+    ensures in_bounds { IfOk result (λ size. size ≤ length buffer.new) }
+    ensures bytes { IfOk result (λ size.
+        Consumes (R.remaining input.old) (R.remaining input.new) (take size buffer.new)) }
+    ensures end { IfOk result (λ size. size < length buffer.new → IsAtEnd (R.remaining input.new)) }
 {
     let mut size = 0;
     while size < buffer.len() {
         let count = input.read(&mut buffer[size..])?;
         if count == 0 {
-            break;
+            return Ok(size);
         }
         size += count;
     }

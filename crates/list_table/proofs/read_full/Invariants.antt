@@ -1,8 +1,12 @@
-use Rattle.std.proofs.Common.{length, ◌-◌, ◌≤◌}
+use Rattle.std.proofs.Common.{length, take, ◌-◌, ◌≤◌}
+use Rattle.std.specs.Io.KnownBytes.{Consumes}
 use Rattle.list_table.proofs.read_full.Given as goal
 
 abbrev pub invariant-loop-size : goal.invariant-loop-size
-invariant-loop-size g l = l.size ≤ length l.buffer
+invariant-loop-size g l = record {
+  in_bounds : l.size ≤ length l.buffer;
+  bytes : Consumes (g.R.Read.remaining l.initial.input) (g.R.Read.remaining l.input) (take l.size l.buffer);
+}
 
 abbrev pub decreases-loop-size : goal.decreases-loop-size
 decreases-loop-size g l = length l.initial.buffer - l.size
