@@ -95,18 +95,18 @@ module _ {marks : List ℕ} {span : Span} {code : ℕ} (can : CanMark marks span
       → count ≡ span.count + 1
       → MarksAre (with_code code (codes_in marks)) (with_bit marks code)
       (record { low = low; past = past; count = count })
-  mark_does low past count m is-low is-past is-count =
+  mark_does low past count m is_low is_past is_count =
       let codes : codes_in (with_bit marks code) ≡ with_code code (codes_in marks) =
       codes_set marks code can.code_below in
-      let before : low ≤ span.low = rw is-low (lesser_left span.low at) in
-      let low_at : low ≤ at = rw is-low (lesser_right span.low at) in
-      let behind : span.past ≤ past = rw is-past (larger_left span.past (at + 1)) in
-      let past_at : at + 1 ≤ past = rw is-past (larger_right span.past (at + 1)) in
+      let before : low ≤ span.low = rw is_low (lesser_left span.low at) in
+      let low_at : low ≤ at = rw is_low (lesser_right span.low at) in
+      let behind : span.past ≤ past = rw is_past (larger_left span.past (at + 1)) in
+      let past_at : at + 1 ≤ past = rw is_past (larger_right span.past (at + 1)) in
       let inside : past ≤ length marks =
-      rw is-past
+      rw is_past
       (larger_most span.past (at + 1) (length marks) can.in_span.past_most (omega (arith, can.code_below))) in
       let small : past ≤ most_scratch =
-      rw is-past
+      rw is_past
       (larger_most span.past (at + 1) most_scratch can.in_span.few (omega (arith, can.code_most))) in
       record {
         codes_are = codes;
@@ -118,7 +118,7 @@ module _ {marks : List ℕ} {span : Span} {code : ℕ} (can : CanMark marks span
           low_most = rw (length-set marks at) (omega (arith, can.in_span.low_most));
           past_most = rw (length-set marks at) inside;
           few = small;
-          count_is = is-count ∙ (longer m ∙ sym (ap length codes));
+          count_is = is_count ∙ (longer m ∙ sym (ap length codes));
         };
       }
 

@@ -5,7 +5,7 @@ use mathlib.Core.List.{List, [], ◌∷◌, ◌++◌}
 use Prim.Native.Nat.{ℕ, zero, suc, ◌+◌, ◌-◌, ◌*◌, ◌^◌, ◌≤◌, ◌<◌}
 use native.Mathlib.Omega.{arith}
 use native.Mathlib.Numerals.{add-one}
-use lib.ListN.{length, get_or, set, drop, length-replicate, replicate-append-replicate}
+use lib.ListN.{length, get_or, set, take, drop, length-replicate, replicate-append-replicate}
 use lib.Seq.{set_at}
 use Rattle.model.specs.declared.Head.{Head}
 use Rattle.model.specs.Basics.{pick, is_in, zeros, filled}
@@ -18,7 +18,8 @@ use Rattle.model.proofs.Events.{event_at, events_rest, events_end}
 use Rattle.model.proofs.Inputs.{ordered_rest}
 use Rattle.model.proofs.Ages.{AtMost, older_most, zeroed_most}
 use Rattle.ages.specs.declared.Configuration.{Configuration}
-use Rattle.ages.specs.Ages.{ages_of, takes, Waited, Moved}
+use Rattle.ages.specs.Ages.{numbers_of, ages_of, takes, Waited, Moved}
+use Rattle.ages.proofs.Laws.{read_ages}
 use Rattle.ages.proofs.Moves.{waited_until, moved_ages}
 use Rattle.branch.specs.declared.Run.{Run}
 use Rattle.branch.specs.Branches.{placed, with_edge, least_at, Ready}
@@ -99,6 +100,16 @@ module _ (head : Head) (edges : List ℕ) (d : ℕ) (symbols stamps : List ℕ) 
     pub turns : e ≤ head.count
     pub clocks_read : by ≡ ages_of head.clocks now.ages
     pub rest_is : try_from e ≡ try_from 0
+
+  pub trying_start :
+      (by read : List ℕ) (clocks : ℕ) → clocks ≡ head.clocks → read ≡ numbers_of now.ages.of
+      → by ≡ take clocks (drop 0 read)
+      → Trying by 0
+  trying_start by read clocks k h p = record {
+    turns = omega arith;
+    clocks_read = read_ages head.clocks now.ages read by h (rw k at p);
+    rest_is = refl;
+  }
 
   try_step :
       (e : ℕ) → e < head.count

@@ -16,7 +16,7 @@ use Rattle.checks.specs.Checks.{fields_ok, text_kept, outer_in, edge_fault}
 
 -- The fields in turn: l, s and the fields as they were read.
 module _
-    (h : Head) (t : List ℕ) (l : ℕ) (l-is : l ≡ h.locations) (source : ℕ) (source_is : source ≡ get_or t 1 0)
+    (h : Head) (t : List ℕ) (l : ℕ) (l_is : l ≡ h.locations) (source : ℕ) (source_is : source ≡ get_or t 1 0)
   where
     pub source_high : l ≤ source → false ≡ fields_ok h t
     source_high q = rw (le-ltb (get_or t 1 0) h.locations (omega arith))
@@ -26,7 +26,7 @@ module _
       target_high q =
           rw (lt-ltb (get_or t 1 0) h.locations (omega arith), le-ltb (get_or t 2 0) h.locations (omega arith))
 
-      module _ (b : target < l) (s : ℕ) (s-is : s ≡ h.symbols) (symbol : ℕ) (symbol_is : symbol ≡ get_or t 3 0) where
+      module _ (b : target < l) (s : ℕ) (s_is : s ≡ h.symbols) (symbol : ℕ) (symbol_is : symbol ≡ get_or t 3 0) where
         pub symbol_high : s ≤ symbol → false ≡ fields_ok h t
         symbol_high q =
             rw (
@@ -38,13 +38,13 @@ module _
         pub mask_last :
             symbol < s → {x : Bool} (resets k : ℕ) → resets ≡ get_or t 4 0 → k ≡ h.clocks → x ≡ ltb resets (2 ^ k)
             → x ≡ fields_ok h t
-        mask_last q resets k resets_is k-is e =
+        mask_last q resets k resets_is k_is e =
             rw (
               lt-ltb (get_or t 1 0) h.locations (omega arith),
               lt-ltb (get_or t 2 0) h.locations (omega arith),
               lt-ltb (get_or t 3 0) h.symbols (omega arith),
             )
-            (e ∙ ap₂ (λ (m n : ℕ). ltb m (2 ^ n)) resets_is k-is)
+            (e ∙ ap₂ (λ (m n : ℕ). ltb m (2 ^ n)) resets_is k_is)
 
 -- An atom, at a place of a text, and those behind it: what is out of its range fails all, whatever is before it.
 and_none : (a : Bool) → (a && false) ≡ false

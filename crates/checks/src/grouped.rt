@@ -2,7 +2,7 @@
 // A number past the end of the text is 0.
 ghost use Rattle.std.specs.Prelude.{◌≡◌};
 ghost use Rattle.model.specs.Texts.{atoms_past};
-ghost use Rattle.model.specs.Rules.{atoms_ok, has_atom, pins as pinsAmong, is_pinned};
+ghost use Rattle.model.specs.Rules.{atoms_ok, has_atom, pins as pins_among, is_pinned};
 ghost use Rattle.texts.specs.Atoms.{outermost};
 
 use model::{
@@ -51,7 +51,7 @@ pub(crate) fn has_atom(text: &[u16], clock: usize, relation: usize, constant: us
 
 // Does an atom of these numbers pin its clock, among the atoms of that level? An at-least needs its partner.
 pub(crate) fn pins(text: &[u16], clock: usize, relation: usize, constant: usize) -> bool
-    ensures { result ≡ pinsAmong (outermost text.now)
+    ensures { result ≡ pins_among (outermost text.now)
         (record { clock = clock; relation = relation; constant = constant }) }
 {
     relation == EQUAL || relation == AT_LEAST && has_atom(text, clock, AT_MOST, constant)

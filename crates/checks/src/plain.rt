@@ -2,7 +2,7 @@
 // Numbers past the last whole atom are no atom.
 ghost use Rattle.std.specs.Prelude.{◌≡◌};
 ghost use Rattle.model.specs.Texts.{plain_atoms};
-ghost use Rattle.model.specs.Rules.{atoms_ok, has_atom, pins as pinsAmong, is_pinned};
+ghost use Rattle.model.specs.Rules.{atoms_ok, has_atom, pins as pins_among, is_pinned};
 
 use model::{
     AT_LEAST, AT_MOST, ATOM_CONSTANT, ATOM_RELATION, ATOM_WIDTH, EQUAL, MOST_CONSTANT,
@@ -49,7 +49,7 @@ pub(crate) fn has_atom(text: &[u16], clock: usize, relation: usize, constant: us
 
 // Does an atom of these numbers pin its clock, among all atoms of its guard? An at-least needs its partner.
 pub(crate) fn pins(text: &[u16], clock: usize, relation: usize, constant: usize) -> bool
-    ensures { result ≡ pinsAmong (plain_atoms text.now)
+    ensures { result ≡ pins_among (plain_atoms text.now)
         (record { clock = clock; relation = relation; constant = constant }) }
 {
     relation == EQUAL || relation == AT_LEAST && has_atom(text, clock, AT_MOST, constant)

@@ -34,12 +34,12 @@ below_quotient n a (suc b) h = omega (arith, mul-le-mul_right (suc b) h, div-add
 
 module _
     (cells rows each room : ℕ)
-    (is-room : room ≡ lesser most_rows (lesser (rows / row_width) (quotient cells each))) where
+    (is_room : room ≡ lesser most_rows (lesser (rows / row_width) (quotient cells each))) where
   inner_most : room ≤ lesser (rows / row_width) (quotient cells each)
-  inner_most = rw is-room (lesser_right most_rows (lesser (rows / row_width) (quotient cells each)))
+  inner_most = rw is_room (lesser_right most_rows (lesser (rows / row_width) (quotient cells each)))
 
   pub room_few : room ≤ most_rows
-  room_few = rw is-room (lesser_left most_rows (lesser (rows / row_width) (quotient cells each)))
+  room_few = rw is_room (lesser_left most_rows (lesser (rows / row_width) (quotient cells each)))
 
   pub room_rows : row_width * room ≤ rows
   room_rows = omega (arith, inner_most, lesser_left (rows / row_width) (quotient cells each))

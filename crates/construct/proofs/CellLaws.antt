@@ -29,15 +29,15 @@ cell_kept row timer cell t e = e ∙ (rw t (omega arith))
 -- a row in the pool, by its two numbers
 module _
     (rows pool : List ℕ) (p : Progress) (row start n : ℕ) (below : row < p.rows) (is_start : start ≡ row_start rows row)
-    (is-length : n ≡ row_length rows row) where
+    (is_length : n ≡ row_length rows row) where
   pub part_fits : Within p.rows rows pool → start + n ≤ length pool
   part_fits within =
-      rw (is_start, is-length) (within.in_pool row below)
+      rw (is_start, is_length) (within.in_pool row below)
 
   pub part_is : take (start + n - start) (drop start pool) ≡ row_at (rows_in p.rows rows pool) row
   part_is =
       let e : start + n - start ≡ n = omega arith in
-      rw (e, is_start, is-length) (sym (row_held p.rows row rows pool below))
+      rw (e, is_start, is_length) (sym (row_held p.rows row rows pool below))
 
 pub cell_made :
     {says : List ℕ → Bool} (r : Rule) (row : ℕ) (at : Input) (rs : List (List ℕ)) {room : ℕ}

@@ -111,10 +111,10 @@ pub linked_none :
     (es : List Edge) (n : ℕ) (links : List ℕ) → n ≡ length es → length links ≡ link_count
     → ((k : ℕ) → k < link_count → get_or links k 0 ≡ n)
     → LinkedFrom es n links
-linked_none es n links e long All-none = record {
+linked_none es n links e long all_none = record {
   long = long;
   firsts = λ l s hl hs.
-      All-none (first_place l s) (omega arith)
+      all_none (first_place l s) (omega arith)
       ∙ rw (drop_of_length-le es {i = n} (omega arith));
   nexts = λ k hk hl. absurd (omega arith);
 }
@@ -195,6 +195,6 @@ pub link_step :
     → at ≡ n - 1
     → value ≡ n - 1
     → LinkedFrom es (n - 1) (set (set links (next_place at) (get_or links first 0)) first value)
-link_step es n at first value links linked some few inside location symbol first_is at_is value-is =
+link_step es n at first value links linked some few inside location symbol first_is at_is value_is =
     let s : n ≡ suc (n - 1) = omega arith in
-    rw (at_is, value-is) (linked_next (rw s at linked) inside (omega arith) first location symbol first_is)
+    rw (at_is, value_is) (linked_next (rw s at linked) inside (omega arith) first location symbol first_is)

@@ -104,10 +104,10 @@ module _
     (in_pool : p.total + length x ≤ length pool)
     (codes : CodeSet x)
     (new : number_of x (rows_in p.rows rows pool) ≡ p.rows)
-    (is-a : a ≡ p.total) (is_b : b ≡ length x) (is_c : c ≡ one_if (says x))
-    (rows-now :
+    (is_a : a ≡ p.total) (is_b : b ≡ length x) (is_c : c ≡ one_if (says x))
+    (rows_now :
     rows' ≡ set (set (set rows (row_width * p.rows) a) (row_width * p.rows + 1) b) (row_width * p.rows + 2) c)
-    (pool-now : pool' ≡ laid pool p.total x) where
+    (pool_now : pool' ≡ laid pool p.total x) where
   numbers_long : length (row_numbers says 0 (rows_in p.rows rows pool)) ≡ row_width * p.rows
   numbers_long = row_numbers_length says 0 (rows_in p.rows rows pool) ∙ rw (count_is held)
 
@@ -116,10 +116,10 @@ module _
       let rs : List (List ℕ) = rows_in p.rows rows pool in
       let ns : List ℕ = row_numbers says 0 rs in
       let k : ℕ = row_width * p.rows in
-      let from : a ≡ 0 + length (pool_numbers rs) = omega (arith, is-a, held.total_is) in
+      let from : a ≡ 0 + length (pool_numbers rs) = omega (arith, is_a, held.total_is) in
       let same_numbers : ns ++ (a ∷ b ∷ c ∷ []) ≡ row_numbers says 0 (rs ++ (x ∷ [])) =
       rw (from, is_b, is_c) (sym (rows_append says 0 rs x)) in
-      rows-now
+      rows_now
       ∙ (ap (λ (l : List ℕ). set (set (set l k a) (k + 1) b) (k + 2) c) held.rows_are
       ∙ (filled_three (length rows) ns k a b c numbers_long (omega (arith, held.room_fits))
       ∙ ap (filled (length rows)) same_numbers))
@@ -128,7 +128,7 @@ module _
   new_pool =
       let rs : List (List ℕ) = rows_in p.rows rows pool in
       let e : p.total ≡ length (pool_numbers rs) = held.total_is in
-      pool-now
+      pool_now
       ∙ (ap (λ (l : List ℕ). laid l p.total x) held.pool_is
       ∙ (laid_filled (length pool) p.total (pool_numbers rs) x e (omega (arith, in_pool, e))
       ∙ ap (filled (length pool)) (sym (pool_append rs x))))
@@ -141,7 +141,7 @@ module _
       ∙ (length-append (pool_numbers rs) x ∙ ap (λ (k : ℕ). k + length x) (sym held.total_is))
 
   rows_long : length rows' ≡ length rows
-  rows_long = ap length rows-now ∙ simp length-set
+  rows_long = ap length rows_now ∙ simp length-set
 
   pool_long : length pool' ≡ length pool
   pool_long =
@@ -172,7 +172,7 @@ module _
         last = p.rows;
         before = before;
       })
-  row_added total before is-total = record {
+  row_added total before is_total = record {
     grown = record {
       held = λ e. record {
         rows_ascend =
@@ -180,9 +180,9 @@ module _
         rows_apart = rw rows_then apart_then;
         rows_are = rw (rows_then, rows_long) new_rows;
         pool_is = rw (rows_then, pool_long) new_pool;
-        total_is = rw rows_then (is-total ∙ sym total_then);
+        total_is = rw rows_then (is_total ∙ sym total_then);
         in_room = omega arith;
-        in_pool = rw (pool_long, is-total) in_pool;
+        in_pool = rw (pool_long, is_total) in_pool;
         total_most = omega (arith, held.total_most, codes.few);
         room_most = held.room_most;
         room_fits = rw rows_long held.room_fits;

@@ -94,7 +94,7 @@ module _ (h : Head) (t scratch cells rows pool : List ℕ) (passed : (rule_refus
 
     -- all rows fit: the tables of the rule's rows
     module _ {z : Scale} {scratch₁ scratch' cells₁ cells' rows' pool' : List ℕ} {p : Progress} (room : ℕ)
-        (scaled : Scaled (rule_in h t) z) (is-room : room ≡ row_room (rule_in h t) (length cells) (length rows))
+        (scaled : Scaled (rule_in h t) z) (is_room : room ≡ row_room (rule_in h t) (length cells) (length rows))
         (scratch_long : length scratch₁ ≡ length scratch) (cells_long : length cells₁ ≡ length cells)
         (rows_long : length rows' ≡ length rows) (pool_long : length pool' ≡ length pool)
         (all_are : AllFilled (says_in h z) (rule_in h t) room scratch₁ scratch' cells₁ cells' rows' pool' p) where
@@ -103,7 +103,7 @@ module _ (h : Head) (t scratch cells rows pool : List ℕ) (passed : (rule_refus
       fits e =
           let held : Held (says_in h z) rows' pool' p = all_are.grown.held e in
           let same_room : p.room ≡ row_room (rule_in h t) (length cells) (length rows) =
-          all_are.grown.room_kept ∙ is-room in
+          all_are.grown.room_kept ∙ is_room in
           let rs : rows_in p.rows rows' pool' ++ [] ≡ rows_of (rule_in h t) =
           append-nil (rows_in p.rows rows' pool') ∙ all_are.grown.rows_are e in
           fit_next
@@ -174,7 +174,7 @@ module _ (h : Head) (t scratch cells rows pool : List ℕ) (passed : (rule_refus
           ∙ (sym
           (ap₂
           (λ (k : ℕ) (x : List (List ℕ)). fit_refusal 0 k 0 (length pool') x)
-          is-room
+          is_room
           (append-nil (rows_of (rule_in h t)))
           ∙ ap
           (λ (k : ℕ).

@@ -26,7 +26,7 @@ with_part pool at end out = take at pool ++ (out ++ drop (end - at) (drop at poo
 
 module _
     {marks : List ℕ} {span : Span} (in_span : InSpan marks span) (pool out : List ℕ) (at size : ℕ)
-    (is-size : size ≡ span.count)
+    (is_size : size ≡ span.count)
     (fits : at + size ≤ length pool)
     (lays : InSpan marks span → length (part_of pool at (at + size)) ≡ span.count → out ≡ codes_in marks) where
   lain : out ≡ codes_in marks
@@ -38,7 +38,7 @@ module _
       × (part_of (with_part pool at (at + size) out) at (at + size) ≡ codes_in marks)
   row_laid =
       let rest : List ℕ = drop (at + size - at) (drop at pool) in
-      let count : size ≡ length (codes_in marks) = is-size ∙ in_span.count_is in
+      let count : size ≡ length (codes_in marks) = is_size ∙ in_span.count_is in
       let long : length (codes_in marks) ≡ at + size - at = omega (arith, count) in
       let past : at + (at + size - at) ≡ at + length (codes_in marks) = omega (arith, count) in
       let there : drop at (take at pool ++ (out ++ rest)) ≡ out ++ rest =

@@ -104,12 +104,12 @@ pub record AsLong (marks rows pool : List ℕ) (row start n : ℕ) : Type 0 wher
 -- The same of a row by its start and length.
 module _
     {count row : ℕ} {rows pool : List ℕ} (marks : List ℕ) (start n : ℕ) (within : Within count rows pool)
-    (h : row < count) (is_start : start ≡ row_start rows row) (is-length : n ≡ row_length rows row) where
+    (h : row < count) (is_start : start ≡ row_start rows row) (is_length : n ≡ row_length rows row) where
   pub row_fits : start + n ≤ length pool
-  row_fits = omega (arith, within.in_pool row h, is_start, is-length)
+  row_fits = omega (arith, within.in_pool row h, is_start, is_length)
 
   row_part : codes_at rows pool row ≡ take n (drop start pool)
-  row_part = rw (is_start, is-length)
+  row_part = rw (is_start, is_length)
 
   row_length_lem : length (codes_at rows pool row) ≡ n
   row_length_lem = rw row_part (simp (length-take, length-drop) (omega (arith, row_fits)))
@@ -235,10 +235,10 @@ module _ (rows pool x : List ℕ) where
     -- from `middle` on, then those before it
     module _
         (apart : Apart (rows_in count rows pool)) (middle : ℕ) (m : middle ≤ count) (first : Found)
-        (is-first : first ≡ found_from middle x (rows_held (count - middle) middle rows pool)) where
+        (is_first : first ≡ found_from middle x (rows_held (count - middle) middle rows pool)) where
       pub found_after : (row : ℕ) → first ≡ At row → At row ≡ found_in x (rows_in count rows pool)
       found_after row e =
-          let k = from_at (count - middle) middle row (sym is-first ∙ e) in
+          let k = from_at (count - middle) middle row (sym is_first ∙ e) in
           there_found apart row (omega (arith, k.0)) k.1
 
       pub found_before :
@@ -252,7 +252,7 @@ module _ (rows pool x : List ℕ) where
           (λ k h q.
           elim (two k middle) [
             | less l ↦ from_nothing (middle - 0) 0 (sym g) k (omega arith) (omega arith) q
-            | least l ↦ from_nothing (count - middle) middle (sym is-first ∙ e) k l (omega arith) q
+            | least l ↦ from_nothing (count - middle) middle (sym is_first ∙ e) k l (omega arith) q
           ])
 
 -- A row by its number: it has none, or it is compared.
@@ -273,8 +273,8 @@ pub at_longer :
     {count row : ℕ} {rows pool : List ℕ} (marks : List ℕ) (n : ℕ) → Within count rows pool → row < count
     → n ≡ row_length rows row → (n ≡ length (codes_in marks) → ⊥)
     → false ≡ is_at row (codes_in marks) (rows_in count rows pool)
-at_longer {count} {row} {rows} {pool} marks n within h is-length d =
-    sym (row_longer marks (row_start rows row) n within h refl is-length d)
+at_longer {count} {row} {rows} {pool} marks n within h is_length d =
+    sym (row_longer marks (row_start rows row) n within h refl is_length d)
     ∙ at_row count row rows pool (codes_in marks) h
 
 pub at_marked :

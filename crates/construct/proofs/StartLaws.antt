@@ -101,7 +101,7 @@ bits_have (suc n) i l mask h g b =
 pub can_start :
     (h : Head) (t : List ℕ) (z : Scale) (marks : List ℕ) → Ready (rule_in h t) z marks → marks ≡ zeros (length marks)
     → CanStart marks h.starts z.weight
-can_start h t z marks ready zero-marks =
+can_start h t z marks ready zero_marks =
     let r : Rule = rule_in h t in
     let v : Valid r = valid_of r ready.valid in
     let below : (l : ℕ) → l < most_locations → bit l h.starts ≡ true → l * z.weight < pair_count r =
@@ -111,7 +111,7 @@ can_start h t z marks ready zero-marks =
     (rises_below 0 r.locations r.initial l v.initial_rises
     (rw (initial_of h t) (bits_have most_locations 0 l h.starts (omega arith) (omega arith) b)))) in
     record {
-      marks_zero = zero-marks;
+      marks_zero = zero_marks;
       codes_below = λ l g b. omega (arith, below l g b, ready.marks_long);
       codes_most = λ l g b. omega (arith, below l g b, v.pairs_most);
     }

@@ -105,12 +105,12 @@ module _
       }
 
   module _ {at' : Input} {marks' rows' pool' : List ℕ} {answer : Filled} (l : i < width r)
-      (is-symbol : at'.symbol ≡ s) (is-interval : at'.interval ≡ i)
+      (is_symbol : at'.symbol ≡ s) (is_interval : at'.interval ≡ i)
       (made : CellMade says r row at' (rows_in p.rows rows pool) p.room marks marks' rows' pool' answer) where
     same_next :
         next_row r at'.symbol at'.interval (row_at (rows_in p.rows rows pool) row)
         ≡ next_row r s i (row_at rs row)
-    same_next = rw (is-symbol, is-interval, inv.row_is)
+    same_next = rw (is_symbol, is_interval, inv.row_is)
 
     grown_is :
         Grown says room (with_row (next_row r s i (row_at rs row)) (rows_in p.rows rows pool)) rows' pool'
@@ -178,7 +178,7 @@ module _
         let before : cells ≡ laid cells₀ at (cells_from i 0 r (new ++ more) x s) =
         rw all_are (inv.cells_are (ext.added ++ more)) in
         let cell : answer.cell ≡ cell_of r (new ++ more) x s i =
-        made.cell_is e ∙ (rw (is-symbol, is-interval, inv.row_is) (sym (cell_stays r s i x old more))) in
+        made.cell_is e ∙ (rw (is_symbol, is_interval, inv.row_is) (sym (cell_stays r s i x old more))) in
         let n : length (cells_from i 0 r (new ++ more) x s) ≡ i = cells_length r (new ++ more) i 0 x s in
         let z : 0 + i ≡ i = omega arith in
         let done : List ℕ = cells_from i 0 r (new ++ more) x s in

@@ -1,7 +1,7 @@
 // The build of a rule that passed 20 and 21.
 ghost use Rattle.std.specs.Prelude.{◌≡◌, ◌*◌, ◌/◌, ◌≤◌, length};
 ghost use Rattle.model.specs.Basics.{zeros};
-ghost use Rattle.model.specs.Basics.{lesser as lesserOf, quotient as quotient_of};
+ghost use Rattle.model.specs.Basics.{lesser as lesser_of, quotient as quotient_of};
 ghost use Rattle.model.specs.Rules.{most_pairs};
 ghost use Rattle.model.specs.Construction.{most_rows};
 ghost use Rattle.model.specs.Layout.{rule_in, rule_refusal};
@@ -25,7 +25,7 @@ use numbers::{clear32, lesser, narrow8, narrow32, quotient, wide8, wide32};
 
 // The least of 4,096, the rows that the row table holds and those that the cell table holds cells for.
 pub(crate) fn row_room(cells: usize, rows: usize, each: usize) -> usize
-    ensures { result ≡ lesserOf most_rows (lesserOf (rows / row_width) (quotient_of cells each)) }
+    ensures { result ≡ lesser_of most_rows (lesser_of (rows / row_width) (quotient_of cells each)) }
 {
     lesser(MOST_ROWS, lesser(rows / ROW_WIDTH, quotient(cells, each)))
 }

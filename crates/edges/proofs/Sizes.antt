@@ -42,11 +42,11 @@ pairs_fit l top k p a b c e =
     rw (e, power_known (top + 2) k (omega arith) c) (mul-le-mul a (power_most (top + 2) k (omega arith) c))
 
 -- N, or 0 where a factor is out of range: l, k and top are L, K and cm as they were computed
-module _ (h : Head) (t : List ℕ) (l : ℕ) (l-is : l ≡ h.locations) where
+module _ (h : Head) (t : List ℕ) (l : ℕ) (l_is : l ≡ h.locations) where
   pub pairs_locations : most_locations < l → 0 ≡ small_pairs h t
   pairs_locations q = rw (lt-leb h.locations most_locations (omega arith))
 
-  module _ (a : l ≤ most_locations) (k : ℕ) (k-is : k ≡ h.clocks) where
+  module _ (a : l ≤ most_locations) (k : ℕ) (k_is : k ≡ h.clocks) where
     pub pairs_clocks : most_clocks < k → 0 ≡ small_pairs h t
     pairs_clocks q = rw (le-leb h.locations most_locations (omega arith), lt-leb h.clocks most_clocks (omega arith))
 
@@ -68,7 +68,7 @@ module _ (h : Head) (t : List ℕ) (l : ℕ) (l-is : l ≡ h.locations) where
             le-leb (cm (rule_in h t)) most_constant (omega (arith, top_is)),
             e,
             power_known (top + 2) k (omega arith) b,
-            l-is,
+            l_is,
             top_is,
-            k-is,
+            k_is,
           )

@@ -125,7 +125,7 @@ module _ (head : Head) (edges : List ℕ) (d symbol delay room from n to : ℕ) 
               ap (λ (c : Config). c.location) config_was,
             )
 
-        module _ (span : ℕ) (span-is : span ≡ size) (part' : List ℕ) (added : Added)
+        module _ (span : ℕ) (span_is : span ≡ size) (part' : List ℕ) (added : Added)
             (holds :
             Holds head.clocks room 0
             (by_edges_of head.clocks head.count edges d symbol now_is
@@ -138,10 +138,10 @@ module _ (head : Head) (edges : List ℕ) (d symbol delay room from n to : ℕ) 
 
           holds_new : Holds head.clocks room 0 new part' added
           holds_new =
-              rw (span-is, part_configs to size s inv.banks.to_fits head.clocks held held_fits) at holds
+              rw (span_is, part_configs to size s inv.banks.to_fits head.clocks held held_fits) at holds
 
           sized : length part' ≡ size
-          sized = (rw span-is at long) ∙ part_length to size s inv.banks.to_fits
+          sized = (rw span_is at long) ∙ part_length to size s inv.banks.to_fits
 
           pub moving_full : added ≡ Full → room < length all
           moving_full q =
@@ -173,7 +173,7 @@ module _ (head : Head) (edges : List ℕ) (d symbol delay room from n to : ℕ) 
               (more at' : ℕ) → added ≡ Count more → at' ≡ at + (head.clocks + 1)
               → Moving more at' (i + 1) all len (spliced to span s part')
           moving_next more at' q at_is =
-              rw (span-is, at_is)
+              rw (span_is, at_is)
               (let there = rw q at holds_new in
               let same_length = spliced_length to size s inv.banks.to_fits part' sized in
               let below = rw first_and_rest at inv.ages_below in

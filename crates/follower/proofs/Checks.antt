@@ -77,9 +77,9 @@ module _ (b : Built) (f : Follower) (v : Event) where
   pub count_below : (event_checks b f v).number ≡ 0 → f.count < most_events
   count_below h =
       let past_grain = then_passes grain_check (stray_check ⨾ count_check ⨾ symbol_check ⨾ stamp_check) h in
-      let past-stray = then_passes stray_check (count_check ⨾ symbol_check ⨾ stamp_check) past_grain in
+      let past_stray = then_passes stray_check (count_check ⨾ symbol_check ⨾ stamp_check) past_grain in
       let straight = refused_false (strayed b.rows f) 33 0 (first_passes stray_check _ past_grain) in
-      let room = refused_false (eqb f.count most_events) 30 0 (first_passes count_check _ past-stray) in
+      let room = refused_false (eqb f.count most_events) 30 0 (first_passes count_check _ past_stray) in
       omega (arith, count_most b.rows f straight, eqb-false f.count most_events room)
 
   pub checks_settled : Settled (event_checks b f v)

@@ -18,13 +18,13 @@ module _ (rows : ℕ) (f : Follower) where
     pub reset_late : f.last.0 < f.reset.0 → true ≡ strayed rows f
     reset_late h = rw (lt-leb rows f.row row_in, lt-ltb f.last.0 f.reset.0 h)
 
-    module _ (reset-early : f.reset.0 ≤ f.last.0) (grain : 1 ≤ f.grain) where
+    module _ (reset_early : f.reset.0 ≤ f.last.0) (grain : 1 ≤ f.grain) where
       -- what is left to test
       rest_is :
           strayed rows f ≡ (not (eqb (f.reset.0 % f.grain) 0) || ltb most_events f.count)
       rest_is =
           let row = lt-leb rows f.row row_in in
-          let reset = le-ltb f.last.0 f.reset.0 reset-early in
+          let reset = le-ltb f.last.0 f.reset.0 reset_early in
           rw (row, reset, remainder_is f.reset.0 f.grain grain)
 
       pub reset_between : (f.reset.0 % f.grain ≡ 0 → ⊥) → true ≡ strayed rows f

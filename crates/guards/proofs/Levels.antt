@@ -40,6 +40,10 @@ inner_is : (text : List ℕ) (at : ℕ) → inner_of text at ≡ drop (at + 1) t
 inner_is text at =
     take_all (length text - (at + 1)) (drop (at + 1) text) (rw (length-drop (at + 1) text) (omega arith))
 
+-- the measure of the calls: a group's text is shorter
+pub inner_falls : (text : List ℕ) (at t : ℕ) → at < length text → length text ≡ t → length (inner_of text at) < t
+inner_falls text at t h e = rw (inner_is text at) (omega (arith, length-drop (at + 1) text))
+
 -- a group inside, from past its own opening mark: where it ends, the level around it goes on
 module _
     (text : List ℕ) (at : ℕ) {all : Bool} {test : Atom → Bool} {inner : Group}

@@ -51,7 +51,7 @@ module _ (t : Tables) (shape : in_shape t ≡ true) (d e : ℕ) (hd : 1 ≤ d) (
       ∙ sym (interval_half c e (y - k * e) he)
 
   module _ (f g : Follower) (v w : Event) (l : Level t.built.rows d e f g) (below : v.symbol < t.built.symbols)
-      (o : f.last.0 ≤ v.stamp) (p : g.last.0 ≤ w.stamp) (sym-is : v.symbol ≡ w.symbol)
+      (o : f.last.0 ≤ v.stamp) (p : g.last.0 ≤ w.stamp) (sym_is : v.symbol ≡ w.symbol)
       (h : half_seconds d v.stamp ≡ half_seconds e w.stamp) where
     abbrev i : ℕ
     i = interval_of t.built.top d (v.stamp - l.second * d)
@@ -62,7 +62,7 @@ module _ (t : Tables) (shape : in_shape t ≡ true) (d e : ℕ) (hd : 1 ≤ d) (
           l.grain_is,
           l.grain_is',
           l.row_is,
-          sym-is,
+          sym_is,
           l.reset_is,
           l.reset_is',
           interval_alike t.built.top l.second v.stamp w.stamp (omega (arith, l.before))

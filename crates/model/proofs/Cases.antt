@@ -13,12 +13,12 @@ use Rattle.model.specs.Rules.{Edge, Rule, rule, cm, pair_count, valid_rule}
 use Rattle.model.specs.Layout.{head_of, edges_numbers, edge_table, rule_in, is_readable, rule_refusal}
 
 pub data Case : Type 0 where
-  case : (found must-be : Refusal) → Case
+  case : (found must_be : Refusal) → Case
 
 unfoldable pub all_met : List Case → Bool
 all_met [] = true
-all_met (case found must-be ∷ xs) =
-    eqb found.number must-be.number && eqb found.place must-be.place && all_met xs
+all_met (case found must_be ∷ xs) =
+    eqb found.number must_be.number && eqb found.place must_be.place && all_met xs
 
 abbrev pub zero_head : Head
 zero_head = record { locations = 0; symbols = 0; clocks = 0; starts = 0; ends = 0; count = 0 }

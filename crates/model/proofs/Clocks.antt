@@ -48,7 +48,7 @@ pub tracked_guards :
     → ((a : Atom) → Within a m → a.clock < length bs)
     → ((a : Atom) → Within a m → a.constant ≤ c)
     → guard d ages m ≡ guard 2 (regions_of c (interval_of c d t) bs) m
-tracked_guards c d t bs ages m hd r clock-in constant-in =
+tracked_guards c d t bs ages m hd r clock_in constant_in =
     same_tests 0 (meets d ages) (meets 2 (regions_of c (interval_of c d t) bs)) m agree
   where
     agree : (a : Atom) → Within a m → meets d ages a ≡ meets 2 (regions_of c (interval_of c d t) bs) a
@@ -56,9 +56,9 @@ tracked_guards c d t bs ages m hd r clock-in constant-in =
         let b : ℕ = get_or bs a.clock 0 in
         let g : ℕ = get_or ages a.clock 0 in
         let e : a.constant * 2 ≡ 2 * a.constant = omega arith in
-        rw (region_at c (interval_of c d t) bs a.clock (clock-in a i), e)
+        rw (region_at c (interval_of c d t) bs a.clock (clock_in a i), e)
         (related_agrees a.relation g (a.constant * d) (region_of c b (interval_of c d t)) a.constant
-        (side c d t b g a.constant hd (constant-in a i) (tracks_at r a.clock (clock-in a i))))
+        (side c d t b g a.constant hd (constant_in a i) (tracks_at r a.clock (clock_in a i))))
 
 -- ages and regions give the same answer
 tracks_one : (c d t b a : ℕ) → tracks c d t b a ≡ true → Tracks c d t b a
@@ -105,11 +105,11 @@ pub even_guard :
     → is_pinned (outer m) ≡ true
     → regions_hold c i bs m ≡ true
     → i % 2 ≡ 0
-even_guard c i bs m clock-in h met =
+even_guard c i bs m clock_in h met =
     let p = pinned_reads 2 (regions_of c i bs) m met h in
     let a : Atom = p.member in
     let region_is : region_of c (get_or bs a.clock 0) i ≡ a.constant * 2 =
-    rw (region_at c i bs a.clock (clock-in a (outer_within m a p.is_in_lem))) at p.such in
+    rw (region_at c i bs a.clock (clock_in a (outer_within m a p.is_in_lem))) at p.such in
     even_region c (get_or bs a.clock 0) i a.constant (omega (arith, region_is))
 
 -- a timer reset

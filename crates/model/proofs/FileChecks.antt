@@ -76,12 +76,12 @@ pub read_record :
     (p last : ℕ) (r : Rule) (s : List ℕ) (kind n : ℕ) (body rest : List ℕ) → kind_of s ≡ kind → body_length s ≡ n
     → body_of s ≡ body → drop (record_head + n) s ≡ rest → record_head + n ≤ length s → Allowed last r kind n body
     → read_on p last r s ≡ read_on (p + (record_head + n)) kind (with_record r kind n body) rest
-read_record p last r s kind n body rest k-is n_is body_is rest_is whole allowed =
-    let here : Allowed last r (kind_of s) (body_length s) (body_of s) = rw (k-is, n_is, body_is) allowed in
+read_record p last r s kind n body rest k_is n_is body_is rest_is whole allowed =
+    let here : Allowed last r (kind_of s) (body_length s) (body_of s) = rw (k_is, n_is, body_is) allowed in
     let fits : record_head + body_length s ≤ length s = rw n_is whole in
     let passes : (record_refusal p last r s).number ≡ 0 =
     ap (λ (x : Refusal). x.number) (record_fine p last r s (record { whole = fits; allowed = here })) in
     let after : bytes_after s ≡ rest = rw n_is rest_is in
-    let rule_is : rule_after r s ≡ with_record r kind n body = rw (k-is, n_is, body_is) in
+    let rule_is : rule_after r s ≡ with_record r kind n body = rw (k_is, n_is, body_is) in
     let place : p + record_length s ≡ p + (record_head + n) = rw n_is in
-    read_goes_on p last r s (omega arith) passes ∙ rw (rule_is, after, place, k-is)
+    read_goes_on p last r s (omega arith) passes ∙ rw (rule_is, after, place, k_is)

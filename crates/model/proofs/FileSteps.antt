@@ -117,11 +117,11 @@ read_refuses p last r s h e =
 module _
     (P : ℕ → ℕ → Rule → List ℕ → Spelt → Type 0)
     (at_end_lem : (p last : ℕ) (r : Rule) (s : List ℕ) → length s ≡ 0 → P p last r s (at_end p r))
-    (on-record :
+    (on_record :
     (p last : ℕ) (r : Rule) (s : List ℕ) (x : Spelt) → 0 < length s → (record_refusal p last r s).number ≡ 0
     → P (p + record_length s) (kind_of s) (rule_after r s) (bytes_after s) x
     → P p last r s x)
-    (on-refusal :
+    (on_refusal :
     (p last : ℕ) (r : Rule) (s : List ℕ) → 0 < length s → ((record_refusal p last r s).number ≡ 0 → ⊥)
     → P p last r s (unspelt (record_refusal p last r s)))
   where
@@ -139,9 +139,9 @@ module _
         go (ends e) k = rw (turn_ends (suc f) p last r s e) (at_end_lem p last r s e)
         go (reads h e) k =
             rw (turn_reads f p last r s h e)
-            (on-record p last r s (read_from f (p + record_length s) (kind_of s) (rule_after r s) (bytes_after s)) h e
+            (on_record p last r s (read_from f (p + record_length s) (kind_of s) (rule_after r s) (bytes_after s)) h e
             (k (shorter f s h b)))
-        go (refuses h e) k = rw (turn_refuses f p last r s h e) (on-refusal p last r s h e)
+        go (refuses h e) k = rw (turn_refuses f p last r s h e) (on_refusal p last r s h e)
 
     pub of_every_reading : (p last : ℕ) (r : Rule) (s : List ℕ) → P p last r s (read_on p last r s)
     unfolding read_on

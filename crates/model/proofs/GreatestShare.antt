@@ -125,8 +125,8 @@ module _ (m h : ℕ) where
           → Best i (A t) (B t) (suc i) ts (greatest_from i (A t) (B t) (suc i) ts m h)
           → Best at a b (suc i) ts (greatest_from at a b (suc i) ts m h)
           → Best at a b i (t ∷ ts) (greatest_from at a b i (t ∷ ts) m h)
-      go true e yes-best no-best = rw (e, greatest_from) (up (ltb-true (a * B t) (A t * b) e) yes-best)
-      go false e yes-best no-best = rw (e, greatest_from) (stay (ltb-false (a * B t) (A t * b) e) no-best)
+      go true e yes_best no_best = rw (e, greatest_from) (up (ltb-true (a * B t) (A t * b) e) yes_best)
+      go false e yes_best no_best = rw (e, greatest_from) (stay (ltb-false (a * B t) (A t * b) e) no_best)
 
   -- a whole batch
   best_of : (t : Tables) (ts : List Tables) → Best 1 (A t) (B t) 2 ts (greatest_of (t ∷ ts) m h)

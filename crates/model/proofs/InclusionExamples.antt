@@ -171,7 +171,7 @@ none_shorter d (v ∷ w ∷ vs) o = omega arith
 -- Whole calls: outcomes that meet the promise; by One-inclusion any other has the same answer and the same lent memory,
 -- but for the word. Nines are lent.
 abbrev answers : ℕ → Bool → ℕ → Inclusion
-answers n is-included events = record { number = n; place = 0; included = is-included; events = events }
+answers n is_included events = record { number = n; place = 0; included = is_included; events = events }
 
 abbrev nines : ℕ → List ℕ
 nines n = replicate n 9

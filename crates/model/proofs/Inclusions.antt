@@ -23,7 +23,7 @@ use Rattle.model.specs.Inclusion.{joint_count}
 use Rattle.model.specs.Inclusion.{most_joint_states, Comparable, inclusion_refusal, word_room}
 use Rattle.model.specs.Promises.{run_refusal, RunsTable, inclusion, Searched, holds, shown, too_long}
 use Rattle.model.specs.Claims.{AsBuilt, HoldsOfRules, Asked, shown_by}
-use Rattle.model.specs.Claims.{AnswersInclusion, InclusionAnswers, But-for-the-word, OneInclusion}
+use Rattle.model.specs.Claims.{AnswersInclusion, InclusionAnswers, ButForTheWord, OneInclusion}
 use Rattle.model.proofs.Logic.{by_test, no_way, lesser_left}
 use Rattle.model.proofs.Refusals.{refused_false, first_passes, then_passes}
 use Rattle.model.proofs.Numbers.{Among, none, some, among_refuse, among_then}
@@ -131,7 +131,7 @@ module _ (t u : Tables) where
       → stamps' ≡ zeros (length stamps)
       → symbols'' ≡ zeros (length symbols)
       → stamps'' ≡ zeros (length stamps)
-      → But-for-the-word scratch' scratch'' symbols' symbols'' stamps' stamps'' answer other
+      → ButForTheWord scratch' scratch'' symbols' symbols'' stamps' stamps'' answer other
   both_zero ss' ss'' symbols symbols' symbols'' stamps stamps' stamps'' answer other f e p q p' q' = record {
     same_answer = e;
     same_scratch = f;
@@ -142,7 +142,7 @@ module _ (t u : Tables) where
   one_search :
       (ss' ss'' xs xs' xs'' ts ts' ts'' : List ℕ) (a b : Inclusion) → ss' ≡ ss'' → Searched t u xs xs' ts ts' a
       → Searched t u xs xs'' ts ts'' b
-      → But-for-the-word ss' ss'' xs' xs'' ts' ts'' a b
+      → ButForTheWord ss' ss'' xs' xs'' ts' ts'' a b
   one_search ss' ss'' xs xs' xs'' ts ts' ts'' a b f (holds e i p q) (holds e' i' p' q') =
       both_zero ss' ss'' xs xs' xs'' ts ts' ts'' a b f (e ∙ sym e') p q p' q'
   one_search ss' ss'' xs xs' xs'' ts ts' ts'' a b f (holds e i p q) (shown vs e' r z o m p' q') =

@@ -47,12 +47,12 @@ module _ (d l : ℕ) (ages : List ℕ) (v : Event) (on : ℕ → List ℕ → Pa
       (test : ℕ → List ℕ → Bool) → ((to : ℕ) (ages_to : List ℕ) → (on to ages_to).found ≡ test to ages_to)
       → (n : ℕ) (es : List Edge)
       → (least_edge n es d l ages v on).found ≡ some_edge es d l ages v test
-  edge_found test same-on n [] = refl
-  edge_found test same-on n (e ∷ es) =
-      let q = same-on e.target (zeroed e.resets ages) in
+  edge_found test same_on n [] = refl
+  edge_found test same_on n (e ∷ es) =
+      let q = same_on e.target (zeroed e.resets ages) in
       by_test (serves e)
       (λ h. rw (edge_yes n e es h, ← q, h))
-      (λ h. rw (edge_no n e es h, ← q, h) (edge_found test same-on (suc n) es))
+      (λ h. rw (edge_no n e es h, ← q, h) (edge_found test same_on (suc n) es))
 
   -- the first of es that serves, their numbers counted from n
   record First (n : ℕ) (es : List Edge) : Type 0 where
@@ -290,10 +290,10 @@ module _ (r : Rule) (d : ℕ) (vs : List Event) where
       let ends : Bool = run_ends_final r d vs 0 l (start_ages r) ns in
       let i = in_is l r.initial (and_left starts ends h) in
       let e = and_right starts ends h in
-      let serves-l = from_found r d vs 0 l (start_ages r) ∙ run_from r d vs 0 l (start_ages r) ns e in
+      let serves_l = from_found r d vs 0 l (start_ages r) ∙ run_from r d vs 0 l (start_ages r) ns e in
       path_least (least_start r d vs r.initial) l ns
       (starts_in r.initial (run_found (run_accepts r d vs l ns h)))
-      (start_lowest 0 r.locations r.initial l (valid_of r valid).initial_rises i serves-l)
+      (start_lowest 0 r.locations r.initial l (valid_of r valid).initial_rises i serves_l)
       e
 
 pub runs_are : RunsAre

@@ -199,8 +199,8 @@ list_rises s h (suc m) =
     across : (x y : List Event) → 1 ≤ times x (words_up_to s h m) → 1 ≤ times y (words_of s h (suc m))
         → before x y ≡ true
     across x y a b =
-        let short-is = is_one (fits s h m x) (rw (list_once s h m x) at a) in
-        let short = leb-true (length x) m (and_left (leb (length x) m) (fits_from s (top_stamp h) 0 x) short-is) in
+        let short_is = is_one (fits s h m x) (rw (list_once s h m x) at a) in
+        let short = leb-true (length x) m (and_left (leb (length x) m) (fits_from s (top_stamp h) 0 x) short_is) in
         let long = (in_words s (top_stamp h) (suc m) (stamp_count h) 0 y (omega arith) b).0 in
         or_left (ltb (length x) (length y)) (eqb (length x) (length y) && by_event x y)
         (lt-ltb (length x) (length y) (omega (arith, short, long)))

@@ -212,7 +212,7 @@ empty_grown s n k t =
 
 -- what an event asks: its length, its symbol, its stamp against the least and the last, and the rest
 abbrev asks : Bool → Bool → Bool → Bool → Bool → ℕ
-asks len sym-in least most rest = one_if (len && (sym-in && (least && (most && rest))))
+asks len sym_in least most rest = one_if (len && (sym_in && (least && (most && rest))))
 
 asks_not_least : (a b d e : Bool) → asks a b false d e ≡ 0
 asks_not_least true true d e = refl

@@ -94,10 +94,10 @@ lines_are :
 lines_are f ts m h e = rw (eq-eqb f.number 0 e)
 
 pub files_counted : FilesCounted
-files_counted batch cells rows pool m h answer i file u promise none-met l f same =
+files_counted batch cells rows pool m h answer i file u promise none_met l f same =
     let test : Refusal = shares_refusal batch cells rows pool m h in
     let ts : List Tables = batch_of batch cells rows pool in
-    let passed : test.number ≡ 0 = sym (ap (λ (x : Shares). x.number) promise.answer_is) ∙ none-met in
+    let passed : test.number ≡ 0 = sym (ap (λ (x : Shares). x.number) promise.answer_is) ∙ none_met in
     let lines : answer.lines ≡ filled (line_width * most_tables) (lines_of ts m h) =
     ap (λ (x : Shares). x.lines) promise.answer_is ∙ lines_are test ts m h passed in
     ap (λ (xs : List ℕ). take line_width (drop (line_width * i) xs)) lines

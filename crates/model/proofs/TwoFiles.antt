@@ -151,15 +151,15 @@ two_files file other t u scratch scratch' xs xs' ts ts' answer f g promise w =
     passed file other t u f g (length scratch)
     (rw (number_is t u scratch scratch' xs xs' ts ts' answer promise z) at w)) in
     let zero = answered_0 t u xs xs' ts ts' answer (promise.searched pass).1 w in
-    let of-rules = rules file other t u f g (same_s file other t u f g (length scratch) pass) in
+    let of_rules = rules file other t u f g (same_s file other t u f g (length scratch) pass) in
     let a = inclusion_answers (call t u scratch scratch' xs xs' ts ts' answer promise) in
     record {
       not_refused = zero;
-      yes_is_so = λ y. of-rules.rules_included (a.yes_is_so y);
-      so_is_yes = λ i. a.so_is_yes pass (of-rules.tables_lent i);
-      shows = λ n. of-rules.only_rule _ _ (a.shows zero.0 n);
+      yes_is_so = λ y. of_rules.rules_included (a.yes_is_so y);
+      so_is_yes = λ i. a.so_is_yes pass (of_rules.tables_lent i);
+      shows = λ n. of_rules.only_rule _ _ (a.shows zero.0 n);
       shows_events = λ n. a.shows_events zero.0 n;
-      none_shorter = λ d vs o. a.none_shorter zero.0 d vs (of-rules.only_table d vs o);
+      none_shorter = λ d vs o. a.none_shorter zero.0 d vs (of_rules.only_table d vs o);
     }
 
 -- a search that is done answers 0 or 37
@@ -218,7 +218,7 @@ two_files_refused file other t u scratch scratch' xs xs' ts ts' answer f g promi
         let end = (promise.searched z).1 in
         let numbers = searched_number t u xs xs' ts ts' answer end in
         let s : eqb r.symbols q.symbols ≡ true = same_s file other t u f g n z in
-        let of-rules = rules file other t u f g s in
+        let of_rules = rules file other t u f g s in
         let a = inclusion_answers (call t u scratch scratch' xs xs' ts ts' answer promise) in
         record {
           never_25 = numbers.0;
@@ -226,6 +226,6 @@ two_files_refused file other t u scratch scratch' xs xs' ts ts' answer f g promi
           not_so = λ m i.
               let w = searched_37 t u xs xs' ts ts' answer end m in
               no_way (sym w.only.not_accepted
-              ∙ of-rules.tables_lent i list_grain w.word w.only.keeps w.fits w.only.accepted);
-          none_fits = λ m d vs o. a.none_fits m d vs (of-rules.only_table d vs o);
+              ∙ of_rules.tables_lent i list_grain w.word w.only.keeps w.fits w.only.accepted);
+          none_fits = λ m d vs o. a.none_fits m d vs (of_rules.only_table d vs o);
         }

@@ -78,9 +78,9 @@ events_keep s i last (v ∷ vs) h =
     let f : Refusal = event_refusal s i last v in
     let g : Refusal = events_refusal s (suc i) v.stamp vs in
     let both : (f ⨾ g).number ≡ 0 = sym (ap (λ (x : Refusal). x.number) (events_step s i last v vs)) ∙ h in
-    let now-keeps = event_keeps s i last v (first_passes f g both) in
-    let later-keep = events_keep s (suc i) v.stamp vs (then_passes f g both) in
-    ((now-keeps.0, later-keep.0), (now-keeps.1, later-keep.1))
+    let now_keeps = event_keeps s i last v (first_passes f g both) in
+    let later_keep = events_keep s (suc i) v.stamp vs (then_passes f g both) in
+    ((now_keeps.0, later_keep.0), (now_keeps.1, later_keep.1))
 
 pub events_fine : (s i last : ℕ) (vs : List Event) → Below s vs → Ordered last vs → events_refusal s i last vs ≡ fine
 events_fine s i last [] b o = refl

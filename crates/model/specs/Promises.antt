@@ -43,8 +43,8 @@ pub record ChecksRule (head : Head) (edges : List ℕ) (answer : Answer) : Type 
   pub answer_is : answer ≡ answer_of (rule_refusal head edges) 0
 
 -- check_word: 30, 31, 32, 33
-pub record ChecksWord (symbol-count d most : ℕ) (symbols stamps : List ℕ) (answer : Answer) : Type 0 where
-  pub answer_is : answer ≡ answer_of (word_refusal symbol-count d most symbols stamps) 0
+pub record ChecksWord (symbol_count d most : ℕ) (symbols stamps : List ℕ) (answer : Answer) : Type 0 where
+  pub answer_is : answer ≡ answer_of (word_refusal symbol_count d most symbols stamps) 0
 
 -- check_table: 25
 pub record ChecksTable (built : Built) (cells rows pool : List ℕ) (answer : Answer) : Type 0 where
@@ -276,7 +276,7 @@ pub record GivesNext (size : Size) (word : Listed) (answer : Next) : Type 0 wher
 -- check_inclusion (2.10): 25, 35, 36 leave all lent memory as it was; else the scratch ends as zero, and so does the
 -- word room past the word shown, all of it on yes and after 37.
 abbrev pub inclusion : Refusal → Bool → ℕ → Inclusion
-inclusion f is-included n = record { number = f.number; place = f.place; included = is-included; events = n }
+inclusion f is_included n = record { number = f.number; place = f.place; included = is_included; events = n }
 
 -- The three ways in which a search ends: yes; a word that only the first accepts, as short as any; 37, the shortest
 -- being longer than 4,096 events or than the room. Which of several shortest words is shown is the one free part.

@@ -57,9 +57,9 @@ pub laid_store :
     → cell ≡ v
     → cells' ≡ set cells (at + n) cell
     → cells' ≡ laid was at (u ++ (v ∷ []))
-laid_store was cells cells' at n u cell v is-n h e f w =
-    let g : at + length u < length was = rw (← is-n) h in
-    w ∙ (rw (e, f, is-n) (laid_set was at u (omega arith) v g))
+laid_store was cells cells' at n u cell v is_n h e f w =
+    let g : at + length u < length was = rw (← is_n) h in
+    w ∙ (rw (e, f, is_n) (laid_set was at u (omega arith) v g))
 
 pub drop_zeros : (m k : ℕ) → drop m (zeros k) ≡ zeros (k - m)
 drop_zeros zero k = let e : k - 0 ≡ k = omega arith in rw e

@@ -4,8 +4,8 @@
 
 ghost use Rattle.std.specs.Prelude.{◌≡◌, ◌%◌, ◌^◌, ◌<◌, length, get_or, take, drop};
 ghost use Rattle.model.specs.Basics.{bit, zeros};
-ghost use Rattle.model.specs.Basics.{lesser as lesserOf, larger as largerOf};
-ghost use Rattle.model.specs.Basics.{quotient as quotient_of, remainder as remainderOf};
+ghost use Rattle.model.specs.Basics.{lesser as lesser_of, larger as larger_of};
+ghost use Rattle.model.specs.Basics.{quotient as quotient_of, remainder as remainder_of};
 
 pub fn wide8(x: u8) -> usize
     ensures { (result ≡ x) × (result < 2 ^ 8) }
@@ -44,7 +44,7 @@ pub fn narrow32(x: usize) -> u32
 }
 
 pub fn lesser(a: usize, b: usize) -> usize
-    ensures { result ≡ lesserOf a b }
+    ensures { result ≡ lesser_of a b }
 {
     if a <= b {
         return a;
@@ -53,7 +53,7 @@ pub fn lesser(a: usize, b: usize) -> usize
 }
 
 pub fn larger(a: usize, b: usize) -> usize
-    ensures { result ≡ largerOf a b }
+    ensures { result ≡ larger_of a b }
 {
     if a <= b {
         return b;
@@ -72,7 +72,7 @@ pub fn quotient(a: usize, b: usize) -> usize
 }
 
 pub fn remainder(a: usize, b: usize) -> usize
-    ensures { result ≡ remainderOf a b }
+    ensures { result ≡ remainder_of a b }
 {
     if b == 0 {
         return 0;

@@ -105,9 +105,9 @@ module _ {r : Rule} {c : Cursor} {t : List ℕ} (state : State r c t) {kind n : 
 
   pub room_for :
       is_edge kind ≡ false → Body kind body → c.at + (record_head + n) < 2 ^ 64 → Room c kind n body
-  room_for not-edge b next = record {
+  room_for not_edge b next = record {
     kind_least = kind_least allowed;
-    kind_most = kind_most allowed not-edge;
+    kind_most = kind_most allowed not_edge;
     next = next;
     number = b.number;
     sizes = b.sizes;

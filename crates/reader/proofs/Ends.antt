@@ -21,7 +21,7 @@ use Rattle.model.proofs.FileSteps.{record_length, rule_after, read_on, read_all,
 use Rattle.model.proofs.FileOutcomes.{end_unseen, end_too_many, end_fine}
 use Rattle.edges.specs.Powers.{small_pairs}
 use Rattle.reader.specs.declared.Cursor.{Cursor}
-use Rattle.reader.specs.State.{Stage, none, some, State, Goes_on, Stops, UnderWay, RefusedAt, Finishes}
+use Rattle.reader.specs.State.{Stage, none, some, State, GoesOn, Stops, UnderWay, RefusedAt, Finishes}
 use Rattle.reader.specs.State.{Cleared, ReadsRecords}
 
 -- readings of a refusal, of a rule, and before anything is read
@@ -59,7 +59,7 @@ module _ {file : List ℕ} {c : Cursor} {t : List ℕ} (inv : Reads file c t) wh
   left_over : c.at < length file → 0 < length (drop c.at file)
   left_over h = rw (length-drop c.at file) (omega arith)
 
-  pub reads_next : {t' : List ℕ} {d : Cursor} → c.at < length file → Goes_on file inv.rule c t' d → Reads file d t'
+  pub reads_next : {t' : List ℕ} {d : Cursor} → c.at < length file → GoesOn file inv.rule c t' d → Reads file d t'
   reads_next {t'} {d} h g = record {
     rule = rule_after inv.rule (drop c.at file);
     state = g.state;
@@ -70,7 +70,7 @@ module _ {file : List ℕ} {c : Cursor} {t : List ℕ} (inv : Reads file c t) wh
   }
 
   pub next_less :
-      {t' : List ℕ} {d : Cursor} → Goes_on file inv.rule c t' d → length file - d.at < length file - c.at
+      {t' : List ℕ} {d : Cursor} → GoesOn file inv.rule c t' d → length file - d.at < length file - c.at
   next_less g = omega (arith, g.at_is, g.inside)
 
   stops_spelt : (n : ℕ) → c.at < length file → Stops file inv.rule c n → read_rule file ≡ unspelt (refusal n c.at)

@@ -22,7 +22,7 @@ use Rattle.reader.specs.declared.Cursor.{Cursor}
 use Rattle.reader.specs.declared.Step.{Step}
 use Rattle.reader.specs.declared.Step.TheVariants.{Next, Refused}
 use Rattle.reader.specs.State.{numbered, body_refusal, order_fault, fault_of, Body, Room, Takes, EdgeRoom}
-use Rattle.reader.specs.State.{EdgeIs, State, Goes_on, Stops, StepIs}
+use Rattle.reader.specs.State.{EdgeIs, State, GoesOn, Stops, StepIs}
 use Rattle.reader.proofs.Allowed.{room_for, edge_zero, state_after}
 
 -- the file from the record on, and its body, as the code has them
@@ -233,7 +233,7 @@ module _ {file : List ℕ} {c : Cursor} {size kind : ℕ} (whole : Whole file c 
           rw (whole.kind_is, whole.size_is, body_is file c.at)
           (record_allowed c.at c.last r (drop c.at file) passes_known).allowed
 
-      goes_on : {t' : List ℕ} {d : Cursor} → Takes c kind size body t t' d → Goes_on file r c t' d
+      goes_on : {t' : List ℕ} {d : Cursor} → Takes c kind size body t t' d → GoesOn file r c t' d
       goes_on takes = record {
         passes_all = passes_known;
         at_is = omega (arith, takes.at_is, whole.size_is);
@@ -244,13 +244,13 @@ module _ {file : List ℕ} {c : Cursor} {size kind : ℕ} (whole : Whole file c 
       }
 
   -- what the code found for 3 to 5
-  module _ (r : Rule) (f : ℕ) (f-is : f ≡ order_fault c.last r kind body) where
+  module _ (r : Rule) (f : ℕ) (f_is : f ≡ order_fault c.last r kind body) where
     pub stops_order : (f ≡ 0 → ⊥) → Stops file r c f
-    stops_order z = stops_fault r f (order_stops c.at c.last r kind size body f f-is z) z
+    stops_order z = stops_fault r f (order_stops c.at c.last r kind size body f f_is z) z
 
     module _ (none : f ≡ 0) (inside : c.at < length file) (t : List ℕ) (state : State r c t) where
       fine : 0 ≡ order_fault c.last r kind body
-      fine = sym none ∙ f-is
+      fine = sym none ∙ f_is
 
       -- an edge
       module _ (k : is_edge kind ≡ true) where
@@ -283,11 +283,11 @@ module _ {file : List ℕ} {c : Cursor} {size kind : ℕ} (whole : Whole file c 
             stops_fault r n (known ∙ ap (λ (m : ℕ). numbered m c.at) h.fault) h.refuses
 
       -- another record: x is what the code found for 6
-      module _ (k : is_edge kind ≡ false) {x : Bool} (x-is : (n : ℕ) → x ≡ out_of_range r kind n body) where
+      module _ (k : is_edge kind ≡ false) {x : Bool} (x_is : (n : ℕ) → x ≡ out_of_range r kind n body) where
         other_found : body_refusal c.at c.last r kind size body ≡ refuse x 6 c.at
         other_found =
             other_known c.at c.last r kind size body fine k
-            ∙ ap (λ (y : Bool). refuse y 6 c.at) (sym (x-is size))
+            ∙ ap (λ (y : Bool). refuse y 6 c.at) (sym (x_is size))
 
         pub stops_range : x ≡ true → Stops file r c 6
         stops_range q = stops_fault r 6 (other_found ∙ rw q) (λ z. omega arith)
@@ -301,5 +301,5 @@ module _ {file : List ℕ} {c : Cursor} {size kind : ℕ} (whole : Whole file c 
               room_for state (allowed_known r 0 other_fine refl inside t state) k body_known
               (omega (arith, place_inside inside))
 
-          pub taken_on : {d : Cursor} → Takes c kind size body t t d → Goes_on file r c t d
+          pub taken_on : {d : Cursor} → Takes c kind size body t t d → GoesOn file r c t d
           taken_on takes = goes_on r 0 other_fine refl inside t state takes

@@ -15,6 +15,7 @@ use Rattle.model.specs.Files.{number_at, number_bytes, fields_body, numbers_of, 
 use Rattle.model.specs.Layout.{edge_fields, edge_width, text_count, edge_numbers}
 use Rattle.model.proofs.Logic.{by_test}
 use Rattle.model.proofs.Bytes.{number_later, numbers_of_length}
+use Rattle.model.proofs.EdgesWritten.{edge_numbers_length}
 use Rattle.model.proofs.FileSoFar.{sized_from}
 use Rattle.numbers.proofs.Parts.{part_rest}
 use Rattle.reader.specs.State.{EdgeBody, Places}
@@ -97,7 +98,7 @@ module _ {kind size : ℕ} {body edge : List ℕ} (p : Places kind size body edg
     pub fields_long : length (put_mid 1 4 (set edge 0 k) fields) ≡ edge_width
     fields_long = rw (fields_are, p.zero)
 
-    module _ (k-is : k ≡ kind) (m : ℕ) (m-is : m ≡ text_count kind (text_size size)) where
+    module _ (k_is : k ≡ kind) (m : ℕ) (m_is : m ≡ text_count kind (text_size size)) where
       -- the places once the kind, the fields and the count are written
       abbrev begun : List ℕ
       begun = set (put_mid 1 4 (set edge 0 k) fields) 5 m
@@ -107,7 +108,7 @@ module _ {kind size : ℕ} {body edge : List ℕ} (p : Places kind size body edg
           ≡ kind ∷ number_at 0 body ∷ number_at 1 body ∷ number_at 2 body ∷ number_at 3 body
           ∷ text_count kind (text_size size)
           ∷ zeros text_places
-      begun_is = rw (fields_are, p.zero, k-is, m-is)
+      begun_is = rw (fields_are, p.zero, k_is, m_is)
 
       pub begun_long : length begun ≡ edge_width
       begun_long = ap length begun_is
@@ -134,3 +135,9 @@ module _ {kind size : ℕ} {body edge : List ℕ} (p : Places kind size body edg
           edge_stored =
               let n : ℕ = text_size size in
               rw (past_is, begun_is, text_is, numbers_of_length n (drop fields_body body), drop_zeros n text_places)
+
+          pub stored_long :
+              length (put_mid edge_fields (edge_fields + text_size size - edge_fields) begun text) ≡ length edge
+          stored_long =
+              ap length edge_stored
+              ∙ (edge_numbers_length (edge_from kind size body) (edge_sized p.known) ∙ sym p.wide)

@@ -137,13 +137,13 @@ module _
           ∙ (take_at stored after edge_width stored_wide ∙ stored_is))
 
       -- refused there, or taken
-      module _ (r : Rule) (h : Holds r c) (f : ℕ) (f-is : f ≡ edge_fault c.head place) where
+      module _ (r : Rule) (h : Holds r c) (f : ℕ) (f_is : f ≡ edge_fault c.head place) where
         fault_is : fault_of r (edge_from kind size body) ≡ f
         fault_is =
             let e : Edge = edge_from kind size body in
             let e_is : edge_in place ≡ e =
             ap edge_in (stands ∙ sym (append-nil (edge_numbers e))) ∙ edge_written e [] (edge_sized room.known) in
-            sym (f-is ∙ (fault_known c.head r place h.head_is ∙ ap (fault_of r) e_is))
+            sym (f_is ∙ (fault_known c.head r place h.head_is ∙ ap (fault_of r) e_is))
 
         pub edge_refused : (f ≡ 0 → ⊥) → EdgeRefused r (edge_from kind size body) f
         edge_refused z = record { fault = fault_is; refuses = z }
@@ -199,10 +199,10 @@ module _ (c : Cursor) (kind size : ℕ) (body t : List ℕ) (d : Cursor) (stays 
       → ((r : Rule) → Holds r (past c kind size) → Holds (with_initial r x) d)
       → Takes c kind size body t t d
   unfolding with_record
-  takes_initial x e x-is h = record {
+  takes_initial x e x_is h = record {
     at_is = place_is;
     last_is = stays.last_is;
-    holds = λ r q. rw (e, ← x-is) (h r (past_holds c kind size r q));
+    holds = λ r q. rw (e, ← x_is) (h r (past_holds c kind size r q));
     table_is = rw e;
   }
 
@@ -211,10 +211,10 @@ module _ (c : Cursor) (kind size : ℕ) (body t : List ℕ) (d : Cursor) (stays 
       → ((r : Rule) → Holds r (past c kind size) → Holds (with_final r x) d)
       → Takes c kind size body t t d
   unfolding with_record
-  takes_final x e x-is h = record {
+  takes_final x e x_is h = record {
     at_is = place_is;
     last_is = stays.last_is;
-    holds = λ r q. rw (e, ← x-is) (h r (past_holds c kind size r q));
+    holds = λ r q. rw (e, ← x_is) (h r (past_holds c kind size r q));
     table_is = rw e;
   }
 

@@ -122,7 +122,7 @@ pub record UnderWay (c : Cursor) (t : List ℕ) : Type 0 where
   pub state : State rule c t
 
 -- what a step answers: the reading goes on past the record, or is refused at it
-pub record Goes_on (file : List ℕ) (r : Rule) (c : Cursor) (t : List ℕ) (d : Cursor) : Type 0 where
+pub record GoesOn (file : List ℕ) (r : Rule) (c : Cursor) (t : List ℕ) (d : Cursor) : Type 0 where
   pub passes_all : (record_refusal c.at c.last r (drop c.at file)).number ≡ 0
   pub at_is : d.at ≡ c.at + record_length (drop c.at file)
   pub inside : d.at ≤ length file
@@ -134,7 +134,7 @@ pub record Stops (file : List ℕ) (r : Rule) (c : Cursor) (n : ℕ) : Type 0 wh
   pub refuses : n ≡ 0 → ⊥
 
 abbrev pub StepIs : List ℕ → Rule → Cursor → List ℕ → Step → Type 0
-StepIs file r c t (Next d) = Goes_on file r c t d
+StepIs file r c t (Next d) = GoesOn file r c t d
 StepIs file r c t (Refused n) = Stops file r c n
 
 -- a refusal, with a head record of zeros

@@ -142,7 +142,7 @@ good_front h (k ∷ a ∷ b ∷ c ∷ d ∷ n ∷ t) long =
     (edge_front table long ok)
     (ap all_zero
     (part_front (edge_fields + text_length k n) edge_width table (omega (arith, (counted k n ok).length_most)) long)))
-    (λ not-ok. rw not-ok)
+    (λ not_ok. rw not_ok)
 
 -- The edges from number e on, of kinds from `last` on.
 pub record Edges (h : Head) (count e last : ℕ) (t : List ℕ) : Type 0 where
@@ -171,11 +171,11 @@ module _ {h : Head} {count e last : ℕ} {t : List ℕ} (inv : Edges h count e l
   -- edge e, its kind read off its part
   module _
       (q : e < count) (long : edge_width * e + edge_width ≤ length t) (kind : ℕ)
-      (kind-read : kind ≡ (edge_at 0 (edge_part e t)).kind)
+      (kind_read : kind ≡ (edge_at 0 (edge_part e t)).kind)
     where
       kind_is : kind ≡ (edge_at e t).kind
       kind_is =
-          kind-read
+          kind_read
           ∙ (ap (λ (l : List ℕ). get_or l 0 0) (part_whole t (edge_width * e) edge_width)
           ∙ get_or-take edge_width (drop (edge_width * e) t) 0 0 (omega arith))
 

@@ -142,10 +142,10 @@ module _ {b : Built} {rows pool : List ℕ} (s : Settled b rows pool) where
       part_is : take (start + n - start) (drop start pool) ≡ codes_at rows pool i
       part_is = let e : start + n - start ≡ n = omega arith in rw (e, start_is, length_is)
 
-      module _ {m w : ℕ} (Reciprocal-is : m ≡ reciprocal w) (weight_is : w ≡ location_weight b) where
+      module _ {m w : ℕ} (reciprocal_is : m ≡ reciprocal w) (weight_is : w ≡ location_weight b) where
         pub part_products : ProductsFit m (take (start + n - start) (drop start pool))
         part_products =
-            rw (part_is, Reciprocal-is, weight_is)
+            rw (part_is, reciprocal_is, weight_is)
             (products_fit (location_weight b) weight_some weight_most (codes_at rows pool i) (row_under i h))
 
         -- what is found in it is what the row's codes say
@@ -156,7 +156,7 @@ module _ {b : Built} {rows pool : List ℕ} (s : Settled b rows pool) where
             let codes = codes_at rows pool i in
             let said : final_by (reciprocal (location_weight b)) b.ends codes ≡ codes_say b codes =
             final_by_lem (location_weight b) weight_some weight_most b.ends codes (row_under i h) in
-            e ∙ rw (part_is, Reciprocal-is, weight_is, said)
+            e ∙ rw (part_is, reciprocal_is, weight_is, said)
 
 -- Rows: what holds of those to come is what holds of all.
 pub record Checked (b : Built) (rows pool : List ℕ) (i : ℕ) : Type 0 where

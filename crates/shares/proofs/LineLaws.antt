@@ -230,7 +230,7 @@ module _ {says : List Event → Bool} {s h used : ℕ} {counts lengths : List �
 abbrev pub places : List ℕ
 places = zeros (suc most_listed_events)
 
-module _ (t : Tables) (m h : ℕ) (u : ℕ) (few : m ≤ most_listed_events) (u-is : u ≡ suc m) where
+module _ (t : Tables) (m h : ℕ) (u : ℕ) (few : m ≤ most_listed_events) (u_is : u ≡ suc m) where
   abbrev s : ℕ
   s = t.built.symbols
 

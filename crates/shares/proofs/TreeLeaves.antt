@@ -92,19 +92,19 @@ module _ (t : Tables) (stamps row reset : ℕ) {x i interval cell v : ℕ}
     {counts₀ counts : List ℕ} {here₀ here : ℕ} {rest₀ : ℕ → ℕ}
     (k : Kept counts₀ here₀ rest₀ counts here (left t stamps row reset x i))
     {s r : ℕ}
-    (since-is : s ≡ pick (eqb (cell % 2) 1) x reset)
+    (since_is : s ≡ pick (eqb (cell % 2) 1) x reset)
     (two : length counts ≡ 2)
-    (leaves-are : r ≡ tree_count t (cell / 2) s 1 (stamps - x) x) where
+    (leaves_are : r ≡ tree_count t (cell / 2) s 1 (stamps - x) x) where
   pub raised_most : get_or counts 1 0 + r ≤ most_words
   raised_most =
       omega (
         arith,
-        (child_roomy t stamps row reset e k since-is (omega arith)).room 0 (omega (arith, tail_long counts)),
+        (child_roomy t stamps row reset e k since_is (omega arith)).room 0 (omega (arith, tail_long counts)),
         tail_at counts 0,
       )
 
   pub symbol_two : Kept counts₀ here₀ rest₀ (raised counts r) (here + v) (left t stamps row reset x (i + 1))
   symbol_two =
       kept_as (raised_back counts r two)
-      (symbol_more t stamps row reset e k since-is (omega arith)
-      (raised_tallied t stamps (cell / 2) s x counts r two leaves-are))
+      (symbol_more t stamps row reset e k since_is (omega arith)
+      (raised_tallied t stamps (cell / 2) s x counts r two leaves_are))

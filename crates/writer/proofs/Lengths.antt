@@ -23,6 +23,9 @@ pub record Counted (mask i count : ℕ) : Type 0 where
   pub few : count ≤ i
   pub rest_is : count + length (bits_from (most_locations - i) i mask) ≡ length (locations_in mask)
 
+pub counted_start : (mask : ℕ) → Counted mask 0 0
+counted_start mask = record { turns = omega arith; few = omega arith; rest_is = omega arith }
+
 bit_length : (i mask : ℕ) → length (pick (bit i mask) (i ∷ []) []) ≡ mask / 2 ^ i % 2
 bit_length i mask =
     by_test (bit i mask) (λ e. rw e (sym (eqb-true (mask / 2 ^ i % 2) 1 e)))
@@ -50,6 +53,11 @@ pub record Summed (count : ℕ) (t : List ℕ) (e sum : ℕ) : Type 0 where
   pub rest_is :
       sum + length (edge_records (edges_in (count - e) (drop (edge_width * e) t)))
       ≡ length (edge_records (edges_in count t))
+
+pub summed_start : (count : ℕ) (t : List ℕ) → Summed count t 0 0
+summed_start count t =
+    let z : count - 0 ≡ count = omega arith in
+    record { turns = omega arith; few = omega arith; rest_is = rw z (omega arith) }
 
 module _ {count e sum : ℕ} {t : List ℕ} (inv : Summed count t e sum) where
   pub summed_next :
@@ -87,7 +95,7 @@ pub whole_length :
     → es ≡ length (edge_records (edges_in h.count t))
     → sizes_length + single_length * (i + f) + es ≡ length (rule_bytes (rule_in h t))
 unfolding rule_in
-whole_length h t {starts} {ends} {i} {f} {es} s-is e_is a b g =
-    let a' : i ≡ length (locations_in h.starts) = a ∙ ap (λ (m : ℕ). length (locations_in m)) s-is in
+whole_length h t {starts} {ends} {i} {f} {es} s_is e_is a b g =
+    let a' : i ≡ length (locations_in h.starts) = a ∙ ap (λ (m : ℕ). length (locations_in m)) s_is in
     let b' : f ≡ length (locations_in h.ends) = b ∙ ap (λ (m : ℕ). length (locations_in m)) e_is in
     omega (arith, file_length (rule_in h t))

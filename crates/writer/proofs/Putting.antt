@@ -1,10 +1,13 @@
 -- Bytes put one after another: what two writes in a row leave, and a loop that puts a list of bytes part by part.
 use mathlib.Core.Path.{◌≡◌, refl, sym, ◌∙◌, ap, ap₂}
 use mathlib.Core.List.{List, [], ◌∷◌, ◌++◌, append-nil, append_assoc}
-use Prim.Native.Nat.{ℕ, suc, ◌+◌, ◌≤◌}
+use Prim.Native.Nat.{ℕ, suc, ◌+◌, ◌/◌, ◌%◌, ◌≤◌}
 use native.Mathlib.Omega.{arith}
+use native.Mathlib.Numerals.{add-one}
 use lib.ListN.{length, set, length-append}
 use lib.Seq.{sets, length-sets}
+use Rattle.model.specs.Files.{two}
+use Rattle.model.specs.Files.{number_bytes}
 use Rattle.writer.specs.Writing.{Puts}
 
 sets_append : (xs ys l : List ℕ) (i : ℕ) → sets l i (xs ++ ys) ≡ sets (sets l i xs) (i + length xs) ys
@@ -15,6 +18,11 @@ sets_append (x ∷ xs) ys l i =
 
 pub none_put : (out : List ℕ) (at : ℕ) → Puts [] out at out at
 none_put out at = record { next_is = omega arith; out_is = refl }
+
+pub number_put :
+    (out : List ℕ) (at v low high : ℕ) → low ≡ v % 256 → high ≡ v / 256
+    → Puts (two v) out at (set (set out at low) (at + 1) high) (at + number_bytes)
+number_put out at v low high l h = record { next_is = refl; out_is = rw (l, h, add-one at) }
 
 module _ {xs out out₁ : List ℕ} {at n₁ : ℕ} (p : Puts xs out at out₁ n₁) where
   pub put_wide : length out₁ ≡ length out
@@ -27,6 +35,14 @@ module _ {xs out out₁ : List ℕ} {at n₁ : ℕ} (p : Puts xs out at out₁ n
         q.out_is
         ∙ (ap₂ (λ (l : List ℕ) (n : ℕ). sets l n ys) p.out_is p.next_is ∙ sym (sets_append xs ys out at));
   }
+
+-- the same bytes, as a definition names them
+pub put_as :
+    {xs ys out out' : List ℕ} {at next : ℕ} → ys ≡ xs → Puts xs out at out' next → Puts ys out at out' next
+put_as e p = rw e p
+
+pub none_put_as : {ys : List ℕ} (out : List ℕ) (at : ℕ) → ys ≡ [] → Puts ys out at out at
+none_put_as out at e = rw e (none_put out at)
 
 -- some of all the bytes are put, the rest is still to be put and has room
 pub record Putting (all rest was : List ℕ) (at : ℕ) (out : List ℕ) (next : ℕ) : Type 0 where

@@ -1,11 +1,12 @@
 -- What is still to be put at each turn of a loop: the next record, then those after it; and an edge's record out of
 -- its places in the table.
 use mathlib.Core.Path.{◌≡◌, refl, sym, ◌∙◌, ap, subst}
+use mathlib.Core.Bool.{Bool, true, false}
 use mathlib.Core.List.{List, [], ◌∷◌, ◌++◌}
 use Prim.Native.Nat.{ℕ, suc, ◌+◌, ◌-◌, ◌*◌, ◌≤◌, ◌<◌}
 use native.Mathlib.Omega.{arith}
 use native.Mathlib.Numerals.{add-one}
-use lib.ListN.{length, get_or, take, drop, length-drop}
+use lib.ListN.{length, get_or, take, drop, length-drop, drop_of_length-le}
 use lib.Seq.{drop-cons}
 use Rattle.model.specs.Basics.{pick, bit, bits_from}
 use Rattle.model.specs.Rules.{most_locations, most_text}
@@ -17,7 +18,7 @@ use Rattle.model.proofs.FileRead.{edge_record_length}
 use Rattle.numbers.proofs.Parts.{part_rest}
 use Rattle.model.specs.Files.{number_bytes, fields_body}
 use Rattle.writer.specs.Writing.{Puts, Table}
-use Rattle.writer.proofs.Putting.{Putting, put_wide, putting_room, putting_next}
+use Rattle.writer.proofs.Putting.{Putting, then_put, put_wide, putting_start, putting_room, putting_next}
 
 -- a table's numbers
 pub numbers_rest :
@@ -28,11 +29,17 @@ module _
     (vs : List ℕ) (i : ℕ) {all was out : List ℕ} {at next : ℕ}
     (inv : Putting all (numbers (drop i vs)) was at out next) (h : i < length vs)
   where
+    pub number_room : next + number_bytes ≤ length out
+    number_room = putting_room inv (two (get_or vs i 0)) (numbers (drop (i + 1) vs)) (numbers_rest vs i h)
+
     pub number_next :
         {v next' : ℕ} {out' : List ℕ} → v ≡ get_or vs i 0 → Puts (two v) out next out' next'
         → Putting all (numbers (drop (i + 1) vs)) was at out' next'
     number_next e p =
         putting_next inv (numbers_rest vs i h ∙ ap (λ (x : ℕ). two x ++ numbers (drop (i + 1) vs)) (sym e)) p
+
+pub numbers_none : (vs : List ℕ) (i : ℕ) → length vs ≤ i → numbers (drop i vs) ≡ []
+numbers_none vs i h = ap numbers (drop_of_length-le vs h)
 
 -- the locations of a mask
 locations_append :
@@ -86,6 +93,19 @@ pub locations_none :
     (kind i mask : ℕ) → most_locations ≤ i → location_records kind (bits_from (most_locations - i) i mask) ≡ []
 locations_none kind i mask h = ap (location_records kind) (bits_none i mask h)
 
+-- a location that is in the mask, and one that is not
+module _ (kind mask i : ℕ) {x : Bool} (x_is : x ≡ bit i mask) where
+  pub location_in :
+      x ≡ true → location_records kind (pick (bit i mask) (i ∷ []) []) ≡ numbers (number_bytes ∷ kind ∷ i ∷ [])
+  location_in h =
+      let set : bit i mask ≡ true = sym x_is ∙ h in
+      rw set
+
+  pub location_out : x ≡ false → location_records kind (pick (bit i mask) (i ∷ []) []) ≡ []
+  location_out h =
+      let unset : bit i mask ≡ false = sym x_is ∙ h in
+      rw unset
+
 -- the edges of a table
 pub edge_records_rest :
     (n e : ℕ) (t : List ℕ) → e < n
@@ -130,7 +150,34 @@ module _
           edge_record_length (edge_in t),
         )
 
+module _
+    (t : List ℕ) {text : List ℕ} {kind : ℕ} (long : edge_width ≤ length t) (text_read : text ≡ (edge_in t).text)
+    (kind_read : kind ≡ (edge_in t).kind)
+  where
+    record_is :
+        numbers ((fields_body + number_bytes * length text) ∷ kind ∷ []) ++ (numbers (take 4 (drop 1 t)) ++ numbers
+            text)
+        ≡ edge_record (edge_in t)
+    record_is = rw (text_read, kind_read, four_taken t (omega arith))
+
+    module _
+        {out out₁ out₂ : List ℕ} {at n₁ n₂ : ℕ}
+        (p : Puts (numbers ((fields_body + number_bytes * length text) ∷ kind ∷ [])) out at out₁ n₁)
+        (q : Puts (numbers (take 4 (drop 1 t))) out₁ n₁ out₂ n₂)
+      where
+        pub edge_put :
+            {out₃ : List ℕ} {n₃ : ℕ} → Puts (numbers text) out₂ n₂ out₃ n₃
+            → Puts (edge_record (edge_in t)) out at out₃ n₃
+        edge_put r = rw (← record_is) (then_put p (then_put q r))
+
 -- the edges of a table, one by one
+pub edges_begin :
+    (count : ℕ) (t out : List ℕ) (at : ℕ) → at + length (edge_records (edges_in count t)) ≤ length out
+    → Putting (edge_records (edges_in count t)) (edge_records (edges_in (count - 0) t)) out at out at
+edges_begin count t out at room =
+    let z : count - 0 ≡ count = omega arith in
+    rw z (putting_start (edge_records (edges_in count t)) out at room)
+
 module _
     (t : List ℕ) (count e : ℕ) {all was out : List ℕ} {at next : ℕ}
     (inv : Putting all (edge_records (edges_in (count - e) (drop (edge_width * e) t))) was at out next) (h : e < count)
