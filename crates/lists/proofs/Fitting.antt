@@ -191,13 +191,14 @@ module _ (z : Size) (w : Listed) (f : Six w) where
               rw (le-leb (length (events_in w)) z.events (omega (arith, events_count w f h)), same_listed_lem w f h, e)
           go false = rw (le-leb (length (events_in w)) z.events (omega (arith, events_count w f h)))
 
--- span_ok and size_ok, test by test
-pub many_events : (m h : ℕ) → most_listed_events < m → false ≡ span_ok m h
-many_events m h r = rw (lt-leb m most_listed_events r)
+-- span_ok: each number as wide as it is compared
+pub span_many_events : (m h : ℕ) → most_listed_events < m → false ≡ span_ok m h
+span_many_events m h r = rw (lt-leb m most_listed_events r)
 
-pub seconds_decide : (m h : ℕ) {k : ℕ} → k ≡ h → m ≤ most_listed_events → leb k most_seconds ≡ span_ok m h
-seconds_decide m h e r = rw (e, le-leb m most_listed_events r)
+pub span_seconds : (m h : ℕ) {k : ℕ} → k ≡ h → m ≤ most_listed_events → leb k most_seconds ≡ span_ok m h
+span_seconds m h e r = rw (e, le-leb m most_listed_events r)
 
+-- size_ok: each number as wide as it is compared
 module _ (z : Size) where
   pub no_symbols : z.symbols < 1 → false ≡ size_ok z
   no_symbols p = rw (lt-leb 1 z.symbols p)
@@ -206,8 +207,14 @@ module _ (z : Size) where
     pub many_symbols : most_symbols < z.symbols → false ≡ size_ok z
     many_symbols q = rw (le-leb 1 z.symbols p, lt-leb z.symbols most_symbols q)
 
-    pub span_decides : {ok : Bool} → z.symbols ≤ most_symbols → ok ≡ span_ok z.events z.seconds → ok ≡ size_ok z
-    span_decides q e = rw (le-leb 1 z.symbols p, le-leb z.symbols most_symbols q) e
+    module _ (q : z.symbols ≤ most_symbols) where
+      pub many_events : most_listed_events < z.events → false ≡ size_ok z
+      many_events r =
+          rw (le-leb 1 z.symbols p, le-leb z.symbols most_symbols q, lt-leb z.events most_listed_events r)
+
+      pub seconds_decide : {h : ℕ} → h ≡ z.seconds → z.events ≤ most_listed_events → leb h most_seconds ≡ size_ok z
+      seconds_decide e r =
+          rw (e, le-leb 1 z.symbols p, le-leb z.symbols most_symbols q, le-leb z.events most_listed_events r)
 
 -- a size in its ranges, and a word of the list
 pub record InRange (z : Size) : Type 0 where

@@ -31,7 +31,10 @@ pub(crate) fn size_ok(size: Size) -> bool
     if MOST_SYMBOLS < wide32(size.symbols) {
         return false;
     }
-    span_ok(size.events, size.seconds)
+    if MOST_LISTED_EVENTS < wide32(size.events) {
+        return false;
+    }
+    wide32(size.seconds) <= MOST_SECONDS
 }
 
 // Do the events have known symbols, and stamps that never fall and end in time?

@@ -358,7 +358,16 @@ fn malformed_commands_are_bad() {
 
 #[test]
 fn scripts_of_rubbish_are_answered_line_by_line() {
-    let mut random = Random(77);
+    rubbish_is_answered(77, random_line);
+}
+
+#[test]
+fn batches_of_rubbish_are_answered_line_by_line() {
+    rubbish_is_answered(78, random_batch_line);
+}
+
+fn rubbish_is_answered(seed: u64, line: impl Fn(&mut Random, &[u8]) -> String) {
+    let mut random = Random(seed);
     let bounds = Bounds { locations: 3, symbols: 2, clocks: 2, edges: 6, constant: 2 };
     for _ in 0..150 {
         let file = random_rule(&mut random, &bounds).file();
@@ -366,7 +375,7 @@ fn scripts_of_rubbish_are_answered_line_by_line() {
         let mut script = format!("read {hex} 22016 1\nbuild 4000 4000 600 900 {}\n", random.next() as u32);
         let lines = 60;
         for _ in 0..lines {
-            script.push_str(&random_line(&mut random, &file));
+            script.push_str(&line(&mut random, &file));
             script.push('\n');
         }
         assert_eq!(answers(&script).len(), lines + 2);
@@ -377,7 +386,7 @@ fn random_line(random: &mut Random, file: &[u8]) -> String {
     let small = random.below(12);
     let wild = random.pick(&[0, 1, 2, 3, 5, 40, 4096, 4097, 65_535, u32::MAX]);
     let what = random.pick(&["head", "built", "follower", "edges", "cells", "rows", "pool"]);
-    match random.below(21) {
+    match random.below(17) {
         0..4 => format!("poke {what} {small} {wild}"),
         4 => format!("resize {what} {} {wild}", random.pick(&[0, 1, 5, 22015, 22016, 22100])),
         5 => "check_rule".into(),
@@ -390,11 +399,7 @@ fn random_line(random: &mut Random, file: &[u8]) -> String {
         12 => format!("keep {}", small % 3),
         13 => format!("use {}", small % 3),
         14 => format!("include {} {} 9000 {small} {small} 1", random.below(3), random.below(3)),
-        15 => "batch add".into(),
-        16 => format!("batch resize {what} {} {wild}", random.pick(&["0", "-1", "-9", "100", "4000"])),
-        17 => format!("share {} {}", random.below(4), random.pick(&[0, 1, 2, 31])),
-        18 => "batch new".into(),
-        19 => {
+        15 => {
             let mut file = file.to_vec();
             let place = random.below(file.len() as u64) as usize;
             file[place] = random.next() as u8;
@@ -403,5 +408,18 @@ fn random_line(random: &mut Random, file: &[u8]) -> String {
             format!("read {hex} 22016 3")
         }
         _ => random.pick(&["check_table", "write 300 1", "save", "restore", "state", "dump built"]).into(),
+    }
+}
+
+/// A line about a batch, or any other.
+fn random_batch_line(random: &mut Random, file: &[u8]) -> String {
+    let small = random.below(12);
+    let what = random.pick(&["head", "built", "follower", "edges", "cells", "rows", "pool"]);
+    match random.below(21) {
+        0 => "batch add".into(),
+        1 => format!("batch resize {what} {} {small}", random.pick(&["0", "-1", "-9", "100", "4000"])),
+        2 => format!("share {} {}", random.below(4), random.pick(&[0, 1, 2, 31])),
+        3 => "batch new".into(),
+        _ => random_line(random, file),
     }
 }
