@@ -156,7 +156,7 @@ module _
   where
     record_is :
         numbers ((fields_body + number_bytes * length text) ∷ kind ∷ []) ++ (numbers (take 4 (drop 1 t)) ++ numbers
-            text)
+        text)
         ≡ edge_record (edge_in t)
     record_is = rw (text_read, kind_read, four_taken t (omega arith))
 
