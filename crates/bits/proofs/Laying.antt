@@ -1,22 +1,20 @@
 -- Codes laid into a lent table one after another; the loops over the numbers that hold the bits.
-use mathlib.Core.Path.{◌≡◌, refl, sym, ◌∙◌, ap}
+use mathlib.Core.Path.{◌≡◌, refl, sym, ◌∙◌, ap, ap₂}
 use mathlib.Core.List.{List, [], ◌∷◌, ◌++◌, append_assoc, append-nil}
-use Prim.Native.Nat.{ℕ, zero, suc, ◌+◌, ◌-◌, ◌*◌, ◌/◌, ◌%◌, ◌^◌, ◌≤◌, ◌<◌}
+use Prim.Native.Nat.{ℕ, zero, suc, min, ◌+◌, ◌-◌, ◌*◌, ◌/◌, ◌%◌, ◌^◌, ◌≤◌, ◌<◌}
 use native.Mathlib.Omega.{arith}
 use native.Mathlib.Nat.{mod-eq_of_lt}
 use lib.Pow.{pow-lt}
 use native.Mathlib.Numerals.{add-one}
 use lib.ListN.{length, get_or, set, take, drop, length-append, length-set, take-append-drop}
-use lib.ListN.{length-drop, length-replicate, replicate-append-replicate}
+use lib.ListN.{replicate-append-replicate}
 use lib.Count.{count_trailing_zeros}
-use lib.Dec.{leb}
-use lib.Seq.{drop-length}
-use borrow.Author.Fill.{fill_more}
-use borrow.Author.Tests.{le-leb}
-use Rattle.model.specs.Basics.{zeros, lesser}
+use lib.Seq.{drop-length, get_or-set_same, get_or-set_other}
+use borrow.Rule.Slice.PartMut.{put_mid, post_of, Post-is}
+use Rattle.model.specs.Basics.{zeros}
 use Rattle.model.specs.Rules.{most_pairs}
 use Rattle.model.specs.Tables.{most_scratch}
-use Rattle.model.proofs.Logic.{by_test, lesser_left, lesser_right}
+use Rattle.model.proofs.Logic.{two, less, least}
 use Rattle.numbers.specs.Lent.{laid}
 use Rattle.numbers.proofs.Laid.{laid_none, laid_set, laid_join}
 use Rattle.bits.specs.declared.Span.{Span}
@@ -219,19 +217,6 @@ module _ {ws : List ℕ} {at : ℕ} {was out : List ℕ} {to k : ℕ} (f : Filli
       let e : codes_to ws k ≡ codes_in ws = all_by ws span k s h in
       (f.to_is ∙ ap (λ (l : List ℕ). at + length l) e, f.out_is ∙ ap (laid was at) e)
 
--- the bound that the loop is given: no more than there are numbers, nor than serve every rule; the span's own
-pub least_length : (a b c : ℕ) → lesser a (lesser b c) ≤ b
-least_length a b c = omega (arith, lesser_right a (lesser b c), lesser_left b c)
-
-pub least_most : (a b c : ℕ) → lesser a (lesser b c) ≤ c
-least_most a b c = omega (arith, lesser_right a (lesser b c), lesser_right b c)
-
-lesser_least : (a b m : ℕ) → m ≤ a → m ≤ b → m ≤ lesser a b
-lesser_least a b m p q = by_test (leb a b) (λ e. rw e p) (λ e. rw e q)
-
-lesser_is : (a b : ℕ) → a ≤ b → lesser a b ≡ a
-lesser_is a b h = rw (le-leb a b h)
-
 -- a table that just holds the codes holds nothing else
 laid_whole : (was new : List ℕ) → length was ≡ length new → laid was 0 new ≡ new
 laid_whole was new e =
@@ -240,51 +225,42 @@ laid_whole was new e =
 
 pub filled_all :
     (span : Span) (ws was out : List ℕ) (to k past : ℕ) → InSpan ws span → length was ≡ span.count
-    → past ≡ lesser span.past (lesser (length ws) most_scratch) → past ≤ k
+    → past ≡ min (min span.past (length ws)) most_scratch → past ≤ k
     → (Filling ws 0 was was 0 span.low → Filling ws 0 was out to k)
     → out ≡ codes_in ws
 filled_all span ws was out to k past s count p h f =
     let long : length was ≡ length (codes_in ws) = count ∙ s.count_is in
-    let inner : span.past ≤ lesser (length ws) most_scratch =
-    lesser_least (length ws) most_scratch span.past s.past_most s.few in
-    let e : past ≡ span.past = p ∙ lesser_is span.past (lesser (length ws) most_scratch) inner in
+    let e : past ≡ span.past = omega (arith, p, s.past_most, s.few) in
     (filling_end (f (filling_start ws span 0 was s (omega arith))) span s (omega arith)).1
     ∙ laid_whole was (codes_in ws) long
 
--- The numbers below k hold zero, the others are as they were.
-pub record Clearing (was marks : List ℕ) (k : ℕ) : Type 0 where
-  pub inside : k ≤ length was
-  pub marks_are : marks ≡ zeros k ++ drop k was
+-- The first number of a span is zero, then the others: all are.
+pub all_clear :
+    {was : List ℕ} {past : ℕ} (span : Span) → InSpan was span → past ≡ min span.past (length was) → span.low < past
+    → put_mid (span.low + 1) (past - (span.low + 1)) (set was span.low 0) (zeros (past - (span.low + 1)))
+    ≡ zeros (length was)
+all_clear {was} {past} span s p h =
+    let low : ℕ = span.low in
+    let one : List ℕ = set was low 0 in
+    let rest : ℕ = past - (low + 1) in
+    let long : length one ≡ length was = length-set was low 0 in
+    let front : take (low + 1) one ≡ zeros (low + 1) =
+    zero_front (low + 1) one (omega (arith, p, s.past_most)) (λ k l. before k l) in
+    let back : drop past one ≡ zeros (length one - past) = zero_back past one (λ k l. behind k l) in
+    let there : post_of (low + 1) rest one ≡ zeros (length one - past) =
+    Post-is (low + 1) past one (omega arith) ∙ back in
+    let whole : zeros (low + 1) ++ (zeros rest ++ zeros (length one - past)) ≡ zeros (length was) =
+    simp replicate-append-replicate (ap zeros (omega (arith, long, p, s.past_most))) in
+    ap₂ (λ (a b : List ℕ). a ++ (zeros rest ++ b)) front there ∙ whole
+  where
+    behind : (k : ℕ) → past ≤ k → get_or (set was span.low 0) k 0 ≡ 0
+    behind k l = get_or-set_other was span.low k 0 0 (λ q. omega arith) ∙ s.none_past k (omega (arith, p, s.past_most))
 
-pub clearing_start : (span : Span) (was : List ℕ) → InSpan was span → Clearing was was span.low
-clearing_start span was s =
-    let front : take span.low was ≡ zeros span.low = zero_front span.low was s.low_most s.none_below in
-    record {
-      inside = s.low_most;
-      marks_are =
-          sym (take-append-drop span.low was) ∙ ap (λ (l : List ℕ). l ++ drop span.low was) front;
-    }
-
-clearing_long : {was marks : List ℕ} {k : ℕ} → Clearing was marks k → length marks ≡ length was
-clearing_long {was} {marks} {k} m =
-    ap length m.marks_are
-    ∙ (length-append (zeros k) (drop k was) ∙ simp (length-replicate, length-drop) (omega (arith, m.inside)))
-
-pub clearing_next :
-    {was marks : List ℕ} {k : ℕ} → Clearing was marks k → k < length marks → Clearing was (set marks k 0) (k + 1)
-clearing_next {was} {marks} {k} m h =
-    let inside : k < length was = omega (arith, clearing_long m) in
-    record { inside = omega arith; marks_are = rw m.marks_are (fill_more k 0 was inside) }
-
-pub clearing_end :
-    {was marks : List ℕ} {k past : ℕ} (span : Span) → InSpan was span
-    → past ≡ lesser span.past (length was)
-    → past ≤ k
-    → Clearing was marks k
-    → marks ≡ zeros (length was)
-clearing_end {was} {marks} {k} {past} span s p h m =
-    let e : past ≡ span.past = p ∙ lesser_is span.past (length was) s.past_most in
-    let back : drop k was ≡ zeros (length was - k) = zero_back k was (λ j l. s.none_past j (omega arith)) in
-    let n : k + (length was - k) ≡ length was = omega (arith, m.inside) in
-    m.marks_are
-    ∙ (ap (λ (x : List ℕ). zeros k ++ x) back ∙ (replicate-append-replicate k (length was - k) 0 ∙ ap zeros n))
+    before : (k : ℕ) → k < span.low + 1 → get_or (set was span.low 0) k 0 ≡ 0
+    before k l =
+        elim (two k span.low) [
+          | less g ↦ get_or-set_other was span.low k 0 0 (λ q. omega arith) ∙ s.none_below k g
+          | least g ↦
+              let e : k ≡ span.low = omega arith in
+              rw e (get_or-set_same was span.low 0 0 (omega (arith, p)))
+        ]

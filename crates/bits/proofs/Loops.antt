@@ -2,24 +2,23 @@
 use mathlib.Core.Path.{◌≡◌, refl, sym, ◌∙◌, ap}
 use mathlib.Core.Bool.{true, false, ◌&&◌, ◌||◌}
 use mathlib.Core.List.{List, [], ◌∷◌}
-use Prim.Native.Nat.{ℕ, suc, ◌+◌, ◌/◌, ◌%◌, ◌^◌, ◌≤◌, ◌<◌}
+use Prim.Native.Nat.{ℕ, suc, min, max, ◌+◌, ◌/◌, ◌^◌, ◌≤◌, ◌<◌}
 use native.Mathlib.Omega.{arith}
-use native.Mathlib.Nat.{zero-div}
 use native.Mathlib.Numerals.{add-one}
 use lib.Dec.{eqb, ltb}
-use lib.ListN.{length, get_or, drop, length-set, get_or-eq_default}
+use lib.ListN.{length, get_or, drop, length-set}
 use lib.Seq.{drop-cons, drop-length, get_or-set_other}
 use borrow.Author.Tests.{eqb-true}
-use Rattle.model.specs.Basics.{is_in, zeros, lesser, larger}
+use Rattle.model.specs.Basics.{is_in, zeros}
 use Rattle.model.specs.Construction.{with_code}
-use Rattle.model.specs.Tables.{scratch_bits, most_scratch}
-use Rattle.model.proofs.Logic.{by_test, zeros_at, or_none, no_way, lesser_left, lesser_right}
-use Rattle.model.proofs.Logic.{larger_left, larger_right, larger_most}
+use Rattle.model.specs.Tables.{scratch_bits}
+use Rattle.model.proofs.Logic.{by_test, zeros_at, or_none, no_way}
 use Rattle.model.proofs.RowsKeep.{with_ascends}
 use Rattle.bits.specs.declared.Span.{Span}
 use Rattle.bits.specs.Bits.{all_marked, marked, codes_in, CanMark, MarksAre}
 use Rattle.bits.proofs.Sets.{codes_rise, codes_are, codes_set, codes_zeros, in_with, asc_same, with_bit}
 use Rattle.bits.proofs.Laying.{codes_few}
+use Rattle.std.specs.List.{list_all}
 
 -- no marks
 pub no_codes : (n : ℕ) → codes_in (zeros n) ≡ []
@@ -90,43 +89,34 @@ module _ {marks : List ℕ} {span : Span} {code : ℕ} (can : CanMark marks span
   at = code / scratch_bits
 
   pub mark_does :
-      (low past count : ℕ) → marked marks code ≡ false → low ≡ lesser span.low at
-      → past ≡ larger span.past (at + 1)
+      (low past count : ℕ) → marked marks code ≡ false → low ≡ min span.low at
+      → past ≡ max span.past (at + 1)
       → count ≡ span.count + 1
       → MarksAre (with_code code (codes_in marks)) (with_bit marks code)
       (record { low = low; past = past; count = count })
   mark_does low past count m is_low is_past is_count =
       let codes : codes_in (with_bit marks code) ≡ with_code code (codes_in marks) =
       codes_set marks code can.code_below in
-      let before : low ≤ span.low = rw is_low (lesser_left span.low at) in
-      let low_at : low ≤ at = rw is_low (lesser_right span.low at) in
-      let behind : span.past ≤ past = rw is_past (larger_left span.past (at + 1)) in
-      let past_at : at + 1 ≤ past = rw is_past (larger_right span.past (at + 1)) in
-      let inside : past ≤ length marks =
-      rw is_past
-      (larger_most span.past (at + 1) (length marks) can.in_span.past_most (omega (arith, can.code_below))) in
-      let small : past ≤ most_scratch =
-      rw is_past
-      (larger_most span.past (at + 1) most_scratch can.in_span.few (omega (arith, can.code_most))) in
       record {
         codes_are = codes;
         in_span = record {
           none_below =
-              λ k l. get_or-set_other marks at k _ 0 (λ q. omega arith) ∙ can.in_span.none_below k (omega arith);
+              λ k l. get_or-set_other marks at k _ 0 (λ q. omega (arith, is_low))
+              ∙ can.in_span.none_below k (omega (arith, is_low));
           none_past =
-              λ k l. get_or-set_other marks at k _ 0 (λ q. omega arith) ∙ can.in_span.none_past k (omega arith);
-          low_most = rw (length-set marks at) (omega (arith, can.in_span.low_most));
-          past_most = rw (length-set marks at) inside;
-          few = small;
+              λ k l. get_or-set_other marks at k _ 0 (λ q. omega (arith, is_past))
+              ∙ can.in_span.none_past k (omega (arith, is_past));
+          low_most = rw (length-set marks at) (omega (arith, is_low, can.in_span.low_most));
+          past_most = rw (length-set marks at) (omega (arith, is_past, can.in_span.past_most, can.code_below));
+          few = omega (arith, is_past, can.in_span.few, can.code_most);
           count_is = is_count ∙ (longer m ∙ sym (ap length codes));
         };
       }
 
--- a code past the lent numbers is not marked
-pub not_past : (marks : List ℕ) (x : ℕ) → length marks ≤ x / scratch_bits → marked marks x ≡ false
-not_past marks x h =
-    let e : get_or marks (x / scratch_bits) 0 ≡ 0 = get_or-eq_default marks 0 h in
-    rw (e, zero-div (2 ^ (x % scratch_bits)))
+-- a row code by code
+pub row_asked : (marks row : List ℕ) → list_all (λ x. marked marks x) row ≡ all_marked marks row
+row_asked marks [] = refl
+row_asked marks (x ∷ xs) = ap (λ t. marked marks x && t) (row_asked marks xs)
 
 -- A row code by code: what is asked of the rest is asked of the whole.
 rest_head :

@@ -3,7 +3,7 @@
 // that they lie in.
 #![tactic(auto)]
 
-ghost use Rattle.std.specs.Prelude.{◌≡◌, ◌+◌, ◌≤◌, length};
+ghost use Rattle.std.specs.Prelude.{◌≡◌, [], ◌+◌, ◌≤◌, length};
 ghost use Rattle.numbers.specs.Lent.{laid};
 ghost use Rattle.model.specs.Basics.{zeros};
 ghost use Rattle.model.specs.Tables.{scratch_bits};
@@ -12,9 +12,10 @@ ghost use Rattle.model.specs.Construction.{with_code};
 ghost use Rattle.bits.specs.Bits.{marked, all_marked, number_codes, codes_in, InSpan, CanMark, MarksAre};
 
 use model::{MOST_SCRATCH, SCRATCH_BITS};
-use numbers::{larger, lesser, narrow32, wide32};
+use numbers::at_or;
 
 // The marks lie in the numbers from `low` on and below `past`, and `count` codes are marked.
+// Apart from the marks: a struct over both would hold InSpan, which `mark` can not keep, as it asks nothing of a code.
 #[derive(Clone, Copy)]
 pub struct Span {
     pub low: usize,
@@ -22,29 +23,30 @@ pub struct Span {
     pub count: usize,
 }
 
+// The span of no marks.
+pub fn span_of_none(marks: &[u32]) -> Span
+    ensures { marks.now ≡ zeros (length marks.now) → MarksAre [] marks.now result }
+{
+    Span {
+        low: marks.len(),
+        past: 0,
+        count: 0,
+    }
+}
+
 // Is a code marked?
 pub fn is_marked(marks: &[u32], code: usize) -> bool
     ensures { result ≡ marked marks.now code }
 {
-    let at = code / SCRATCH_BITS;
-    if marks.len() <= at {
-        return false;
-    }
-    (marks[at] >> (code % SCRATCH_BITS)) % 2 == 1
+    let number = at_or(marks, code / SCRATCH_BITS, 0);
+    (number >> (code % SCRATCH_BITS)) % 2 == 1
 }
 
 // Are all codes of a row marked?
 pub fn all_marked(marks: &[u32], row: &[u32]) -> bool
     ensures { result ≡ all_marked marks.now row.now }
 {
-    let mut j: usize = 0;
-    while j < row.len() {
-        if !is_marked(marks, wide32(row[j])) {
-            return false;
-        }
-        j += 1;
-    }
-    true
+    row.iter().all(|code| is_marked(marks, *code as usize))
 }
 
 // Marks a code, and counts it where it was not marked.
@@ -53,17 +55,14 @@ pub fn mark(marks: &mut [u32], span: Span, code: usize) -> Span
         → MarksAre (with_code code (codes_in marks.old)) marks.new result }
 {
     let at = code / SCRATCH_BITS;
-    if marks.len() <= at {
+    if marks.len() <= at || is_marked(marks, code) {
         return span;
     }
-    if is_marked(marks, code) {
-        return span;
-    }
-    marks[at] = marks[at] | (1u32 << (code % SCRATCH_BITS));
+    marks[at] |= 1 << (code % SCRATCH_BITS);
     Span {
-        low: lesser(span.low, at),
-        past: larger(span.past, at + 1),
-        count: wide32(narrow32(span.count)) + 1,
+        low: span.low.min(at),
+        past: span.past.max(at + 1),
+        count: span.count.saturating_add(1),
     }
 }
 
@@ -76,13 +75,14 @@ pub(crate) fn lay_number(bits: u32, first: usize, out: &mut [u32], at: usize) ->
 {
     let mut rest = bits;
     let mut to = at;
+    // A `while`: the library has no iterator over the bits that are set, and one of our own would hold this loop.
     while rest != 0 {
         if out.len() <= to {
             return to;
         }
-        let place = u32::trailing_zeros(rest);
-        out[to] = narrow32(first + wide32(place));
-        rest = rest - (1u32 << place);
+        let place = rest.trailing_zeros();
+        out[to] = (first + place as usize) as u32;
+        rest -= 1 << place;
         to += 1;
     }
     to
@@ -93,30 +93,24 @@ pub fn lay_codes(marks: &[u32], span: Span, out: &mut [u32])
     ensures { InSpan marks.now span → length out.old ≡ span.count
         → out.new ≡ codes_in marks.now }
 {
-    let past = lesser(span.past, lesser(marks.len(), MOST_SCRATCH));
-    let mut to: usize = 0;
-    let mut k = span.low;
-    while k < past {
+    let past = span.past.min(marks.len()).min(MOST_SCRATCH);
+    let mut to = 0;
+    for k in span.low..past {
         to = lay_number(marks[k], SCRATCH_BITS * k, out, to);
-        k += 1;
     }
 }
 
-// Takes the marks away. Mostly they lie in one number, so the first stands before the loop, of which the compiler makes
-// a
-// call.
+// Takes the marks away. Mostly they lie in one number, so the first stands before the rest, of which the compiler makes
+// a call.
 pub fn unmark(marks: &mut [u32], span: Span)
     ensures { InSpan marks.old span → marks.new ≡ zeros (length marks.old) }
 {
-    let past = lesser(span.past, marks.len());
-    let mut k = span.low;
-    if past <= k {
+    let low = span.low;
+    let past = span.past.min(marks.len());
+    if past <= low {
         return;
     }
-    marks[k] = 0;
-    k += 1;
-    while k < past {
-        marks[k] = 0;
-        k += 1;
-    }
+    marks[low] = 0;
+    let next = low + 1;
+    marks[next..past].fill(0);
 }

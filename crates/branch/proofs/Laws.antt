@@ -1,4 +1,5 @@
 -- The least run edge by edge: what the edges passed and those still to try give together.
+use Rattle.std.specs.Prelude.{Some, None}
 use mathlib.Core.Path.{◌≡◌, refl, sym, ◌∙◌, ap, ap₂}
 use mathlib.Core.Bool.{Bool, true, false}
 use mathlib.Core.List.{List, [], ◌∷◌, ◌++◌}
@@ -21,18 +22,9 @@ use Rattle.ages.specs.declared.Configuration.{Configuration}
 use Rattle.ages.specs.Ages.{numbers_of, ages_of, takes, Waited, Moved}
 use Rattle.ages.proofs.Laws.{read_ages}
 use Rattle.ages.proofs.Moves.{waited_until, moved_ages}
-use Rattle.branch.specs.declared.Run.{Run}
-use Rattle.branch.specs.Branches.{placed, with_edge, least_at, Ready}
-
--- A run in its places. No run: all zero, wherever it would begin.
-pub nowhere : (depth : ℕ) (p : Path) → depth ≤ most_branch_events → p.taken ≡ [] → placed 0 p ≡ placed depth p
-nowhere depth p h e =
-    let n : depth + (most_branch_events - depth - 0) ≡ most_branch_events = omega arith in
-    let z : zeros depth ++ filled (most_branch_events - depth) [] ≡ zeros most_branch_events =
-    replicate-append-replicate depth (most_branch_events - depth - 0) 0 ∙ ap (λ (j : ℕ). zeros j) n in
-    ap (λ (es : List ℕ). record { edges = es; found = p.found })
-    (ap (λ (xs : List ℕ). filled most_branch_events xs) e
-    ∙ (sym z ∙ ap (λ (xs : List ℕ). zeros depth ++ filled (most_branch_events - depth) xs) (sym e)))
+use Rattle.edges.specs.declared.StoredEdge.{StoredEdge}
+use Rattle.edges.specs.Views.{edge_of}
+use Rattle.branch.specs.Branches.{placed, least_at, Ready}
 
 zeros_then : (k : ℕ) (xs : List ℕ) → zeros k ++ (0 ∷ xs) ≡ zeros (suc k) ++ xs
 zeros_then zero xs = refl
@@ -58,19 +50,41 @@ pub at_end_lem :
 unfolding least_from rule_in
 at_end_lem head edges d symbols stamps depth last from h = rw (events_end symbols stamps depth h)
 
-pub end_is :
-    (head : Head) (edges : List ℕ) (d : ℕ) (symbols stamps : List ℕ) (depth last : ℕ) (from : Configuration)
-    (t : Bool) (r : Run)
+pub end_found :
+    (head : Head) (edges : List ℕ) (d : ℕ) (symbols stamps : List ℕ) (depth last : ℕ) (from : Configuration) (t : Bool)
     → Ready head symbols stamps depth last from
     → length symbols ≤ depth
     → t ≡ is_in from.location (locations_in head.ends)
-    → r ≡ placed 0 (path t 0 [])
-    → r ≡ placed depth (least_at head edges d symbols stamps depth last from)
-end_is head edges d symbols stamps depth last from t r ready h f e =
-    e
-    ∙ (nowhere depth (path t 0 []) (omega (arith, ready.depth_in, ready.events_most)) refl
-    ∙ ap (λ (p : Path). placed depth p)
-    (ap (λ (x : Bool). path x 0 []) f ∙ sym (at_end_lem head edges d symbols stamps depth last from h)))
+    → t ≡ true
+    → Some (zeros most_branch_events) ≡ placed depth (least_at head edges d symbols stamps depth last from)
+end_found head edges d symbols stamps depth last from t ready h f y =
+    let n : depth + (most_branch_events - depth - 0) ≡ most_branch_events =
+    omega (arith, ready.depth_in, ready.events_most) in
+    let z : zeros depth ++ filled (most_branch_events - depth) [] ≡ zeros most_branch_events =
+    replicate-append-replicate depth (most_branch_events - depth - 0) 0 ∙ ap (λ (j : ℕ). zeros j) n in
+    rw (at_end_lem head edges d symbols stamps depth last from h, sym f ∙ y, z)
+
+pub end_none :
+    (head : Head) (edges : List ℕ) (d : ℕ) (symbols stamps : List ℕ) (depth last : ℕ) (from : Configuration) (t : Bool)
+    → length symbols ≤ depth
+    → t ≡ is_in from.location (locations_in head.ends)
+    → t ≡ false
+    → None ≡ placed depth (least_at head edges d symbols stamps depth last from)
+end_none head edges d symbols stamps depth last from t h f y =
+    rw (at_end_lem head edges d symbols stamps depth last from h, sym f ∙ y)
+
+-- a run in its places, by whether there is one
+pub placed_none : (depth : ℕ) (p : Path) (t : Bool) → p.found ≡ t → None ≡ placed depth p → t ≡ false
+placed_none depth p true f e =
+    let k : None ≡ Some (zeros depth ++ filled (most_branch_events - depth) p.taken) = rw f at e in absurd (cc)
+placed_none depth p false f e = refl
+
+pub placed_some :
+    (depth : ℕ) (p : Path) (t : Bool) (es : List ℕ) → p.found ≡ t → Some es ≡ placed depth p
+    → (t ≡ true) × (es ≡ zeros depth ++ filled (most_branch_events - depth) p.taken)
+placed_some depth p true es f e =
+    let k : Some es ≡ Some (zeros depth ++ filled (most_branch_events - depth) p.taken) = rw f at e in (refl, cc)
+placed_some depth p false es f e = let k : Some es ≡ None = rw f at e in absurd (cc)
 
 -- one event: v is the event, `now` the configuration after the delay
 module _ (head : Head) (edges : List ℕ) (d : ℕ) (symbols stamps : List ℕ) (depth : ℕ) (now : Configuration) where
@@ -121,54 +135,59 @@ module _ (head : Head) (edges : List ℕ) (d : ℕ) (symbols stamps : List ℕ) 
       (edges_rest head.count e edges h)
       ∙ rw (add-one e)
 
-  module _ {by : List ℕ} {e : ℕ} (inv : Trying by e) (h : e < head.count) where
-    skip : (by_edge e).found ≡ false → Trying by (e + 1)
-    skip f = record {
-      turns = omega arith;
-      clocks_read = inv.clocks_read;
-      rest_is = (rw f at (sym (try_step e h))) ∙ inv.rest_is;
-    }
+  module _
+      {by : List ℕ} {e : ℕ} (inv : Trying by e) (h : e < head.count) (edge : Edge) (edge_is : edge ≡ edge_at e edges)
+    where
+      skip : (by_edge e).found ≡ false → Trying by (e + 1)
+      skip f = record {
+        turns = omega arith;
+        clocks_read = inv.clocks_read;
+        rest_is = (rw f at (sym (try_step e h))) ∙ inv.rest_is;
+      }
 
-    -- an edge that cannot be taken
-    pub trying_other :
-        (r : Bool) → r ≡ takes d head.clocks (get_or symbols depth 0) now (edge_at e edges) → r ≡ false
-        → Trying by (e + 1)
-    trying_other r t f = skip (rw (sym t ∙ f))
+      -- an edge that cannot be taken
+      pub trying_other :
+          (r : Bool) → r ≡ takes d head.clocks (get_or symbols depth 0) now edge → r ≡ false → Trying by (e + 1)
+      trying_other r t f = skip (rw (sym (rw edge_is at t) ∙ f))
 
-    -- the next event is at place `after`
-    module _ (next : Configuration) (moved : Moved (edge_at e edges) now next) (after : ℕ) (a : after ≡ depth + 1) where
-      -- what edge e leads to, by the configuration that it reaches
-      reached :
-          (r : Bool) → r ≡ takes d head.clocks (get_or symbols depth 0) now (edge_at e edges) → r ≡ true
-          → by_edge e ≡ least_at head edges d symbols stamps after (get_or stamps depth 0) next
-      reached r t f = rw (sym t ∙ f, a) (ap₂ onward (sym moved.location_is) (sym (moved_ages head.clocks moved)))
+      -- the next event is at place `after`
+      module _
+          (next : Configuration) (moved : Moved edge now next) (after : ℕ) (a : after ≡ depth + 1) (r : Bool)
+          (t : r ≡ takes d head.clocks (get_or symbols depth 0) now edge) (y : r ≡ true)
+        where
+          -- what edge e leads to, by the configuration that it reaches
+          reached : by_edge e ≡ least_at head edges d symbols stamps after (get_or stamps depth 0) next
+          reached =
+              let m : Moved (edge_at e edges) now next = rw edge_is at moved in
+              rw (sym (rw edge_is at t) ∙ y, a) (ap₂ onward (sym m.location_is) (sym (moved_ages head.clocks m)))
 
-      -- no accepting run that way
-      pub trying_stuck :
-          (r : Bool) (run : Run) → r ≡ takes d head.clocks (get_or symbols depth 0) now (edge_at e edges) → r ≡ true
-          → run ≡ placed after (least_at head edges d symbols stamps after (get_or stamps depth 0) next)
-          → run.found ≡ false
-          → Trying by (e + 1)
-      trying_stuck r run t f p g =
-          skip (ap (λ (q : Path). q.found) (reached r t f) ∙ (sym (ap (λ (b : Run). b.found) p) ∙ g))
+          -- no accepting run that way
+          pub trying_stuck :
+              None ≡ placed after (least_at head edges d symbols stamps after (get_or stamps depth 0) next)
+              → Trying by (e + 1)
+          trying_stuck p =
+              let q : Path = least_at head edges d symbols stamps after (get_or stamps depth 0) next in
+              skip (ap (λ (x : Path). x.found) reached ∙ placed_none after q q.found refl p)
 
-      pub trying_found :
-          (r : Bool) (run : Run) → depth < most_branch_events
-          → r ≡ takes d head.clocks (get_or symbols depth 0) now (edge_at e edges)
-          → r ≡ true
-          → run ≡ placed after (least_at head edges d symbols stamps after (get_or stamps depth 0) next)
-          → run.found ≡ true
-          → with_edge run depth e ≡ placed depth (try_from 0)
-      trying_found r run b t f p g =
-          let q : Path = least_at head edges d symbols stamps after (get_or stamps depth 0) next in
-          let found : q.found ≡ true = sym (ap (λ (x : Run). x.found) p) ∙ g in
-          let led : by_edge e ≡ q = reached r t f in
-          let whole : try_from 0 ≡ path true 0 (e ∷ q.taken) =
-          sym inv.rest_is ∙ (try_step e h ∙ rw (led, found)) in
-          rw (p, whole, found, edge_before depth after e q.taken b a)
+          pub trying_found :
+              (run : List ℕ) → depth < most_branch_events
+              → Some run ≡ placed after (least_at head edges d symbols stamps after (get_or stamps depth 0) next)
+              → Some (set run depth e) ≡ placed depth (try_from 0)
+          trying_found run b p =
+              let q : Path = least_at head edges d symbols stamps after (get_or stamps depth 0) next in
+              let some = placed_some after q q.found run refl p in
+              let whole : try_from 0 ≡ path true 0 (e ∷ q.taken) =
+              sym inv.rest_is ∙ (try_step e h ∙ rw (reached, some.0)) in
+              rw (some.1, whole, edge_before depth after e q.taken b a)
 
   pub trying_none : {by : List ℕ} {e : ℕ} → Trying by e → head.count ≤ e → try_from 0 ≡ no_path
   trying_none {e = e} inv h = let z : head.count - e ≡ 0 = omega arith in sym inv.rest_is ∙ rw z
+
+-- an edge of a stored rule is the one with its number
+pub edge_by :
+    (edge : StoredEdge) (e : ℕ) (edges : List ℕ) → (edge.table.now ≡ edges) × (edge.number ≡ e)
+    → edge_of edge ≡ edge_at e edges
+edge_by edge e edges q = rw (q.0, q.1)
 
 -- the least run from before the delay is that over all edges after it
 pub at_event :
@@ -188,7 +207,7 @@ at_event head edges d symbols stamps depth last delay from now ready h b e w =
 
 -- the next event is ready too
 pub next_ready :
-    (head : Head) (edges : List ℕ) (symbols stamps : List ℕ) (depth after last delay e : ℕ)
+    (head : Head) (symbols stamps : List ℕ) (depth after last delay : ℕ) (edge : Edge)
     (from now next : Configuration)
     → Ready head symbols stamps depth last from
     → depth < length symbols
@@ -196,9 +215,9 @@ pub next_ready :
     → get_or stamps depth 0 < 2 ^ 32
     → delay ≡ get_or stamps depth 0 - last
     → Waited delay from now
-    → Moved (edge_at e edges) now next
+    → Moved edge now next
     → Ready head symbols stamps after (get_or stamps depth 0) next
-next_ready head edges symbols stamps depth after last delay e from now next ready h a b q w m =
+next_ready head symbols stamps depth after last delay edge from now next ready h a b q w m =
     let order = ordered_rest last symbols stamps depth h ready.counts_equal ready.stamps_ordered in
     let aged = waited_until head.clocks last (get_or stamps depth 0) w q ready.ages_most order.0 b in
     let most : AtMost (get_or stamps depth 0) (ages_of head.clocks now.ages) =
@@ -212,5 +231,5 @@ next_ready head edges symbols stamps depth after last delay e from now next read
       stamps_ordered = rw a order.1;
       ages_most =
           rw (moved_ages head.clocks m)
-          (zeroed_most (get_or stamps depth 0) 0 (edge_at e edges).resets (ages_of head.clocks now.ages) most);
+          (zeroed_most (get_or stamps depth 0) 0 edge.resets (ages_of head.clocks now.ages) most);
     }

@@ -1,5 +1,6 @@
 -- What held a rule back: edges that leave no initial location on the first symbol are passed, so the answer is what the
 -- edges still to come give; and what the clocks read at the first event.
+use Rattle.std.specs.Prelude.{Option, None}
 use mathlib.Core.Path.{◌≡◌, refl, sym, ◌∙◌, ap}
 use mathlib.Core.Bool.{Bool, true, false, ◌&&◌}
 use mathlib.Core.List.{List, [], ◌∷◌}
@@ -8,8 +9,6 @@ use native.Mathlib.Omega.{arith}
 use lib.Dec.{eqb}
 use lib.ListN.{length, get_or, take, drop}
 use Rattle.model.specs.declared.Head.{Head}
-use Rattle.model.specs.declared.Guard.{Guard}
-use Rattle.model.specs.declared.Guard.TheVariants.{Holds}
 use Rattle.model.specs.Basics.{pick, is_in, zeros}
 use Rattle.model.specs.Rules.{Edge, guard_of, most_clocks}
 use Rattle.model.specs.Words.{events_of}
@@ -29,21 +28,9 @@ use Rattle.branch.specs.Branches.{least_of}
 abbrev leaves_some : List ℕ → ℕ → Edge → Bool
 leaves_some initial s e = is_in e.source initial && eqb e.symbol s
 
-pub no_location :
-    (initial : List ℕ) (s n : ℕ) (e : Edge) (r : Bool) → n ≡ e.source → r ≡ is_in n initial → r ≡ false
-    → false ≡ leaves_some initial s e
-no_location initial s n e r h i f = rw (← h, sym i ∙ f)
-
-pub symbol_decides :
-    (initial : List ℕ) (s n m m' : ℕ) (e : Edge) (r : Bool) → n ≡ e.source → r ≡ is_in n initial → r ≡ true
-    → m ≡ e.symbol
-    → m' ≡ s
-    → eqb m m' ≡ leaves_some initial s e
-symbol_decides initial s n m m' e r h i f a b = rw (← h, sym i ∙ f, a, b)
-
 -- The edges from number e on are left, over what the clocks read.
 module _ (starts symbol count d : ℕ) (edges by : List ℕ) where
-  abbrev pub lowest_from : ℕ → Guard
+  abbrev pub lowest_from : ℕ → Option ℕ
   lowest_from e =
       lowest_leaving (locations_in starts) symbol d by (edges_in (count - e) (drop (edge_width * e) edges))
 
@@ -54,23 +41,24 @@ module _ (starts symbol count d : ℕ) (edges by : List ℕ) where
   pub asking : Asking 0
   asking = record { turns = omega arith; rest_is = refl }
 
-  module _ {e : ℕ} (inv : Asking e) (h : e < count) (r : Bool)
-      (tested : r ≡ leaves_some (locations_in starts) symbol (edge_at e edges)) where
-    ask_step :
-        pick r (guard d by (guard_of (edge_at e edges))) (lowest_from (e + 1)) ≡ lowest_from 0
-    ask_step =
-        rw tested
-        (sym (ap (lowest_leaving (locations_in starts) symbol d by) (edges_rest count e edges h))
-        ∙ inv.rest_is)
+  module _
+      {e : ℕ} (inv : Asking e) (h : e < count) (edge : Edge) (edge_is : edge ≡ edge_at e edges) (r : Bool)
+      (tested : r ≡ leaves_some (locations_in starts) symbol edge)
+    where
+      ask_step : pick r (guard d by (guard_of edge)) (lowest_from (e + 1)) ≡ lowest_from 0
+      ask_step =
+          rw (tested, edge_is)
+          (sym (ap (lowest_leaving (locations_in starts) symbol d by) (edges_rest count e edges h))
+          ∙ inv.rest_is)
 
-    pub asking_next : r ≡ false → Asking (e + 1)
-    asking_next f = record { turns = omega arith; rest_is = rw f at ask_step }
+      pub asking_next : r ≡ false → Asking (e + 1)
+      asking_next f = record { turns = omega arith; rest_is = rw f at ask_step }
 
-    pub asking_found :
-        (g : Guard) → r ≡ true → g ≡ guard d by (guard_of (edge_at e edges)) → g ≡ lowest_from 0
-    asking_found g f k = k ∙ (rw f at ask_step)
+      pub asking_found :
+          (g : Option ℕ) → r ≡ true → g ≡ guard d by (guard_of edge) → g ≡ lowest_from 0
+      asking_found g f k = k ∙ (rw f at ask_step)
 
-  pub asking_none : {e : ℕ} → Asking e → count ≤ e → Holds ≡ lowest_from 0
+  pub asking_none : {e : ℕ} → Asking e → count ≤ e → None ≡ lowest_from 0
   asking_none {e} inv h = let z : count - e ≡ 0 = omega arith in rw z at inv.rest_is
 
 -- the first event's ages: all were 0, and the delay is its stamp
@@ -88,7 +76,7 @@ module _ (head : Head) (edges : List ℕ) (d symbol stamp : ℕ) where
       waited_until head.clocks 0 stamp w e (rw none (zeros_most 0 head.clocks)) (omega arith) b ∙ rw (whole, none)
 
   pub lowest_is :
-      (count clocks delay : ℕ) (from now : Configuration) (read by : List ℕ) (g : Guard) → head.clocks ≤ most_clocks
+      (count clocks delay : ℕ) (from now : Configuration) (read by : List ℕ) (g : Option ℕ) → head.clocks ≤ most_clocks
       → stamp < 2 ^ 32
       → numbers_of from.ages.of ≡ zeros most_clocks
       → delay ≡ stamp - 0
@@ -116,7 +104,7 @@ module _ (head : Head) (edges : List ℕ) (d : ℕ) where
 
   pub held_none :
       (symbols stamps : List ℕ) → (least_of head edges d symbols stamps).found ≡ true
-      → Holds ≡ held_back (rule_in head edges) d (events_of symbols stamps)
+      → None ≡ held_back (rule_in head edges) d (events_of symbols stamps)
   unfolding held_back
   held_none [] stamps t = refl
   held_none (x ∷ symbols) [] t = refl
@@ -124,13 +112,13 @@ module _ (head : Head) (edges : List ℕ) (d : ℕ) where
 
   pub held_empty :
       (symbols stamps : List ℕ) → length symbols ≡ 0
-      → Holds ≡ held_back (rule_in head edges) d (events_of symbols stamps)
+      → None ≡ held_back (rule_in head edges) d (events_of symbols stamps)
   unfolding held_back
   held_empty [] stamps h = refl
   held_empty (x ∷ symbols) stamps h = absurd (omega arith)
 
   pub held_by :
-      (symbols stamps : List ℕ) (g : Guard) → (least_of head edges d symbols stamps).found ≡ false
+      (symbols stamps : List ℕ) (g : Option ℕ) → (least_of head edges d symbols stamps).found ≡ false
       → (length symbols ≡ 0 → ⊥)
       → length symbols ≡ length stamps
       → g

@@ -1,5 +1,6 @@
 -- The least run by its start: the initial locations passed led to no accepting run.
-use mathlib.Core.Path.{◌≡◌, refl, sym, ◌∙◌, ap}
+use Rattle.std.specs.Prelude.{Option, Some, None}
+use mathlib.Core.Path.{◌≡◌, refl, sym, ◌∙◌}
 use mathlib.Core.Bool.{Bool, true, false}
 use mathlib.Core.List.{List}
 use Prim.Native.Nat.{ℕ, suc, ◌+◌, ◌-◌, ◌≤◌, ◌<◌}
@@ -16,8 +17,8 @@ use Rattle.model.proofs.Ages.{zeros_most, bits_more, bits_skip}
 use Rattle.ages.specs.declared.Configuration.{Configuration}
 use Rattle.ages.specs.Ages.{numbers_of}
 use Rattle.ages.proofs.Moves.{start_ages_lem}
-use Rattle.branch.specs.declared.Run.{Run}
-use Rattle.branch.specs.Branches.{placed, with_start, least_at, begun, least_of, Ready, Begins}
+use Rattle.branch.specs.Branches.{placed, least_at, begun, least_of, Ready, Begins}
+use Rattle.branch.proofs.Laws.{placed_none, placed_some}
 
 -- with all n events left, the first is at place 0
 all_left : (n : ℕ) → n - n ≡ 0
@@ -76,7 +77,7 @@ module _ (head : Head) (edges : List ℕ) (d : ℕ) (symbols stamps : List ℕ) 
         is_start = rw inv.starts_are at (sym t ∙ set)
 
         -- the run over all events
-        abbrev whole : Run
+        abbrev whole : Option (List ℕ)
         whole =
             let first = length symbols - length symbols in
             placed first (least_at head edges d symbols stamps first 0 from)
@@ -88,20 +89,17 @@ module _ (head : Head) (edges : List ℕ) (d : ℕ) (symbols stamps : List ℕ) 
         unfolding least_start rule_in
         start_step = rw (left, bits_more (most_locations - (l + 1)) l head.starts is_start, add-one l)
 
-        pub starting_stuck : (run : Run) → run ≡ whole → run.found ≡ false → Starting starts (l + 1)
-        starting_stuck run p f =
-            let none : (run_from l).found ≡ false = sym (ap (λ (x : Run). x.found) (p ∙ whole_is)) ∙ f in
-            on_to (start_step ∙ rw none)
+        pub starting_stuck : None ≡ whole → Starting starts (l + 1)
+        starting_stuck p = on_to (start_step ∙ rw (placed_none 0 (run_from l) (run_from l).found refl (p ∙ whole_is)))
 
         pub starting_found :
-            (run : Run) → run ≡ whole → run.found ≡ true
-            → with_start run l ≡ begun (least_of head edges d symbols stamps)
-        starting_found run p f =
-            let q : run ≡ placed 0 (run_from l) = p ∙ whole_is in
-            let found : (run_from l).found ≡ true = sym (ap (λ (x : Run). x.found) q) ∙ f in
+            (es : List ℕ) → Some es ≡ whole
+            → Some (record { start = l; edges = es }) ≡ begun (least_of head edges d symbols stamps)
+        starting_found es p =
+            let some = placed_some 0 (run_from l) (run_from l).found es refl (p ∙ whole_is) in
             let least : least_of head edges d symbols stamps ≡ path true l (run_from l).taken =
-            sym inv.rest_is ∙ (start_step ∙ rw found) in
-            rw (q, least, found)
+            sym inv.rest_is ∙ (start_step ∙ rw some.0) in
+            rw (some.1, least)
 
   pub starting_none :
       {starts l : ℕ} → Starting starts l → most_locations ≤ l → least_of head edges d symbols stamps ≡ no_path

@@ -1,2 +1,2 @@
 pub mod EdgeChecks
-pub mod PinLaws
+pub mod Walks

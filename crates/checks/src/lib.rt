@@ -1,93 +1,127 @@
-// The checks of an edge over its numbers in the table: its fields, the group rules, its atoms one after the other, and
-// the pin of its resets. The reader and the check of a rule share them.
-// Total: a place past the end of the numbers holds 0.
+// The checks of an edge of the table: its fields, the group rules, its atoms one after the other, and the pin of its
+// resets. The reader and the check of a rule share them.
+// Total: a place past the end of the table holds 0.
 #![tactic(auto)]
 
-ghost use Rattle.std.specs.Prelude.{◌≡◌, ◌||◌, eqb};
-ghost use Rattle.model.specs.Rules.{atoms_in, atoms_ok, is_pinned};
-ghost use Rattle.checks.specs.Checks.{fields_ok, text_kept, outer_in, edge_fault};
+ghost use Rattle.std.specs.Prelude.{◌≡◌, drop};
+ghost use Rattle.model.specs.Texts.{outer};
+ghost use Rattle.model.specs.Rules.{guard_of, atoms_of, atom_ok, atoms_ok, has_atom, pins, is_pinned, text_ok};
+ghost use Rattle.model.specs.Rules.{integer_reset};
+ghost use Rattle.edges.specs.Atoms.{atom_of};
+ghost use Rattle.edges.specs.Views.{edge_of, numbers_of};
+ghost use Rattle.checks.specs.Checks.{fields_ok, in_range, edge_fault, number_in};
 
-use edges::fields::{kind_of, resets_of, text_of};
-use edges::mask_ok;
-use model::{EDGE_RESETS, EDGE_SOURCE, EDGE_SYMBOL, EDGE_TARGET, GROUPED_EDGE, Head, PLAIN_EDGE};
-use numbers::{number_at, wide32};
+use edges::atoms::{Atom, Atoms, Grouped, Outermost, Plain, Walk};
+use edges::{StoredEdge, mask_ok};
+use model::{
+    AT_LEAST, AT_MOST, EQUAL, Fault, GROUPED_EDGE, Head, MOST_CONSTANT, MOST_RELATION, PLAIN_EDGE,
+};
 use texts::groups_ok;
 
-mod grouped;
-mod plain;
-
 // Source, target, symbol and reset mask in range.
-pub(crate) fn fields_ok(head: Head, fields: &[u16]) -> bool
-    ensures { result ≡ fields_ok head fields.now }
+pub(crate) fn fields_ok(head: Head, edge: StoredEdge<'_>) -> bool
+    ensures { result ≡ fields_ok head (numbers_of edge.entry) }
 {
-    let locations = wide32(head.locations);
-    if locations <= number_at(fields, EDGE_SOURCE) {
-        return false;
-    }
-    if locations <= number_at(fields, EDGE_TARGET) {
-        return false;
-    }
-    if wide32(head.symbols) <= number_at(fields, EDGE_SYMBOL) {
-        return false;
-    }
-    mask_ok(number_at(fields, EDGE_RESETS), wide32(head.clocks))
+    let locations = head.locations as usize;
+    edge.source() < locations
+        && edge.target() < locations
+        && edge.symbol() < head.symbols as usize
+        && mask_ok(edge.resets(), head.clocks as usize)
 }
 
 // A text of kind 6 keeps the group rules.
-pub(crate) fn text_ok(kind: usize, text: &[u16]) -> bool
-    ensures { result ≡ text_kept kind text.now }
+pub(crate) fn text_ok(edge: StoredEdge<'_>) -> bool
+    ensures { result ≡ text_ok (edge_of edge.entry) }
 {
-    if kind == GROUPED_EDGE {
-        return groups_ok(text);
-    }
-    true
+    edge.kind() != GROUPED_EDGE || groups_ok(edge.text())
 }
 
-// Clock, relation and constant of each atom in range, in whatever group.
-pub(crate) fn atoms_ok(kind: usize, text: &[u16], clocks: usize) -> bool
-    ensures { result ≡ atoms_ok clocks (atoms_in kind text.now) }
+// Clock, relation and constant in range.
+pub(crate) fn atom_ok(atom: Atom, clocks: usize) -> bool
+    ensures { result ≡ atom_ok clocks (atom_of atom) }
 {
-    if kind == PLAIN_EDGE {
-        return plain::atoms_ok(text, clocks);
+    atom.clock < clocks && atom.relation <= MOST_RELATION && atom.constant <= MOST_CONSTANT
+}
+
+pub(crate) fn all_ok<W: Walk>(mut atoms: Atoms<'_, W>, clocks: usize) -> bool
+    ensures { result ≡ atoms_ok clocks (W.atoms (drop atoms.entry.from atoms.entry.text.now)) }
+{
+    atoms.all(|atom| atom_ok(atom, clocks))
+}
+
+// Each atom in range, in whatever group.
+pub(crate) fn atoms_ok(edge: StoredEdge<'_>, clocks: usize) -> bool
+    ensures { result ≡ atoms_ok clocks (atoms_of (edge_of edge.entry)) }
+{
+    if edge.kind() == PLAIN_EDGE {
+        all_ok(Atoms::<Plain>::of(edge.text()), clocks)
+    } else {
+        all_ok(Atoms::<Grouped>::of(edge.text()), clocks)
     }
-    grouped::atoms_ok(text, clocks)
+}
+
+pub(crate) fn has_atom<W: Walk>(mut atoms: Atoms<'_, W>, wanted: Atom) -> bool
+    ensures { result ≡ has_atom wanted.clock wanted.relation wanted.constant
+        (W.atoms (drop atoms.entry.from atoms.entry.text.now)) }
+{
+    atoms.any(|atom| atom == wanted)
+}
+
+// Does an atom pin its clock, among all atoms of its level? An at-least needs its partner.
+pub(crate) fn pins<W: Walk>(among: Atoms<'_, W>, atom: Atom) -> bool
+    ensures { result ≡ pins (W.atoms (drop among.entry.from among.entry.text.now)) (atom_of atom) }
+{
+    let partner = Atom {
+        relation: AT_MOST,
+        ..atom
+    };
+    atom.relation == EQUAL || atom.relation == AT_LEAST && has_atom(among, partner)
+}
+
+// Does some atom pin?
+pub(crate) fn any_pins<W: Walk>(among: Atoms<'_, W>) -> bool
+    ensures { result ≡ is_pinned (W.atoms (drop among.entry.from among.entry.text.now)) }
+{
+    let mut atoms = among;
+    atoms.any(|atom| pins(among, atom))
 }
 
 // Does some atom on the outermost level pin?
-pub(crate) fn is_pinned(kind: usize, text: &[u16]) -> bool
-    ensures { result ≡ is_pinned (outer_in kind text.now) }
+#[tactic(auto, using(crate::proofs::Walks::flat_outer))]
+pub(crate) fn is_pinned(edge: StoredEdge<'_>) -> bool
+    ensures { result ≡ is_pinned (outer (guard_of (edge_of edge.entry))) }
 {
-    if kind == PLAIN_EDGE {
-        return plain::is_pinned(text);
+    if edge.kind() == PLAIN_EDGE {
+        any_pins(Atoms::<Plain>::of(edge.text()))
+    } else {
+        any_pins(Atoms::<Outermost>::of(edge.text()))
     }
-    grouped::is_pinned(text)
 }
 
-// Integer reset: an edge that resets any clock is pinned.
-pub(crate) fn integer_reset(kind: usize, resets: usize, text: &[u16]) -> bool
-    ensures { result ≡ (eqb resets 0 || is_pinned (outer_in kind text.now)) }
+// Integer reset: an edge that resets any clock is pinned, on the outermost level of its guard.
+pub(crate) fn integer_reset(edge: StoredEdge<'_>) -> bool
+    ensures { result ≡ integer_reset (edge_of edge.entry) }
 {
-    resets == 0 || is_pinned(kind, text)
+    edge.resets() == 0 || is_pinned(edge)
 }
 
-// The edge at the front of a list of numbers: 6 for a number outside its range or a text that breaks the group rules, 7
-// for resets that are not pinned; 0 for none.
-pub fn edge_fault(head: Head, edge: &[u16]) -> u8
-    ensures { result ≡ edge_fault head edge.now }
+// Each number in its range, and the group rules.
+pub(crate) fn in_range(head: Head, edge: StoredEdge<'_>) -> bool
+    ensures { result ≡ in_range head (numbers_of edge.entry) }
 {
-    let kind = kind_of(edge, 0);
-    let text = text_of(edge, 0);
-    if !fields_ok(head, edge) {
-        return 6;
+    fields_ok(head, edge) && text_ok(edge) && atoms_ok(edge, head.clocks as usize)
+}
+
+// 6 for a number outside its range or a text that breaks the group rules, 7 for resets that are not pinned.
+#[tactic(auto, unfolding(crate::specs::Checks::edge_fault))]
+pub fn check_edge(head: Head, edge: StoredEdge<'_>) -> Result<(), Fault>
+    ensures { number_in result ≡ edge_fault head (numbers_of edge.entry) }
+{
+    if !in_range(head, edge) {
+        return Err(Fault::OutOfRange);
     }
-    if !text_ok(kind, text) {
-        return 6;
+    if !integer_reset(edge) {
+        return Err(Fault::NotPinned);
     }
-    if !atoms_ok(kind, text, wide32(head.clocks)) {
-        return 6;
-    }
-    if !integer_reset(kind, resets_of(edge, 0), text) {
-        return 7;
-    }
-    0
+    Ok(())
 }

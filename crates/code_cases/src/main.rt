@@ -5,80 +5,61 @@
 ghost use Rattle.std.specs.Prelude.{◌≤◌};
 ghost use Rattle.model.specs.Rules.{most_locations};
 
+use codes::Scale;
 use codes::powers::scale_by;
-use codes::{Scale, pack, unpack};
 use model::{MOST_CLOCKS, MOST_CONSTANT, MOST_LOCATIONS, MOST_PAIRS};
-use numbers::{narrow16, wide32};
-use std::io;
-
-// What was seen. The sums stop at the top of their range, which they do not reach.
-#[derive(Clone, Copy)]
-struct Tally {
-    sizes: u32,
-    codes: u32,
-    wrong: u32,
-}
+use numbers::Narrow;
+use std::{fmt, io};
 
 // Does a code come back, from a location below L?
 fn comes_back(scale: Scale, locations: usize, code: u32) -> bool
     requires { locations ≤ most_locations }
 {
-    let pair = unpack(scale, code);
-    if locations <= pair.location {
-        return false;
-    }
-    let bases = pair.bases;
-    pack(scale, narrow16(pair.location), bases) == wide32(code)
+    let pair = scale.unpack(code);
+    pair.location < locations && scale.pack(u16::narrow(pair.location), pair.bases) == code as usize
 }
 
-// All codes below N, of a size with N at or below 65,536.
-fn of_size(scale: Scale, locations: usize, before: Tally) -> Tally
-    requires { locations ≤ most_locations }
-{
-    let pairs = locations * wide32(scale.weight);
-    if MOST_PAIRS < pairs {
-        return before;
-    }
-    let codes = pairs as u32;
-    let mut wrong = before.wrong;
-    for code in 0..codes {
-        if !comes_back(scale, locations, code) {
-            wrong = wrong.saturating_add(1);
+// What was seen. The sums stop at the top of their range, which they do not reach.
+#[derive(Clone, Copy, Default)]
+struct Tally {
+    sizes: usize,
+    codes: usize,
+    wrong: usize,
+}
+
+impl Tally {
+    // All codes below N, of a size with N at or below 65,536.
+    fn see(&mut self, scale: Scale, locations: usize)
+        requires { locations ≤ most_locations }
+    {
+        let pairs = locations * scale.weight as usize;
+        if MOST_PAIRS < pairs {
+            return;
         }
-    }
-    Tally {
-        sizes: before.sizes.saturating_add(1),
-        codes: before.codes.saturating_add(codes),
-        wrong,
+        let wrong = (0..pairs as u32)
+            .filter(|code| !comes_back(scale, locations, *code))
+            .count();
+        self.sizes = self.sizes.saturating_add(1);
+        self.codes = self.codes.saturating_add(pairs);
+        self.wrong = self.wrong.saturating_add(wrong);
     }
 }
 
-// All L.
-fn of_scale(scale: Scale, before: Tally) -> Tally {
-    let mut tally = before;
-    for locations in 1..=MOST_LOCATIONS {
-        tally = of_size(scale, locations, tally);
+impl fmt::Display for Tally {
+    fn fmt<W: fmt::Write>(&self, f: &mut fmt::Formatter<W>) -> fmt::Result {
+        write!(f, "{} {} {}", self.sizes, self.codes, self.wrong)
     }
-    tally
-}
-
-// All cm.
-fn of_clocks(clocks: u32, before: Tally) -> Tally {
-    let mut tally = before;
-    for top in 0..=MOST_CONSTANT as u8 {
-        tally = of_scale(scale_by(top, clocks), tally);
-    }
-    tally
 }
 
 fn main(rt: HostRuntime) -> io::Result<()> {
-    let mut tally = Tally {
-        sizes: 0,
-        codes: 0,
-        wrong: 0,
-    };
+    let mut tally = Tally::default();
     for clocks in 1..=MOST_CLOCKS as u32 {
-        tally = of_clocks(clocks, tally);
+        for top in 0..=MOST_CONSTANT as u8 {
+            let scale = scale_by(top, clocks);
+            for locations in 1..=MOST_LOCATIONS {
+                tally.see(scale, locations);
+            }
+        }
     }
-    println!(rt; "{} {} {}", tally.sizes, tally.codes, tally.wrong)
+    println!(rt; "{tally}")
 }

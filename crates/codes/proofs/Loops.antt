@@ -17,7 +17,7 @@ use Rattle.model.proofs.Logic.{quotient_is, remainder_is, first_part, less, leas
 use Rattle.codes.specs.declared.Scale.{Scale}
 use Rattle.codes.specs.declared.Pair.{Pair}
 use Rattle.codes.specs.Codes.{Powered, power_at, bases_code, packed, bases_from, unpacked}
-use Rattle.codes.proofs.PowerLaws.{Raised, first_power, past_front, raised_at, weight_at}
+use Rattle.codes.proofs.PowerLaws.{Raised, raised_of, first_power, past_front}
 use Rattle.codes.proofs.Codes.{low_remainder, bases_length, power_least}
 
 -- the base of clock i, by its place
@@ -67,16 +67,6 @@ module _ {m : ℕ} {powers : List ℕ} {clocks : ℕ} (raised : Raised m powers 
   past_clocks i h =
       past_front most_clocks (bases_from powers clocks 0 code) i (rw (bases_length powers clocks 0 code) h)
 
--- What is known of a scale of powers.
-pub record Known (powers : List ℕ) (clocks weight : ℕ) : Type 0 where
-  pub raised : Raised (power_at powers 1) powers clocks
-  pub weight_is : weight ≡ power_at powers 1 ^ clocks
-
-pub known_of :
-    {z : Scale} {clocks weight : ℕ} → Powered z → clocks ≡ z.clocks → weight ≡ z.weight
-    → Known z.powers clocks weight
-known_of powered k w = record { raised = raised_at powered k; weight_is = w ∙ weight_at powered k }
-
 -- Taken apart down to clock k.
 pub record Taking (m : ℕ) (powers : List ℕ) (clocks code k rest : ℕ) (bases : List ℕ) : Type 0 where
   pub raised : Raised m powers clocks
@@ -89,12 +79,11 @@ pub record Taking (m : ℕ) (powers : List ℕ) (clocks code k rest : ℕ) (base
   pub rest_high : clocks ≤ k → rest ≡ code % m ^ clocks
 
 pub taking_start :
-    {m : ℕ} {powers : List ℕ} {clocks : ℕ} (code whole weight rest : ℕ) → Raised m powers clocks → whole ≡ code
-    → weight ≡ m ^ clocks
-    → rest ≡ remainder whole weight
+    {m : ℕ} {powers : List ℕ} {clocks : ℕ} (code weight rest : ℕ) → Raised m powers clocks → weight ≡ m ^ clocks
+    → rest ≡ remainder code weight
     → Taking m powers clocks code most_clocks rest (zeros most_clocks)
-taking_start {m} {powers} {clocks} code whole weight rest raised w e r =
-    let all : rest ≡ code % m ^ clocks = r ∙ rw (w, e) (remainder_is code (m ^ clocks) (power_least raised clocks)) in
+taking_start {m} {powers} {clocks} code weight rest raised e r =
+    let all : rest ≡ code % m ^ clocks = r ∙ rw e (remainder_is code (m ^ clocks) (power_least raised clocks)) in
     record {
       raised = raised;
       turns_least = omega arith;
@@ -251,12 +240,10 @@ module _ {m : ℕ} {powers : List ℕ} {clocks code k rest : ℕ} {bases : List 
 
 -- a pair from what was taken off
 pub unpack_is :
-    (z : Scale) (code clocks weight whole location : ℕ) (bases : List ℕ) → clocks ≡ z.clocks → weight ≡ z.weight
-    → whole ≡ code
-    → location ≡ quotient whole weight
-    → bases ≡ bases_in z.powers clocks code
+    (z : Scale) (code location : ℕ) (bases : List ℕ) → location ≡ quotient code z.weight
+    → bases ≡ bases_in z.powers z.clocks code
     → ◌≡◌ {A = Pair} (record { location = location; bases = bases }) (unpacked z code)
-unpack_is z code clocks weight whole location bases k w x l b = rw (b, k, l, x, w)
+unpack_is z code location bases l b = rw (b, l)
 
 -- The code so far, with the bases from clock k on still to come.
 pub record Packing (powers : List ℕ) (clocks k code whole : ℕ) (bases : List ℕ) : Type 0 where
@@ -304,21 +291,17 @@ packing_start powers clocks first bases long h = record {
 }
 
 pub pack_is :
-    {m : ℕ} (z : Scale) (l location w clocks low code : ℕ) (bases : List ℕ) → Raised m z.powers z.clocks
-    → length bases ≡ most_clocks
-    → clocks ≡ z.clocks
-    → location ≡ l
-    → w ≡ z.weight
+    {z : Scale} (powered : Powered z) (l low : ℕ) (bases : List ℕ) → length bases ≡ most_clocks
     → low ≡ get_or bases 0 0
-    → code ≡ location * w + low + later_code z.powers clocks bases
-    → code ≡ packed z l bases
-pack_is {m} z l location w clocks low code bases raised long k at e b c =
-    let one : power_at z.powers 0 ≡ 1 = raised.each 0 (omega arith) ∙ pow-zero m in
+    → l * z.weight + low + later_code z.powers z.clocks bases ≡ packed z l bases
+pack_is {z} powered l low bases long b =
+    let raised = raised_of powered in
+    let one : power_at z.powers 0 ≡ 1 = raised.each 0 (omega arith) ∙ pow-zero (z.top + 2) in
     let none : z.clocks - 0 ≡ z.clocks = omega arith in
     let later : ℕ = later_code z.powers z.clocks bases in
     let all : bases_code z.powers 0 (take z.clocks bases) ≡ get_or bases 0 0 * power_at z.powers 0 + later =
     rw none at (code_head z.powers z.clocks 0 bases raised.clocks_least (omega (arith, long))) in
-    rw (all, one, ← at, ← e, ← b) (c ∙ rw k (turn (location * w) low later))
+    rw (all, one, b) (turn (l * z.weight) (get_or bases 0 0) later)
   where
     turn : (a b c : ℕ) → a + b + c ≡ a + (b * 1 + c)
     turn a b c = omega arith

@@ -1,5 +1,5 @@
 -- The powers by their place: each is that power, those past K are zero; and as the loop puts them in.
-use mathlib.Core.Path.{◌≡◌, refl, sym, ◌∙◌, ap, ap₂, subst}
+use mathlib.Core.Path.{◌≡◌, refl, sym, ◌∙◌, ap}
 use mathlib.Core.Bool.{true, ◌&&◌}
 use mathlib.Core.List.{List, [], ◌∷◌}
 use Prim.Native.Nat.{ℕ, zero, suc, ◌+◌, ◌-◌, ◌*◌, ◌^◌, ◌≤◌, ◌<◌}
@@ -9,14 +9,14 @@ use native.Mathlib.Numerals.{add-one}
 use lib.ListN.{length, get_or, set}
 use lib.Seq.{get_or-append-add}
 use lib.Dec.{leb}
-use borrow.Author.Tests.{leb-true, le-leb, lt-leb}
+use borrow.Author.Tests.{leb-true, le-leb}
 use Rattle.model.specs.Basics.{within, zeros, filled}
 use Rattle.model.specs.Rules.{most_locations, most_clocks, most_constant, most_pairs}
 use Rattle.model.proofs.EdgesWritten.{filled_length}
-use Rattle.model.proofs.Logic.{by_test, zeros_at, and_left, and_right, within_least, within_most, first_part}
+use Rattle.model.proofs.Logic.{zeros_at, and_left, and_right, within_least, within_most, first_part}
 use Rattle.codes.specs.Powers.{power_places, powers_from, powers_of}
 use Rattle.codes.specs.declared.Scale.{Scale}
-use Rattle.codes.specs.Codes.{scale_of, no_scale, small_scale, power_at, Powered}
+use Rattle.codes.specs.Codes.{scale_of, small_scale, power_at, Powered}
 use Rattle.codes.specs.Claims.{sizes_fit, PowersAre}
 
 from_length : (n i m : ℕ) → length (powers_from n i m) ≡ n
@@ -61,16 +61,9 @@ pub scale_is :
     (scale_of top clocks)
 scale_is top clocks k at powers e f p = rw (f, p, e)
 
--- in their ranges, and past one of them
+-- in their ranges
 pub small_is : (c k : ℕ) → c ≤ most_constant → k ≤ most_clocks → small_scale c k ≡ scale_of c k
 small_is c k h g = rw (le-leb c most_constant h, le-leb k most_clocks g)
-
-pub small_top : (c k : ℕ) → most_constant < c → small_scale c k ≡ no_scale
-small_top c k h = rw (lt-leb c most_constant h)
-
-pub small_clocks : (c k : ℕ) → most_clocks < k → small_scale c k ≡ no_scale
-small_clocks c k h =
-    by_test (leb c most_constant) (λ e. rw (e, lt-leb k most_clocks h)) (λ e. rw e)
 
 -- K and cm of sizes that fit
 module _ (l k c : ℕ) (fit : sizes_fit l k c ≡ true) where
@@ -121,26 +114,9 @@ raised_of {z} powered = record {
 pub first_power : (m : ℕ) → m ^ 1 ≡ m
 first_power m = pow-suc m 0 ∙ rw (pow-zero m) (omega arith)
 
--- m is one of them: power 1
-module _ {m : ℕ} {powers : List ℕ} {clocks : ℕ} (raised : Raised m powers clocks) where
-  power_1 : power_at powers 1 ≡ m
-  power_1 = raised.each 1 raised.clocks_least ∙ first_power m
-
-  by_power_1 : Raised (power_at powers 1) powers clocks
-  by_power_1 = subst (λ (n : ℕ). Raised n powers clocks) (sym power_1) raised
-
 pub weight_power : {z : Scale} → Powered z → z.weight ≡ (z.top + 2) ^ z.clocks
 weight_power {z} powered =
     ap (λ (s : Scale). s.weight) powered.is_scale ∙ power_at_lem z.top z.clocks z.clocks (omega arith)
-
--- the same by power 1, for a number of clocks that is K
-module _ {z : Scale} {clocks : ℕ} (powered : Powered z) (e : clocks ≡ z.clocks) where
-  pub raised_at : Raised (power_at z.powers 1) z.powers clocks
-  raised_at = rw e (by_power_1 (raised_of powered))
-
-  pub weight_at : z.weight ≡ power_at z.powers 1 ^ clocks
-  weight_at =
-      weight_power powered ∙ ap₂ (λ (m k : ℕ). m ^ k) (sym (power_1 (raised_of powered))) (sym e)
 
 pub weight_least : {z : Scale} → Powered z → 0 < z.weight
 weight_least {z} powered = rw (weight_power powered) (one-le-pow z.clocks (z.top + 2) (omega arith))

@@ -7,7 +7,7 @@ ghost use Rattle.std.specs.Prelude.{◌≡◌};
 ghost use Rattle.codes.specs.Codes.{Powered, packed, unpacked};
 
 use model::MOST_CLOCKS;
-use numbers::{narrow16, quotient, remainder, wide16, wide32};
+use numbers::{Narrow, quotient, remainder};
 
 pub mod powers;
 
@@ -16,7 +16,7 @@ pub const POWER_PLACES: usize = 5;
 
 // What the codes of a rule's pairs are made by, worked out once in a build: the clocks, cm as `top`, and the powers 0
 // to K of cm + 2, those past K zero. `weight`, what a location counts, is power K: at hand without an index.
-#[derive(Clone, Copy)]
+#[derive(Clone, Copy, Default)]
 pub struct Scale {
     pub clocks: u32,
     pub top: u8,
@@ -31,48 +31,46 @@ pub struct Pair {
     pub bases: [u16; MOST_CLOCKS],
 }
 
-// The pair that a code stands for, from the highest power down: a division for the location, and one for each base
-// past that of clock 0 that is not 0. What power 1 leaves is the base of clock 0. Once nothing is left, the bases still
-// to come are 0, as they are from the start.
-pub fn unpack(scale: Scale, code: u32) -> Pair
-    ensures { Powered scale → result ≡ unpacked scale code }
-{
-    let powers = scale.powers;
-    let clocks = wide32(scale.clocks);
-    let weight = wide32(scale.weight);
-    let whole = wide32(code);
-    let location = quotient(whole, weight);
-    let mut rest = remainder(whole, weight);
-    let mut bases = [0u16; MOST_CLOCKS];
-    let mut k = MOST_CLOCKS;
-    while 1 < k {
-        if rest == 0 {
-            return Pair { location, bases };
+impl Scale {
+    // The pair that a code stands for, from the highest power down: a division for the location, and one for each base
+    // past that of clock 0 that is not 0. What power 1 leaves is the base of clock 0. Once nothing is left, the bases
+    // still to come are 0, as they are from the start.
+    pub fn unpack(self, code: u32) -> Pair
+        ensures { Powered self → result ≡ unpacked self code }
+    {
+        let powers = self.powers;
+        let clocks = self.clocks as usize;
+        let weight = self.weight as usize;
+        let whole = code as usize;
+        let location = quotient(whole, weight);
+        let mut rest = remainder(whole, weight);
+        let mut bases = [0u16; MOST_CLOCKS];
+        for k in (1..MOST_CLOCKS).rev() {
+            if rest == 0 {
+                return Pair { location, bases };
+            }
+            let power = powers[k] as usize;
+            if k < clocks && power <= rest {
+                bases[k] = u16::narrow(quotient(rest, power));
+                rest = remainder(rest, power);
+            }
         }
-        k -= 1;
-        let power = wide32(powers[k]);
-        if k < clocks && power <= rest {
-            bases[k] = narrow16(quotient(rest, power));
-            rest = remainder(rest, power);
-        }
+        bases[0] = u16::narrow(rest);
+        Pair { location, bases }
     }
-    bases[0] = narrow16(rest);
-    Pair { location, bases }
-}
 
-// The code of a location and bases. Power 0 is 1: the base of clock 0 counts once.
-pub fn pack(scale: Scale, location: u16, bases: [u16; MOST_CLOCKS]) -> usize
-    ensures { Powered scale → result ≡ packed scale location bases }
-{
-    let powers = scale.powers;
-    let clocks = wide32(scale.clocks);
-    let mut code = wide16(location) * wide32(scale.weight) + wide16(bases[0]);
-    let mut k: usize = 1;
-    while k < MOST_CLOCKS {
-        if k < clocks {
-            code = code + wide16(bases[k]) * wide32(powers[k]);
+    // The code of a location and bases. Power 0 is 1: the base of clock 0 counts once.
+    pub fn pack(self, location: u16, bases: [u16; MOST_CLOCKS]) -> usize
+        ensures { Powered self → result ≡ packed self location bases }
+    {
+        let powers = self.powers;
+        let clocks = self.clocks as usize;
+        let mut code = usize::from(location) * self.weight as usize + usize::from(bases[0]);
+        for k in 1..MOST_CLOCKS {
+            if k < clocks {
+                code += usize::from(bases[k]) * powers[k] as usize;
+            }
         }
-        k += 1;
+        code
     }
-    code
 }

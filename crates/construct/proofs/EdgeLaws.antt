@@ -1,29 +1,33 @@
 -- The edges that a pair meets by its links: the code tests them as the construction does, and those passed by change
 -- nothing, neither whether the timer is reset nor the targets.
-use mathlib.Core.Path.{◌≡◌, refl, sym, ◌∙◌, ap, ap₂}
+use mathlib.Core.Path.{◌≡◌, refl, sym, ◌∙◌, ap, ap₂, subst⁻¹}
 use mathlib.Core.Bool.{Bool, true, false, ◌&&◌, ◌||◌}
 use mathlib.Core.List.{List, [], ◌∷◌}
 use Prim.Native.Nat.{ℕ, suc, ◌+◌, ◌%◌, ◌≤◌, ◌<◌}
 use native.Mathlib.Omega.{arith}
-use native.Mathlib.Numerals.{add-one}
 use borrow.Author.Tests.{ltb-true, ltb-false, ne_eqb}
+use Rattle.std.specs.List.{list_any}
 use lib.Dec.{eqb, ltb, leb}
 use lib.ListN.{length, get_or, drop, drop_of_length-le}
 use lib.Seq.{drop-cons}
 use Rattle.model.specs.declared.Head.{Head}
 use Rattle.edges.specs.Leaving.{leaves_on}
-use Rattle.model.specs.Rules.{Edge, Rule, most_locations, most_symbols, most_edges, valid_rule}
+use Rattle.model.specs.Rules.{Edge, Rule, most_locations, most_symbols, most_edges}
 use Rattle.model.specs.Runs.{no_edge}
-use Rattle.model.specs.Layout.{edge_at, edges_in, rule_in}
+use Rattle.model.specs.Layout.{edge_at, edges_in, rule_in, rule_refusal}
 use Rattle.model.specs.Construction.{location_of, allows, pair_resets, row_resets, target_of, pair_targets}
 use Rattle.model.proofs.Logic.{by_test, In, here, there, in_at}
 use Rattle.model.proofs.Valid.{valid_of, Valid, EdgeIn}
+use Rattle.model.proofs.Readable.{passes_valid}
 use Rattle.model.proofs.RowSets.{even_reset}
 use Rattle.model.proofs.EdgeTable.{edges_length, edge_at_lem}
 use Rattle.codes.specs.declared.Scale.{Scale}
 use Rattle.codes.specs.declared.Pair.{Pair}
+use Rattle.edges.specs.declared.StoredEdge.{StoredEdge}
+use Rattle.edges.specs.Views.{edge_of as edge_by}
+use Rattle.pairs.specs.declared.Departure.{Departure}
 use Rattle.pairs.specs.declared.Input.{Input}
-use Rattle.codes.specs.Codes.{Scaled, unpacked}
+use Rattle.codes.specs.Codes.{Powered, Scaled, unpacked}
 use Rattle.pairs.specs.Pairs.{pair_allows, pair_resets_on, pair_target}
 use Rattle.codes.proofs.Agreement.{location_is}
 use Rattle.pairs.proofs.Agreement.{allows_is, target_is}
@@ -42,8 +46,9 @@ edge_of_lem :
     (h : Head) (t : List ℕ) (n : ℕ) → n < h.count → edge_at n t ≡ edge_of (rule_in h t).edges n
 edge_of_lem h t n l = rw (edges_of h t) (sym (edge_at_lem h.count n t l))
 
-pub edges_few : (h : Head) (t : List ℕ) → valid_rule (rule_in h t) ≡ true → h.count ≤ most_edges
-edges_few h t valid = omega (arith, edge_count h t, (valid_of (rule_in h t) valid).edges_most)
+pub edges_few : (h : Head) (t : List ℕ) → (rule_refusal h t).number ≡ 0 → h.count ≤ most_edges
+edges_few h t passed =
+    omega (arith, edge_count h t, (valid_of (rule_in h t) (passes_valid h t passed)).edges_most)
 
 -- Source and symbol of edge n, as the table has them; both have a place among the links.
 pub record Fields (t : List ℕ) (es : List Edge) (n : ℕ) : Type 0 where
@@ -54,23 +59,34 @@ pub record Fields (t : List ℕ) (es : List Edge) (n : ℕ) : Type 0 where
   pub symbol_few : (edge_of es n).symbol < most_symbols
 
 pub fields_of :
-    (h : Head) (t : List ℕ) (count n : ℕ) → valid_rule (rule_in h t) ≡ true → count ≡ h.count → n < count
-    → Fields t (edges_in count t) n
-fields_of h t count n valid q l =
+    (h : Head) (t : List ℕ) (n : ℕ) → (rule_refusal h t).number ≡ 0 → n < h.count
+    → Fields t (edges_in h.count t) n
+fields_of h t n passed l =
     let es : List Edge = edges_in h.count t in
-    let v : Valid (rule_in h t) = valid_of (rule_in h t) valid in
+    let v : Valid (rule_in h t) = valid_of (rule_in h t) (passes_valid h t passed) in
     let k : n < length es = omega (arith, edges_length h.count t) in
     let e : EdgeIn (rule_in h t) (edge_of es n) =
     v.edges_in (edge_of es n) (rw (edges_of h t) (in_at no_edge es n k)) in
     let same_edge : edge_at n t ≡ edge_of es n = sym (edge_at_lem h.count n t (omega arith)) in
-    rw q
-    (record {
+    record {
       inside = k;
       source_is = ap (λ (f : Edge). f.source) same_edge;
       symbol_is = ap (λ (f : Edge). f.symbol) same_edge;
       source_few = omega (arith, e.source_below, v.sizes.locations_most);
       symbol_few = omega (arith, e.symbol_below, v.sizes.symbols_most);
-    })
+    }
+
+-- the same of a stored edge
+pub place_by :
+    {t : List ℕ} {es : List Edge} {n : ℕ} (f : Fields t es n) (edge : StoredEdge)
+    → (edge.table.now ≡ t) × (edge.number ≡ n)
+    → {source symbol : ℕ} → source ≡ (edge_by edge).source → symbol ≡ (edge_by edge).symbol
+    → (source ≡ (edge_of es n).source) × (symbol ≡ (edge_of es n).symbol)
+place_by f edge is p q =
+    let same_edge = ap₂ edge_at is.1 is.0 in (
+      p ∙ (ap (λ (e : Edge). e.source) same_edge ∙ f.source_is),
+      q ∙ (ap (λ (e : Edge). e.symbol) same_edge ∙ f.symbol_is),
+    )
 
 -- The first link is the first edge that leaves; from a location or on a symbol that no rule has, none does.
 none_leaves :
@@ -113,15 +129,16 @@ first_link_lem r l s links v linked =
 
 -- the first edge for the pair of a code
 pub first_at :
-    (h : Head) (t : List ℕ) {z : Scale} (links : List ℕ) (s x : ℕ) (p : Pair) → valid_rule (rule_in h t) ≡ true
+    (h : Head) (t : List ℕ) {z : Scale} (links : List ℕ) (s x : ℕ) (p : Pair) → (rule_refusal h t).number ≡ 0
     → Scaled (rule_in h t) z
     → Linked (rule_in h t) links
     → p ≡ unpacked z x
     → first_link h.count p.location s links ≡ leaving_from (rule_in h t).edges (location_of (rule_in h t) x) s 0
-first_at h t links s x p valid scaled linked u =
+first_at h t links s x p passed scaled linked u =
     ap₂ (λ (n l : ℕ). first_link n l s links) (sym (edge_count h t))
     (ap (λ (q : Pair). q.location) u ∙ location_is scaled x)
-    ∙ first_link_lem (rule_in h t) (location_of (rule_in h t) x) s links (valid_of (rule_in h t) valid) linked
+    ∙ first_link_lem (rule_in h t) (location_of (rule_in h t) x) s links
+    (valid_of (rule_in h t) (passes_valid h t passed)) linked
 
 -- An edge that does not leave the pair's location on the symbol is not allowed.
 not_allowed : (r : Rule) (s i x : ℕ) (e : Edge) → leaves_on (location_of r x) s e ≡ false → allows r s i x e ≡ false
@@ -158,15 +175,15 @@ targets_from r s i timer x row n =
 
 -- What the code tests at edge n, and where it leads, is the construction's.
 module _
-    (h : Head) (t : List ℕ) {z : Scale} (valid : valid_rule (rule_in h t) ≡ true) (scaled : Scaled (rule_in h t) z)
+    (h : Head) (t : List ℕ) {z : Scale} (passed : (rule_refusal h t).number ≡ 0) (scaled : Scaled (rule_in h t) z)
     {n : ℕ}
     (inside : n < h.count) where
   pub edge_in_lem : EdgeIn (rule_in h t) (edge_of (rule_in h t).edges n)
   edge_in_lem =
-      (valid_of (rule_in h t) valid).edges_in (edge_of (rule_in h t).edges n)
+      (valid_of (rule_in h t) (passes_valid h t passed)).edges_in (edge_of (rule_in h t).edges n)
       (in_at no_edge (rule_in h t).edges n (omega (arith, edge_count h t)))
 
-  pub allowed_is :
+  allowed_is :
       (at : Input) (x : ℕ) (p : Pair) (b : Bool) → p ≡ unpacked z x
       → b ≡ pair_allows z.top at p (edge_at n t)
       → b ≡ allows (rule_in h t) at.symbol at.interval x (edge_of (rule_in h t).edges n)
@@ -175,7 +192,7 @@ module _
       ∙ (ap₂ (λ (y : Pair) (f : Edge). pair_allows z.top at y f) u (edge_of_lem h t n inside)
       ∙ allows_is scaled at x (edge_of (rule_in h t).edges n) edge_in_lem)
 
-  pub resets_is :
+  resets_is :
       (at : Input) (x : ℕ) (p : Pair) (b : Bool) → p ≡ unpacked z x
       → b ≡ pair_resets_on z.top at p (edge_at n t)
       → b
@@ -186,7 +203,7 @@ module _
       ∙ ap₂ (λ (f : Edge) (a : Bool). leb 1 f.resets && a) (edge_of_lem h t n inside)
       (allowed_is at x p (pair_allows z.top at p (edge_at n t)) u refl)
 
-  pub to_is :
+  to_is :
       (i : ℕ) (timer : Bool) (x : ℕ) (p : Pair) (to : ℕ) → p ≡ unpacked z x
       → to ≡ pair_target z i timer p (edge_at n t)
       → to ≡ target_of (rule_in h t) i timer x (edge_of (rule_in h t).edges n)
@@ -194,6 +211,41 @@ module _
       q
       ∙ (ap₂ (λ (y : Pair) (f : Edge). pair_target z i timer y f) u (edge_of_lem h t n inside)
       ∙ target_is scaled i timer x (edge_of (rule_in h t).edges n))
+
+  -- the same, as the code asks it of a departure and a stored edge
+  module _
+      (at : Input) (x : ℕ) (left : Departure) (edge : StoredEdge)
+      (is_left : left ≡ record { pair = unpacked z x; input = at; scale = z })
+      (is_edge : (edge.table.now ≡ t) × (edge.number ≡ n)) where
+    pub allowed_by :
+        {b : Bool} → b ≡ pair_allows left.scale.top left.input left.pair (edge_by edge)
+        → b ≡ allows (rule_in h t) at.symbol at.interval x (edge_of (rule_in h t).edges n)
+    allowed_by {b} q =
+        allowed_is at x (unpacked z x) b refl
+        (q
+        ∙ ap₂ (λ (d : Departure) (e : Edge). pair_allows d.scale.top d.input d.pair e) is_left
+        (ap₂ edge_at is_edge.1 is_edge.0))
+
+    pub resets_by :
+        {b : Bool} → b ≡ pair_resets_on left.scale.top left.input left.pair (edge_by edge)
+        → b
+        ≡ leb 1 (edge_of (rule_in h t).edges n).resets
+        && allows (rule_in h t) at.symbol at.interval x (edge_of (rule_in h t).edges n)
+    resets_by {b} q =
+        resets_is at x (unpacked z x) b refl
+        (q
+        ∙ ap₂ (λ (d : Departure) (e : Edge). pair_resets_on d.scale.top d.input d.pair e) is_left
+        (ap₂ edge_at is_edge.1 is_edge.0))
+
+    pub target_by :
+        (timer : Bool) {to : ℕ}
+        → (Powered left.scale → to ≡ pair_target left.scale left.input.interval timer left.pair (edge_by edge))
+        → to ≡ target_of (rule_in h t) at.interval timer x (edge_of (rule_in h t).edges n)
+    target_by timer {to} q =
+        to_is at.interval timer x (unpacked z x) to refl
+        (q (subst⁻¹ (λ (d : Departure). Powered d.scale) is_left scaled.powered)
+        ∙ ap₂ (λ (d : Departure) (e : Edge). pair_target d.scale d.input.interval timer d.pair e) is_left
+        (ap₂ edge_at is_edge.1 is_edge.0))
 
 -- The edges to come say whether a pair resets as all edges do; edge n is the next that leaves.
 pub record Looking (r : Rule) (s i x n : ℕ) : Type 0 where
@@ -246,44 +298,18 @@ module _ {r : Rule} {s i x n : ℕ} (look : Looking r s i x n) where
   looking_later m linked l k =
       rw (k ∙ next_is linked look.standing l) (next_later r.edges (location_of r x) s n)
 
--- The pairs to come say whether a row resets as all pairs do.
-pub record LookingRow (r : Rule) (s i : ℕ) (row : List ℕ) (n : ℕ) : Type 0 where
-  pub turns : n ≤ length row
-  pub rest : row_resets r s i (drop n row) ≡ row_resets r s i row
-
-pub row_start : (r : Rule) (s i : ℕ) (row : List ℕ) → LookingRow r s i row 0
-row_start r s i row = record { turns = omega arith; rest = refl }
-
-module _ {r : Rule} {s i : ℕ} {row : List ℕ} {n : ℕ} (look : LookingRow r s i row n) where
-  row_here :
-      n < length row
-      → row_resets r s i row ≡ pair_resets r s i (get_or row n 0) r.edges || row_resets r s i (drop (suc n) row)
-  unfolding row_resets
-  row_here l = sym look.rest ∙ ap (row_resets r s i) (drop-cons row n 0 l)
-
-  pub row_found :
-      (b : Bool) → n < length row → b ≡ pair_resets r s i (get_or row n 0) r.edges → b ≡ true
-      → true ≡ row_resets r s i row
-  row_found b l q y =
-      sym (row_here l ∙ ap (λ (a : Bool). a || row_resets r s i (drop (suc n) row)) (sym q ∙ y))
-
-  pub row_next :
-      (b : Bool) → n < length row → b ≡ pair_resets r s i (get_or row n 0) r.edges → b ≡ false
-      → LookingRow r s i row (n + 1)
-  row_next b l q y = record {
-    turns = omega arith;
-    rest =
-        rw (add-one n)
-        (sym (row_here l ∙ ap (λ (a : Bool). a || row_resets r s i (drop (suc n) row)) (sym q ∙ y)));
-  }
-
-  pub row_end : length row ≤ n → false ≡ row_resets r s i row
-  unfolding row_resets
-  row_end l = ap (row_resets r s i) (sym (drop_of_length-le row l)) ∙ look.rest
+-- whether some pair of a row resets
+pub row_asked :
+    (r : Rule) (s i : ℕ) (row : List ℕ) → list_any (λ x. pair_resets r s i x r.edges) row ≡ row_resets r s i row
+unfolding row_resets
+row_asked r s i [] = refl
+row_asked r s i (x ∷ row) = ap (λ (b : Bool). pair_resets r s i x r.edges || b) (row_asked r s i row)
 
 -- resets are pinned to whole seconds
-pub odd_never : (r : Rule) (s i : ℕ) (row : List ℕ) → valid_rule r ≡ true → i % 2 ≡ 1 → false ≡ row_resets r s i row
-odd_never r s i row valid odd =
-    by_test (row_resets r s i row)
-    (λ t. absurd (omega (arith, odd, even_reset r s i row (valid_of r valid) t)))
-    (λ t. sym t)
+pub odd_never :
+    (h : Head) (t : List ℕ) (s i : ℕ) (row : List ℕ) → (rule_refusal h t).number ≡ 0 → (i % 2 ≡ 0 → ⊥)
+    → false ≡ row_resets (rule_in h t) s i row
+odd_never h t s i row passed odd =
+    by_test (row_resets (rule_in h t) s i row)
+    (λ b. absurd (odd (even_reset (rule_in h t) s i row (valid_of (rule_in h t) (passes_valid h t passed)) b)))
+    (λ b. sym b)

@@ -4,8 +4,8 @@ use mathlib.Core.Bool.{true, false}
 use mathlib.Core.List.{List, [], ◌∷◌}
 use Prim.Native.Nat.{ℕ, suc, ◌+◌, ◌-◌, ◌≤◌, ◌<◌}
 use native.Mathlib.Omega.{arith}
-use borrow.Author.Tests.{eqb-true, eq-eqb, lt-ltb, le-ltb}
-use lib.Dec.{eqb, ltb}
+use borrow.Author.Tests.{eqb-true, eq-eqb}
+use lib.Dec.{eqb}
 use lib.ListN.{length, get_or, drop, set, length-drop, length-set, drop_of_length-le}
 use lib.Seq.{drop-cons, get_or-set_same, get_or-set_other}
 use Rattle.edges.specs.Leaving.{leaves_on}
@@ -13,7 +13,7 @@ use Rattle.model.specs.Basics.{pick}
 use Rattle.model.specs.Rules.{Edge, most_locations, most_symbols, most_edges}
 use Rattle.model.specs.Runs.{no_edge}
 use Rattle.model.proofs.Logic.{no_way, by_test, and_left, and_right, and_both, Cmp, cmp, is_lt, is_eq, is_gt}
-use Rattle.construct.specs.Leaving.{first_leaving, leaving_from, edge_of, first_place, next_place, first_link}
+use Rattle.construct.specs.Leaving.{first_leaving, leaving_from, edge_of, first_place, next_place}
 use Rattle.construct.specs.Leaving.{link_count, LinkedFrom}
 
 first_least : (l s n : ℕ) (es : List Edge) → n ≤ first_leaving l s n es
@@ -92,19 +92,6 @@ module _
 
   pub from_first : (es : List Edge) (n : ℕ) → P (drop n es) ≡ P (drop (leaving_from es l s n) es)
   from_first es n = skipped n (drop n es) es refl
-
--- a first link, by place
-pub far_location : (count l s : ℕ) (links : List ℕ) → most_locations ≤ l → count ≡ first_link count l s links
-far_location count l s links h = rw (le-ltb l most_locations h)
-
-pub far_symbol : (count l s : ℕ) (links : List ℕ) → most_symbols ≤ s → count ≡ first_link count l s links
-far_symbol count l s links h =
-    by_test (ltb l most_locations) (λ q. rw (q, le-ltb s most_symbols h)) (λ q. rw q)
-
-pub near_link :
-    (count l s : ℕ) (links : List ℕ) → l < most_locations → s < most_symbols
-    → get_or links (first_place l s) 0 ≡ first_link count l s links
-near_link count l s links h g = rw (lt-ltb l most_locations h, lt-ltb s most_symbols g)
 
 -- Links made from the last edge to the first.
 pub linked_none :
@@ -187,14 +174,12 @@ module _
 
 -- the same, as the loop counts
 pub link_step :
-    (es : List Edge) (n at first value : ℕ) (links : List ℕ) → LinkedFrom es n links → 0 < n → n ≤ most_edges
+    (es : List Edge) (n first : ℕ) (links : List ℕ) → LinkedFrom es n links → 0 < n → n ≤ most_edges
     → n - 1 < length es
     → (edge_of es (n - 1)).source < most_locations
     → (edge_of es (n - 1)).symbol < most_symbols
     → first ≡ first_place (edge_of es (n - 1)).source (edge_of es (n - 1)).symbol
-    → at ≡ n - 1
-    → value ≡ n - 1
-    → LinkedFrom es (n - 1) (set (set links (next_place at) (get_or links first 0)) first value)
-link_step es n at first value links linked some few inside location symbol first_is at_is value_is =
+    → LinkedFrom es (n - 1) (set (set links (next_place (n - 1)) (get_or links first 0)) first (n - 1))
+link_step es n first links linked some few inside location symbol first_is =
     let s : n ≡ suc (n - 1) = omega arith in
-    rw (at_is, value_is) (linked_next (rw s at linked) inside (omega arith) first location symbol first_is)
+    linked_next (rw s at linked) inside (omega arith) first location symbol first_is

@@ -1,3 +1,5 @@
+-- Refusals handed on
+pub mod Handing
 -- Edges by where they leave, linked
 pub mod LeavingLaws
 pub mod EdgeLaws

@@ -1,23 +1,18 @@
 -- The start row, marked from its highest location down; the same marks by another name.
-use mathlib.Core.Path.{◌≡◌, sym, ◌∙◌, ap}
-use mathlib.Core.Bool.{Bool, true, false}
+use mathlib.Core.Path.{◌≡◌, ◌∙◌}
+use mathlib.Core.Bool.{true, false}
 use mathlib.Core.List.{List, [], ◌∷◌, ◌++◌}
 use Prim.Native.Nat.{ℕ, suc, ◌+◌, ◌-◌, ◌*◌, ◌≤◌, ◌<◌}
 use native.Mathlib.Omega.{arith}
 use native.Mathlib.Numerals.{add-one}
 use lib.ListN.{length}
-use Rattle.model.specs.Basics.{pick, zeros, bit, bits_from}
+use Rattle.model.specs.Basics.{pick, bit, bits_from}
 use Rattle.model.specs.Layout.{locations_in}
 use Rattle.model.specs.Rules.{most_locations}
 use Rattle.model.specs.Construction.{with_code}
 use Rattle.bits.specs.declared.Span.{Span}
 use Rattle.bits.specs.Bits.{codes_in, CanMark, MarksAre}
-use Rattle.bits.proofs.Loops.{no_marks}
 use Rattle.construct.specs.Marks.{start_codes_by, CanStart}
-
--- a bit of a mask, from a test of its widened number
-pub known_bit : {mask starts : ℕ} (k : ℕ) {r b : Bool} → mask ≡ starts → r ≡ bit k mask → r ≡ b → bit k starts ≡ b
-known_bit k e f g = ap (bit k) (sym e) ∙ (sym f ∙ g)
 
 -- the start row from the highest location down: the bits from `l` on are marked
 pub record Starting (starts weight l : ℕ) (marks : List ℕ) (span : Span) : Type 0 where
@@ -25,10 +20,10 @@ pub record Starting (starts weight l : ℕ) (marks : List ℕ) (span : Span) : T
   pub marks_are : MarksAre (start_codes_by weight (bits_from (most_locations - l) l starts)) marks span
 
 pub starting :
-    (starts weight : ℕ) (marks : List ℕ) → marks ≡ zeros (length marks)
-    → Starting starts weight most_locations marks (record { low = length marks; past = 0; count = 0 })
+    (starts weight : ℕ) {marks : List ℕ} {span : Span} → MarksAre [] marks span
+    → Starting starts weight most_locations marks span
 unfolding bits_from
-starting starts weight marks z = record { turns = omega arith; marks_are = no_marks marks z }
+starting starts weight m = record { turns = omega arith; marks_are = m }
 
 bits_head :
     (l starts : ℕ) → l < most_locations
@@ -39,42 +34,45 @@ bits_head l starts h = let a : most_locations - l ≡ suc (most_locations - (l +
 
 module _ {starts weight l : ℕ} {marks : List ℕ} {span : Span} (inv : Starting starts weight l marks span) where
   pub starting_can :
-      {marks₀ : List ℕ} (k w : ℕ) → CanStart marks₀ starts weight → length marks ≡ length marks₀ → k < most_locations
+      {marks₀ : List ℕ} (k : ℕ) → CanStart marks₀ starts weight → length marks ≡ length marks₀ → k < most_locations
       → bit k starts ≡ true
-      → w ≡ weight
-      → CanMark marks span (k * w)
-  starting_can k w can long h b e = record {
+      → CanMark marks span (k * weight)
+  starting_can k can long h b = record {
     in_span = inv.marks_are.in_span;
-    code_below = rw (e, long) (can.codes_below k h b);
-    code_most = rw e (can.codes_most k h b);
+    code_below = rw long (can.codes_below k h b);
+    code_most = can.codes_most k h b;
   }
 
   pub starting_next :
-      (k w : ℕ) (marks' : List ℕ) (span' : Span) → 0 < l → k ≡ l - 1 → bit k starts ≡ true → w ≡ weight
-      → MarksAre (with_code (k * w) (codes_in marks)) marks' span'
+      (k : ℕ) (marks' : List ℕ) (span' : Span) → 0 < l → k ≡ l - 1 → bit k starts ≡ true
+      → MarksAre (with_code (k * weight) (codes_in marks)) marks' span'
       → Starting starts weight k marks' span'
-  starting_next k w marks' span' h q b e m =
+  starting_next k marks' span' h q b m =
       let a : k + 1 ≡ l = omega arith in
       record {
         turns = omega (arith, inv.turns);
         marks_are = record {
           codes_are =
               m.codes_are
-              ∙ (rw (e, inv.marks_are.codes_are, bits_head k starts (omega (arith, inv.turns)), b, a));
+              ∙ (rw (inv.marks_are.codes_are, bits_head k starts (omega (arith, inv.turns)), b, a));
           in_span = m.in_span;
         };
       }
 
-  pub starting_skip : (k : ℕ) → 0 < l → k ≡ l - 1 → bit k starts ≡ false → Starting starts weight k marks span
-  starting_skip k h q b =
+  pub starting_skip :
+      (k : ℕ) (marks' : List ℕ) (span' : Span) → 0 < l → k ≡ l - 1 → bit k starts ≡ false → marks' ≡ marks
+      → span' ≡ span
+      → Starting starts weight k marks' span'
+  starting_skip k marks' span' h q b e f =
       let a : k + 1 ≡ l = omega arith in
-      record {
+      rw (e, f)
+      (record {
         turns = omega (arith, inv.turns);
         marks_are = record {
           codes_are = rw (bits_head k starts (omega (arith, inv.turns)), b, a) inv.marks_are.codes_are;
           in_span = inv.marks_are.in_span;
         };
-      }
+      })
 
 pub started :
     {starts weight l : ℕ} {marks : List ℕ} {span : Span} → Starting starts weight l marks span → l ≤ 0

@@ -5,11 +5,14 @@ use mathlib.Core.List.{List, [], ◌∷◌, ◌++◌, append_assoc}
 use mathlib.Core.Logic.{inl, inr}
 use Prim.Native.Nat.{ℕ, suc, ◌+◌, ◌-◌, ◌*◌, ◌≤◌, ◌<◌}
 use native.Mathlib.Omega.{arith}
+use Rattle.std.specs.Prelude.{Result}
 use lib.Dec.{ltb}
 use lib.ListN.{length, set, length-append, length-set}
 use borrow.Author.Tests.{ltb-true}
 use Rattle.numbers.specs.Lent.{laid}
 use Rattle.numbers.proofs.Laid.{laid_filled}
+use Rattle.model.specs.declared.Fault.{Fault}
+use Rattle.model.specs.declared.Fault.TheVariants.{NoRoomForRow, NoRoomForCodes}
 use Rattle.model.specs.Basics.{one_if, same, filled, refusal}
 use Rattle.model.specs.Construction.{row_at, number_of, with_row}
 use Rattle.model.specs.Tables.{row_width, row_numbers, pool_numbers, fit_refusal}
@@ -24,7 +27,7 @@ use Rattle.model.proofs.RowNumbers.{Placed as Apart}
 use Rattle.construct.specs.declared.Found.{Found}
 use Rattle.construct.specs.declared.Found.TheVariants.{At, Nothing}
 use Rattle.construct.specs.declared.Progress.{Progress}
-use Rattle.construct.specs.Rows.{rows_in, is_at, found_in, CodeSet, Held, Unfit, unfit_by, Numbered}
+use Rattle.construct.specs.Rows.{rows_in, is_at, found_in, CodeSet, Held, Unfit, HasNumber, Numbered}
 use Rattle.construct.proofs.RowSearch.{rows_length, found_at, found_nothing}
 use Rattle.construct.proofs.RowTables.{filled_three, rows_append, pool_append}
 use Rattle.construct.proofs.RowTables.{rows_again}
@@ -78,19 +81,17 @@ module _ {says : List ℕ → Bool} {rows pool : List ℕ} {p : Progress} (held 
   -- 23: no room for one more; 24: the pool is too short
   pub no_room :
       (x : List ℕ) → p.room ≤ p.rows
-      → Unfit p.room (length pool) 23 (rows_in p.rows rows pool ++ (x ∷ []))
+      → Unfit p.room (length pool) (rows_in p.rows rows pool ++ (x ∷ [])) NoRoomForRow
   no_room x h = record {
     least = omega arith;
-    most = omega arith;
     refuses = first_unfit x 23 (λ more. fit_23 p.rows p.room p.total (length pool) x more h);
   }
 
   pub pool_short :
       (x : List ℕ) → p.rows < p.room → length pool - p.total < length x
-      → Unfit p.room (length pool) 24 (rows_in p.rows rows pool ++ (x ∷ []))
+      → Unfit p.room (length pool) (rows_in p.rows rows pool ++ (x ∷ [])) NoRoomForCodes
   pool_short x h g = record {
     least = omega arith;
-    most = omega arith;
     refuses =
         first_unfit x 24
         (λ more. fit_24 p.rows p.room p.total (length pool) x more h (omega (arith, held.in_pool)));
@@ -163,9 +164,8 @@ module _
 
   pub row_added :
       (total before : ℕ) → total ≡ p.total + length x
-      → Numbered says p.room (rows_in p.rows rows pool ++ (x ∷ [])) p.rows rows' pool'
+      → HasNumber says p.room (rows_in p.rows rows pool ++ (x ∷ [])) p.rows rows' pool'
       (record {
-        number = 0;
         rows = p.rows + 1;
         total = total;
         room = p.room;
@@ -174,7 +174,7 @@ module _
       })
   row_added total before is_total = record {
     grown = record {
-      held = λ e. record {
+      held = record {
         rows_ascend =
             rw rows_then (each_more (Asc 0) x (rows_in p.rows rows pool) codes.ascends held.rows_ascend);
         rows_apart = rw rows_then apart_then;
@@ -186,37 +186,17 @@ module _
         total_most = omega (arith, held.total_most, codes.few);
         room_most = held.room_most;
         room_fits = rw rows_long held.room_fits;
-        going = refl;
       };
-      rows_are = λ e. rows_then;
-      refused = λ e. absurd (e refl);
+      rows_are = rows_then;
       room_kept = refl;
     };
-    row_is = λ e. refl;
+    row_is = refl;
     row_below = omega (arith, held.room_most);
   }
-
--- a row that does not fit has no number
-pub unplaced :
-    {says : List ℕ → Bool} {number : ℕ} {after : List (List ℕ)} {rows pool : List ℕ} (n : ℕ) (p answer : Progress)
-    → answer ≡ unfit_by number p
-    → Unfit p.room (length pool) number after
-    → Numbered says p.room after n rows pool answer
-unplaced n p answer is u = rw is (record {
-  grown = record {
-    held = λ e. absurd (omega (arith, u.least));
-    rows_are = λ e. absurd (omega (arith, u.least));
-    refused = λ e. u;
-    room_kept = refl;
-  };
-  row_is = λ e. absurd (omega (arith, u.least));
-  row_below = omega arith;
-})
 
 -- another row placed last: what is held stays so
 abbrev pub with_last : Progress → ℕ → Progress
 with_last p row = record {
-  number = p.number;
   rows = p.rows;
   total = p.total;
   room = p.room;
@@ -238,7 +218,6 @@ held_again row held = record {
   total_most = held.total_most;
   room_most = held.room_most;
   room_fits = held.room_fits;
-  going = held.going;
 }
 
 -- an equal row has a number: that one is used
@@ -246,16 +225,15 @@ placed_there :
     {says : List ℕ → Bool} {rows pool : List ℕ} {p : Progress} (held : Held says rows pool p) (x : List ℕ)
     → number_of x (rows_in p.rows rows pool) < length (rows_in p.rows rows pool)
     → p.last ≡ number_of x (rows_in p.rows rows pool)
-    → Numbered says p.room (with_row x (rows_in p.rows rows pool)) (number_of x (rows_in p.rows rows pool)) rows
+    → HasNumber says p.room (with_row x (rows_in p.rows rows pool)) (number_of x (rows_in p.rows rows pool)) rows
     pool p
 placed_there {says} {rows} {pool} {p} held x below is = record {
   grown = record {
-    held = λ e. held;
-    rows_are = λ e. sym (with_present x (rows_in p.rows rows pool) below);
-    refused = λ e. absurd (e held.going);
+    held = held;
+    rows_are = sym (with_present x (rows_in p.rows rows pool) below);
     room_kept = refl;
   };
-  row_is = λ e. is;
+  row_is = is;
   row_below = omega (arith, below, is, rows_length p.rows 0 rows pool, held.in_room, held.room_most);
 }
 
@@ -263,7 +241,7 @@ module _ {says : List ℕ → Bool} {rows pool : List ℕ} {p : Progress} (held 
   -- the row placed last: no two rows are equal, so it has the number
   pub placed_last :
       (answer : Bool) → answer ≡ is_at p.last x (rows_in p.rows rows pool) → answer ≡ true
-      → Numbered says p.room (with_row x (rows_in p.rows rows pool)) (number_of x (rows_in p.rows rows pool)) rows
+      → HasNumber says p.room (with_row x (rows_in p.rows rows pool)) (number_of x (rows_in p.rows rows pool)) rows
       pool p
   placed_last answer e t =
       let rs : List (List ℕ) = rows_in p.rows rows pool in
@@ -279,7 +257,7 @@ module _ {says : List ℕ → Bool} {rows pool : List ℕ} {p : Progress} (held 
   -- by the search
   pub placed_found :
       (row : ℕ) (f : Found) → f ≡ found_in x (rows_in p.rows rows pool) → f ≡ At row
-      → Numbered says p.room (with_row x (rows_in p.rows rows pool)) (number_of x (rows_in p.rows rows pool)) rows
+      → HasNumber says p.room (with_row x (rows_in p.rows rows pool)) (number_of x (rows_in p.rows rows pool)) rows
       pool (with_last p row)
   placed_found row f is_found g =
       let k = found_at x (rows_in p.rows rows pool) f row is_found g in
@@ -295,20 +273,11 @@ module _
       omega (arith, number_most 0 x rs, found_nothing x rs f is_found is_none, rows_length p.rows 0 rows pool)
 
   pub placed_new :
-      (rows' pool' : List ℕ) (answer : Progress)
-      → Numbered says p.room (rows_in p.rows rows pool ++ (x ∷ [])) p.rows rows' pool' answer
+      (rows' pool' : List ℕ) (outcome : Result Progress Fault)
+      → Numbered says p.room (rows_in p.rows rows pool ++ (x ∷ [])) p.rows rows' pool' outcome
       → Numbered says p.room (with_row x (rows_in p.rows rows pool)) (number_of x (rows_in p.rows rows pool)) rows'
-      pool' answer
-  placed_new rows' pool' answer added =
+      pool' outcome
+  placed_new rows' pool' outcome added =
       let rs : List (List ℕ) = rows_in p.rows rows pool in
       let are : with_row x rs ≡ rs ++ (x ∷ []) = with_new x rs (found_nothing x rs f is_found is_none) in
-      record {
-        grown = record {
-          held = added.grown.held;
-          rows_are = λ e. added.grown.rows_are e ∙ sym are;
-          refused = λ e. rw are (added.grown.refused e);
-          room_kept = added.grown.room_kept;
-        };
-        row_is = λ e. added.row_is e ∙ sym number_new;
-        row_below = added.row_below;
-      }
+      rw (are, number_new) added

@@ -1,22 +1,29 @@
 -- What the builder leaves and answers, from how the filling ended: the tables of the rule's rows, or 23 or 24 and zero.
-use mathlib.Core.Path.{◌≡◌, sym, ◌∙◌, ap, ap₂, subst⁻¹}
-use mathlib.Core.Bool.{true, false, not}
+use mathlib.Core.Path.{◌≡◌, sym, ◌∙◌, ap, ap₂}
+use mathlib.Core.Bool.{Bool, true, false, not}
+use Rattle.std.specs.Prelude.{Ok, Err}
+use Rattle.std.specs.Int.{div_ceil}
 use mathlib.Core.List.{List, [], ◌++◌, append-nil}
-use Prim.Native.Nat.{ℕ, ◌+◌, ◌-◌, ◌/◌, ◌≤◌, ◌<◌}
+use Prim.Native.Nat.{ℕ, ◌+◌, ◌/◌, ◌≤◌, ◌<◌}
 use native.Mathlib.Omega.{arith}
 use lib.Dec.{eqb, ltb, leb}
 use lib.ListN.{length}
-use borrow.Author.Tests.{lt-ltb, le-ltb, le-leb, lt-leb, ne_eqb}
+use borrow.Author.Tests.{lt-ltb, le-ltb, le-leb, lt-leb, ne_eqb, eqb-false}
+use Rattle.model.specs.declared.Fault.{Fault}
 use Rattle.model.specs.declared.Head.{Head}
 use Rattle.model.specs.declared.Answer.{Answer}
 use Rattle.model.specs.declared.Built.{Built}
 use Rattle.model.specs.declared.Building.{Building}
+use Rattle.model.specs.declared.Refused.{Refused}
 use Rattle.model.specs.Basics.{zeros, filled, Refusal, refusal, fine, refuse}
 use Rattle.model.specs.Rules.{Rule, pair_count}
 use Rattle.model.specs.Construction.{rows_of}
 use Rattle.model.specs.Layout.{edge_need, rule_in, is_readable, rule_refusal}
 use Rattle.model.specs.Tables.{cell_numbers, row_numbers, pool_numbers, built_of, tables_by, tables_of, row_room}
-use Rattle.model.specs.Tables.{fit_refusal, scratch_bits, scratch_need, table_refusal}
+use Rattle.model.specs.Tables.{fit_refusal, scratch_bits, scratch_need, table_refusal, no_built}
+use Rattle.model.specs.Faults.{fault_number, answer_in}
+use Rattle.model.proofs.Faults.{refuses}
+use Rattle.model.specs.Walks.{any_final}
 use Rattle.model.specs.Promises.{build_refusal, BuildsTable, ChecksRule}
 use Rattle.model.proofs.Refusals.{on_pass, on_refused, refuse_fine, refuse_met}
 use Rattle.model.proofs.Numbers.{Among, none, some, among_refuse, among_then}
@@ -24,27 +31,38 @@ use Rattle.codes.specs.declared.Scale.{Scale}
 use Rattle.codes.specs.Codes.{Scaled}
 use Rattle.codes.proofs.Agreement.{clocks_of}
 use Rattle.construct.specs.declared.Progress.{Progress}
-use Rattle.construct.specs.Rows.{rows_in, says_in, Held, Unfit}
+use Rattle.construct.specs.Rows.{rows_in, Held, Unfit}
 use Rattle.construct.specs.Cells.{AllFilled}
-use Rattle.construct.specs.Builds.{not_built, built_from}
+use Rattle.construct.specs.Builds.{built_from}
 use Rattle.construct.proofs.RowSearch.{rows_length}
 use Rattle.construct.proofs.NewRow.{passes_held}
 use Rattle.construct.proofs.SymbolFilling.{symbols_of}
 use Rattle.construct.proofs.StartLaws.{locations_of, final_mask}
 use Rattle.construct.proofs.RowVerdicts.{says_rule, numbers_say}
 
+-- no table: a number and a place
+abbrev not_built : ℕ → ℕ → Building
+not_built number place = record { number = number; place = place; built = no_built }
+
 -- the built record, field by field
-pub same_built :
-    (l l' s s' k k' c c' e e' n n' m m' : ℕ) → l ≡ l' → s ≡ s' → k ≡ k' → c ≡ c' → e ≡ e' → n ≡ n' → m ≡ m'
+same_built :
+    {l l' s s' k k' c c' e e' n n' m m' : ℕ} → l ≡ l' → s ≡ s' → k ≡ k' → c ≡ c' → e ≡ e' → n ≡ n' → m ≡ m'
     → ◌≡◌ {A = Built}
     (record { locations = l; symbols = s; clocks = k; top = c; ends = e; rows = n; total = m })
     (record { locations = l'; symbols = s'; clocks = k'; top = c'; ends = e'; rows = n'; total = m' })
-same_built l l' s s' k k' c c' e e' n n' m m' p q r t u v w = rw (p, q, r, t, u, v, w)
+same_built p q r t u v w = rw (p, q, r, t, u, v, w)
+
+-- what codes say by a head record and a scale
+abbrev says_by_head : Head → Scale → List ℕ → Bool
+says_by_head h z xs = any_final z.weight h.ends xs
 
 -- the scratch that N pairs need
-pub need_is : (r : Rule) (n : ℕ) → n ≡ pair_count r → (n + (scratch_bits - 1)) / scratch_bits ≡ scratch_need r
+rounded_up : (n : ℕ) → div_ceil n 32 ≡ (n + 31) / 32
+rounded_up n = omega arith
+
+pub need_is : (r : Rule) (n : ℕ) → n ≡ pair_count r → div_ceil n scratch_bits ≡ scratch_need r
 unfolding scratch_need
-need_is r n e = rw e
+need_is r n e = rounded_up n ∙ rw e
 
 -- The builder's refusal, where 20 and 21 pass.
 module _ (h : Head) (t scratch cells rows pool : List ℕ) (passed : (rule_refusal h t).number ≡ 0) where
@@ -92,84 +110,90 @@ module _ (h : Head) (t scratch cells rows pool : List ℕ) (passed : (rule_refus
         (fit_refusal 0 (row_room (rule_in h t) (length cells) (length rows)) 0 (length pool) (rows_of (rule_in h t)))
         (ap (λ (x : Refusal). x.number) (refuse_fine (ltb (length scratch) (scratch_need (rule_in h t))) 22 0 enough))
 
-    -- all rows fit: the tables of the rule's rows
-    module _ {z : Scale} {scratch₁ scratch' cells₁ cells' rows' pool' : List ℕ} {p : Progress} (room : ℕ)
+    module _ {z : Scale} {scratch₁ scratch' cells₁ cells' rows' pool' : List ℕ} (room : ℕ)
         (scaled : Scaled (rule_in h t) z) (is_room : room ≡ row_room (rule_in h t) (length cells) (length rows))
         (scratch_long : length scratch₁ ≡ length scratch) (cells_long : length cells₁ ≡ length cells)
-        (rows_long : length rows' ≡ length rows) (pool_long : length pool' ≡ length pool)
-        (all_are : AllFilled (says_in h z) (rule_in h t) room scratch₁ scratch' cells₁ cells' rows' pool' p) where
-      fits : p.number ≡ 0 → build_refusal h t scratch cells rows pool ≡ fine
-      unfolding fit_refusal
-      fits e =
-          let held : Held (says_in h z) rows' pool' p = all_are.grown.held e in
-          let same_room : p.room ≡ row_room (rule_in h t) (length cells) (length rows) =
-          all_are.grown.room_kept ∙ is_room in
-          let rs : rows_in p.rows rows' pool' ++ [] ≡ rows_of (rule_in h t) =
-          append-nil (rows_in p.rows rows' pool') ∙ all_are.grown.rows_are e in
-          fit_next
-          ∙ (sym
-          (ap₂
-          (λ (n : ℕ) (x : List (List ℕ)). fit_refusal 0 n 0 (length pool') x)
-          same_room
-          rs
-          ∙ ap
-          (λ (n : ℕ).
-          fit_refusal 0 (row_room (rule_in h t) (length cells) (length rows)) 0 n (rows_of (rule_in h t)))
-          pool_long)
-          ∙ passes_held held [])
+        (rows_long : length rows' ≡ length rows) (pool_long : length pool' ≡ length pool) where
+      -- all rows fit: the tables of the rule's rows
+      module _ {p : Progress}
+          (all_are : AllFilled (says_by_head h z) (rule_in h t) room scratch₁ scratch' cells₁ cells' rows' pool'
+          (Ok p)) where
+        held : Held (says_by_head h z) rows' pool' p
+        held = all_are.all_filled.grown.held
 
-      built_is : p.number ≡ 0 → built_from h z p ≡ built_of (rule_in h t)
-      unfolding built_of
-      built_is e =
-          let held : Held (says_in h z) rows' pool' p = all_are.grown.held e in
-          let are : rows_in p.rows rows' pool' ≡ rows_of (rule_in h t) = all_are.grown.rows_are e in
-          let count : p.rows ≡ length (rows_of (rule_in h t)) =
-          sym (rows_length p.rows 0 rows' pool') ∙ ap length are in
-          let total : p.total ≡ length (pool_numbers (rows_of (rule_in h t))) =
-          held.total_is ∙ ap (λ (x : List (List ℕ)). length (pool_numbers x)) are in
-          same_built _ _ _ _ _ _ _ _ _ _ _ _ _ _ (sym (locations_of h t)) (sym (symbols_of h t)) (sym (clocks_of h t))
-          scaled.top_is
-          (final_mask h t passed)
-          count
-          total
+        are : rows_in p.rows rows' pool' ≡ rows_of (rule_in h t)
+        are = all_are.all_filled.grown.rows_are
 
-      pub builds_done :
-          p.number ≡ 0
-          → BuildsTable h t scratch scratch' cells cells' rows rows' pool pool'
-          (record { number = 0; place = 0; built = built_from h z p })
-      unfolding tables_of tables_by
-      builds_done e =
-          let f : build_refusal h t scratch cells rows pool ≡ fine = fits e in
-          let held : Held (says_in h z) rows' pool' p = all_are.grown.held e in
-          let are : rows_in p.rows rows' pool' ≡ rows_of (rule_in h t) = all_are.grown.rows_are e in
-          record {
-            answer_is = rw (f, built_is e);
-            scratch_is = rw f (all_are.marks_zero ∙ ap zeros scratch_long);
-            cells_are =
-                rw f
-                (all_are.cells_are e
-                ∙ ap (λ (n : ℕ). filled n (cell_numbers (rule_in h t) (rows_of (rule_in h t)) (rows_of (rule_in h t))))
-                cells_long);
-            rows_are =
-                rw f
-                (held.rows_are
-                ∙ ap₂ filled rows_long
-                (ap (row_numbers (says_in h z) 0) are
-                ∙ numbers_say 0 (rows_of (rule_in h t)) (λ x. says_rule h t x passed scaled)));
-            pool_is =
-                rw f
-                (held.pool_is ∙ ap₂ (λ (n : ℕ) (x : List (List ℕ)). filled n (pool_numbers x)) pool_long are);
-          }
+        fits : build_refusal h t scratch cells rows pool ≡ fine
+        unfolding fit_refusal
+        fits =
+            let same_room : p.room ≡ row_room (rule_in h t) (length cells) (length rows) =
+            all_are.all_filled.grown.room_kept ∙ is_room in
+            let rs : rows_in p.rows rows' pool' ++ [] ≡ rows_of (rule_in h t) =
+            append-nil (rows_in p.rows rows' pool') ∙ are in
+            fit_next
+            ∙ (sym
+            (ap₂
+            (λ (n : ℕ) (x : List (List ℕ)). fit_refusal 0 n 0 (length pool') x)
+            same_room
+            rs
+            ∙ ap
+            (λ (n : ℕ).
+            fit_refusal 0 (row_room (rule_in h t) (length cells) (length rows)) 0 n (rows_of (rule_in h t)))
+            pool_long)
+            ∙ passes_held held [])
+
+        built_is : built_from h z p ≡ built_of (rule_in h t)
+        unfolding built_of
+        built_is =
+            let count : p.rows ≡ length (rows_of (rule_in h t)) =
+            sym (rows_length p.rows 0 rows' pool') ∙ ap length are in
+            let total : p.total ≡ length (pool_numbers (rows_of (rule_in h t))) =
+            held.total_is ∙ ap (λ (x : List (List ℕ)). length (pool_numbers x)) are in
+            same_built (sym (locations_of h t)) (sym (symbols_of h t)) (sym (clocks_of h t)) scaled.top_is
+            (final_mask h t passed)
+            count
+            total
+
+        pub builds_done :
+            (built : Built) → built ≡ built_from h z p
+            → BuildsTable h t scratch scratch' cells cells' rows rows' pool pool'
+            (record { number = 0; place = 0; built = built })
+        unfolding tables_of tables_by
+        builds_done built e =
+            let f : build_refusal h t scratch cells rows pool ≡ fine = fits in
+            record {
+              answer_is = rw (f, e, built_is);
+              scratch_is = rw f (all_are.marks_zero ∙ ap zeros scratch_long);
+              cells_are =
+                  rw f
+                  (all_are.all_filled.cells_are
+                  ∙ ap
+                  (λ (n : ℕ). filled n (cell_numbers (rule_in h t) (rows_of (rule_in h t)) (rows_of (rule_in h t))))
+                  cells_long);
+              rows_are =
+                  rw f
+                  (held.rows_are
+                  ∙ ap₂ filled rows_long
+                  (ap (row_numbers (says_by_head h z) 0) are
+                  ∙ numbers_say 0 (rows_of (rule_in h t)) (λ x. says_rule h t x passed scaled)));
+              pool_is =
+                  rw f
+                  (held.pool_is ∙ ap₂ (λ (n : ℕ) (x : List (List ℕ)). filled n (pool_numbers x)) pool_long are);
+            }
 
       -- 23 and 24: every table zero
       pub builds_unfit :
-          (cells'' rows'' pool'' : List ℕ) → (p.number ≡ 0 → ⊥) → cells'' ≡ zeros (length cells)
+          {fault : Fault} (cells'' rows'' pool'' : List ℕ)
+          → AllFilled (says_by_head h z) (rule_in h t) room scratch₁ scratch' cells₁ cells' rows' pool' (Err fault)
+          → cells'' ≡ zeros (length cells)
           → rows'' ≡ zeros (length rows)
           → pool'' ≡ zeros (length pool)
-          → BuildsTable h t scratch scratch' cells cells'' rows rows'' pool pool'' (not_built p.number 0)
-      builds_unfit cells'' rows'' pool'' n a b c =
-          let u : Unfit room (length pool') p.number (rows_of (rule_in h t)) = all_are.grown.refused n in
-          let f : build_refusal h t scratch cells rows pool ≡ refusal p.number 0 =
+          → BuildsTable h t scratch scratch' cells cells'' rows rows'' pool pool'' (not_built (fault_number fault) 0)
+      builds_unfit {fault} cells'' rows'' pool'' all_are a b c =
+          let n : ℕ = fault_number fault in
+          let u : Unfit room (length pool') (rows_of (rule_in h t)) fault = all_are.all_filled in
+          let f : build_refusal h t scratch cells rows pool ≡ refusal (fault_number fault) 0 =
           fit_next
           ∙ (sym
           (ap₂
@@ -181,8 +205,9 @@ module _ (h : Head) (t scratch cells rows pool : List ℕ) (passed : (rule_refus
           fit_refusal 0 (row_room (rule_in h t) (length cells) (length rows)) 0 k (rows_of (rule_in h t)))
           pool_long)
           ∙ u.refuses []) in
-          let not_zero : eqb p.number 0 ≡ false = ne_eqb p.number 0 n in
-          let high : leb 23 p.number ≡ true = le-leb 23 p.number u.least in
+          let not_zero : eqb (fault_number fault) 0 ≡ false =
+          ne_eqb (fault_number fault) 0 (λ q. omega (arith, q, u.least)) in
+          let high : leb 23 (fault_number fault) ≡ true = le-leb 23 (fault_number fault) u.least in
           record {
             answer_is = rw (f, not_zero);
             scratch_is = rw (f, not_zero, high) (all_are.marks_zero ∙ ap zeros scratch_long);
@@ -203,12 +228,15 @@ low_number : (h : Head) (t : List ℕ) → (rule_refusal h t).number ≤ 21
 low_number h t = elim (rule_numbers h t) [ none e ↦ rw e (omega arith) | some a b ↦ b ]
 
 pub builds_unread :
-    (h : Head) (t scratch cells rows pool : List ℕ) (answer : Answer) → ChecksRule h t answer → (answer.number ≡ 0 → ⊥)
-    → BuildsTable h t scratch scratch cells cells rows rows pool pool (not_built answer.number answer.place)
+    (h : Head) (t scratch cells rows pool : List ℕ) (r : Refused)
+    → ChecksRule h t (answer_in (λ (u : Unit {0}). 0) (Err r))
+    → BuildsTable h t scratch scratch cells cells rows rows pool pool (not_built (fault_number r.fault) r.place)
 unfolding build_refusal
-builds_unread h t scratch cells rows pool answer checked n =
-    let number_is : answer.number ≡ (rule_refusal h t).number = ap (λ (x : Answer). x.number) checked.answer_is in
-    let place_is : answer.place ≡ (rule_refusal h t).place = ap (λ (x : Answer). x.place) checked.answer_is in
+builds_unread h t scratch cells rows pool r checked =
+    let number_is : fault_number r.fault ≡ (rule_refusal h t).number =
+    ap (λ (x : Answer). x.number) checked.answer_is in
+    let place_is : r.place ≡ (rule_refusal h t).place = ap (λ (x : Answer). x.place) checked.answer_is in
+    let n : fault_number r.fault ≡ 0 → ⊥ = eqb-false (fault_number r.fault) 0 (refuses r.fault r.place) in
     let refused : (rule_refusal h t).number ≡ 0 → ⊥ = λ q. n (number_is ∙ q) in
     let f : build_refusal h t scratch cells rows pool ≡ rule_refusal h t =
     on_refused (rule_refusal h t)
@@ -226,20 +254,6 @@ builds_unread h t scratch cells rows pool answer checked n =
     }
 
 pub rule_passes :
-    (h : Head) (t : List ℕ) (answer : Answer) → ChecksRule h t answer → answer.number ≡ 0
+    (h : Head) (t : List ℕ) → ChecksRule h t (answer_in (λ (u : Unit {0}). 0) (Ok tt))
     → (rule_refusal h t).number ≡ 0
-rule_passes h t answer checked e = sym (ap (λ (x : Answer). x.number) checked.answer_is) ∙ e
-
--- the same outcome by another name
-pub builds_as :
-    {h : Head} {t scratch scratch' cells cells' rows rows' pool pool' : List ℕ} {answer : Building} (again : Building)
-    → BuildsTable h t scratch scratch' cells cells' rows rows' pool pool' answer
-    → again ≡ answer
-    → BuildsTable h t scratch scratch' cells cells' rows rows' pool pool' again
-builds_as {h} {t} {scratch} {scratch'} {cells} {cells'} {rows} {rows'} {pool} {pool'} again b e =
-    subst⁻¹ (λ (x : Building). BuildsTable h t scratch scratch' cells cells' rows rows' pool pool' x) e b
-
-pub same_building :
-    {b c : Built} → b ≡ c
-    → ◌≡◌ {A = Building} (record { number = 0; place = 0; built = b }) (record { number = 0; place = 0; built = c })
-same_building e = rw e
+rule_passes h t checked = sym (ap (λ (x : Answer). x.number) checked.answer_is)

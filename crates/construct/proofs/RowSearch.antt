@@ -50,15 +50,6 @@ pub row_inside :
     → row_width * row + row_width ≤ length rows
 row_inside w h = omega (arith, w.rows_long)
 
--- fewer rows lie in their tables too
-pub within_fewer :
-    {count fewer : ℕ} {rows pool : List ℕ} → Within count rows pool → fewer ≤ count → Within fewer rows pool
-within_fewer w h = record {
-  rows_long = omega (arith, w.rows_long);
-  in_pool = λ n l. w.in_pool n (omega arith);
-  ascends = λ n l. w.ascends n (omega arith);
-}
-
 -- What the search in all rows found, as a number.
 pub found_at :
     (x : List ℕ) (rs : List (List ℕ)) (f : Found) (row : ℕ) → f ≡ found_in x rs → f ≡ At row
@@ -157,9 +148,6 @@ pub record Searching (low high row : ℕ) (rows pool codes : List ℕ) : Type 0 
       found_from row codes (rows_held (high - row) row rows pool)
       ≡ found_from low codes (rows_held (high - low) low rows pool)
 
-pub searching : (low high : ℕ) (rows pool codes : List ℕ) → Searching low high low rows pool codes
-searching low high rows pool codes = record { rest_is = refl }
-
 rows_rest :
     (high row : ℕ) (rows pool : List ℕ) → row < high
     → rows_held (high - row) row rows pool ≡ codes_at rows pool row ∷ rows_held (high - (row + 1)) (row + 1) rows pool
@@ -178,9 +166,6 @@ module _ {low high row : ℕ} {rows pool codes : List ℕ} (inv : Searching low 
       → At row ≡ found_from low codes (rows_held (high - low) low rows pool)
   search_found h e =
       sym (ap (found_from row codes) (rows_rest high row rows pool h) ∙ rw e) ∙ inv.rest_is
-
-  pub search_ends : high ≤ row → Nothing ≡ found_from low codes (rows_held (high - low) low rows pool)
-  search_ends h = let z : high - row ≡ 0 = omega arith in rw z at inv.rest_is
 
 -- What it answers for n rows from i on: a number of one of them that is equal, or nothing where none is.
 module _ (rows pool x : List ℕ) where
@@ -278,11 +263,10 @@ at_longer {count} {row} {rows} {pool} marks n within h is_length d =
     ∙ at_row count row rows pool (codes_in marks) h
 
 pub at_marked :
-    {count row start n : ℕ} {marks rows pool : List ℕ} → row < count → AsLong marks rows pool row start n
-    → all_marked marks (take (start + n - start) (drop start pool))
-    ≡ is_at row (codes_in marks) (rows_in count rows pool)
-at_marked {count} {row} {start} {n} {marks} {rows} {pool} h long =
-    let z : start + n - start ≡ n = omega arith in
-    let e : take (start + n - start) (drop start pool) ≡ codes_at rows pool row = rw z (sym long.part_is) in
-    ap (all_marked marks) e
-    ∙ (sym long.same_is ∙ at_row count row rows pool (codes_in marks) h)
+    {count row : ℕ} {rows pool : List ℕ} (marks : List ℕ) (n : ℕ) → Within count rows pool → row < count
+    → n ≡ row_length rows row
+    → n ≡ length (codes_in marks)
+    → all_marked marks (codes_at rows pool row) ≡ is_at row (codes_in marks) (rows_in count rows pool)
+at_marked {count} {row} {rows} {pool} marks n within h is_length e =
+    sym (row_as_long marks (row_start rows row) n within h refl is_length e).same_is
+    ∙ at_row count row rows pool (codes_in marks) h

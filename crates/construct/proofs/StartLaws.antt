@@ -3,17 +3,18 @@
 use mathlib.Core.Path.{◌≡◌, refl, sym, ◌∙◌, ap, ap₂, subst}
 use mathlib.Core.Bool.{Bool, true, false, not}
 use mathlib.Core.List.{List, [], ◌∷◌, ◌++◌}
-use Prim.Native.Nat.{ℕ, zero, suc, ◌+◌, ◌-◌, ◌*◌, ◌/◌, ◌≤◌, ◌<◌}
+use Prim.Native.Nat.{ℕ, zero, suc, ◌+◌, ◌-◌, ◌*◌, ◌≤◌, ◌<◌}
 use native.Mathlib.Omega.{arith}
+use Rattle.std.specs.Prelude.{Result, Ok, Err}
 use lib.Dec.{eqb, ltb}
 use lib.ListN.{length}
 use borrow.Author.Tests.{not-false, eqb-true, eqb-false}
+use Rattle.model.specs.declared.Fault.{Fault}
 use Rattle.model.specs.declared.Head.{Head}
-use Rattle.model.specs.Basics.{pick, lesser, quotient, zeros, bit, bits_from, mask_of, refuse}
-use Rattle.model.specs.Rules.{Rule, base_count, most_locations, pair_count, most_pairs}
-use Rattle.model.specs.Construction.{digits_code, code_of, with_code, start_bases, start_codes, start_row, most_rows}
+use Rattle.model.specs.Basics.{pick, zeros, bit, bits_from, mask_of, refuse}
+use Rattle.model.specs.Rules.{Rule, base_count, most_locations, pair_count}
+use Rattle.model.specs.Construction.{digits_code, code_of, with_code, start_bases, start_codes, start_row}
 use Rattle.model.specs.Layout.{edge_need, locations_in, rule_in, is_readable, rule_refusal}
-use Rattle.model.specs.Tables.{row_width}
 use Rattle.model.proofs.Logic.{by_test, In, here, there}
 use Rattle.model.proofs.Refusals.{refused_false, then_passes}
 use Rattle.model.proofs.Valid.{Valid, valid_of}
@@ -26,8 +27,8 @@ use Rattle.codes.proofs.Agreement.{weight_is}
 use Rattle.bits.specs.declared.Span.{Span}
 use Rattle.bits.specs.Bits.{codes_in, MarksAre}
 use Rattle.construct.specs.declared.Progress.{Progress}
-use Rattle.construct.specs.Marks.{start_codes_by, CanStart, Ready}
-use Rattle.construct.specs.Rows.{Held, Grown, Numbered}
+use Rattle.construct.specs.Marks.{start_codes_by, CanStart, Enough}
+use Rattle.construct.specs.Rows.{Held, Grown, Unfit, Numbered}
 use Rattle.construct.specs.Builds.{RoomIn, StartPlaced}
 
 -- the fields of the rule that a head record spells
@@ -51,17 +52,10 @@ final_mask h t z =
 
 -- N from the scale
 pub pairs_are :
-    (h : Head) (t : List ℕ) (z : Scale) (l w : ℕ) → Scaled (rule_in h t) z → l ≡ h.locations → w ≡ z.weight
-    → l * w ≡ pair_count (rule_in h t)
+    (h : Head) (t : List ℕ) (z : Scale) → Scaled (rule_in h t) z
+    → h.locations * z.weight ≡ pair_count (rule_in h t)
 unfolding pair_count
-pairs_are h t z l w s e f = ap₂ ◌*◌ (e ∙ sym (locations_of h t)) (f ∙ weight_is s)
-
--- the room for rows
-pub room_is :
-    (cells rows each n inner room : ℕ) → n ≡ quotient cells each → inner ≡ lesser (rows / row_width) n
-    → room ≡ lesser most_rows inner
-    → room ≡ lesser most_rows (lesser (rows / row_width) (quotient cells each))
-room_is cells rows each n inner room a b c = rw (c, b, a)
+pairs_are h t z s = ap₂ ◌*◌ (sym (locations_of h t)) (weight_is s)
 
 -- the start row, by the weight of a location
 digits_zero : (m k : ℕ) → digits_code m (zeros k) ≡ 0
@@ -99,20 +93,22 @@ bits_have (suc n) i l mask h g b =
     in_later l (bit i mask) i (bits_from n (suc i) mask) (bits_have n (suc i) l mask (omega arith) (omega arith) b))
 
 pub can_start :
-    (h : Head) (t : List ℕ) (z : Scale) (marks : List ℕ) → Ready (rule_in h t) z marks → marks ≡ zeros (length marks)
+    (h : Head) (t : List ℕ) (z : Scale) (marks : List ℕ) → (rule_refusal h t).number ≡ 0 → Scaled (rule_in h t) z
+    → Enough (rule_in h t) marks
+    → marks ≡ zeros (length marks)
     → CanStart marks h.starts z.weight
-can_start h t z marks ready zero_marks =
+can_start h t z marks passed scaled enough zero_marks =
     let r : Rule = rule_in h t in
-    let v : Valid r = valid_of r ready.valid in
+    let v : Valid r = valid_of r (passes_valid h t passed) in
     let below : (l : ℕ) → l < most_locations → bit l h.starts ≡ true → l * z.weight < pair_count r =
     λ l g b.
-    rw (start_code r z l ready.scaled)
+    rw (start_code r z l scaled)
     (code_below r l (start_bases r) (start_bases_lem r)
     (rises_below 0 r.locations r.initial l v.initial_rises
     (rw (initial_of h t) (bits_have most_locations 0 l h.starts (omega arith) (omega arith) b)))) in
     record {
       marks_zero = zero_marks;
-      codes_below = λ l g b. omega (arith, below l g b, ready.marks_long);
+      codes_below = λ l g b. omega (arith, below l g b, enough.marks_long);
       codes_most = λ l g b. omega (arith, below l g b, v.pairs_most);
     }
 
@@ -120,7 +116,7 @@ can_start h t z marks ready zero_marks =
 pub held_none :
     {says : List ℕ → Bool} (rows pool : List ℕ) (room : ℕ) → rows ≡ zeros (length rows) → pool ≡ zeros (length pool)
     → RoomIn room rows
-    → Held says rows pool (record { number = 0; rows = 0; total = 0; room = room; last = 0; before = 0 })
+    → Held says rows pool (record { rows = 0; total = 0; room = room; last = 0; before = 0 })
 held_none rows pool room a b c =
     let e : length rows - 0 ≡ length rows = omega arith in
     let f : length pool - 0 ≡ length pool = omega arith in
@@ -135,21 +131,21 @@ held_none rows pool room a b c =
       total_most = omega arith;
       room_most = c.most;
       room_fits = c.fits;
-      going = refl;
     }
 
 pub start_placed :
     {says : List ℕ → Bool} (starts weight room : ℕ) {marks marks₁ marks' rows' pool' : List ℕ} {span : Span}
-    (p : Progress)
+    (outcome : Result Progress Fault)
     → length marks₁ ≡ length marks
     → MarksAre (start_codes_by weight (locations_in starts)) marks₁ span
-    → Numbered says room (codes_in marks₁ ∷ []) 0 rows' pool' p
+    → Numbered says room (codes_in marks₁ ∷ []) 0 rows' pool' outcome
     → marks' ≡ zeros (length marks₁)
-    → StartPlaced says starts weight room marks marks' rows' pool' p
-start_placed {says} starts weight room {rows' = rows'} {pool' = pool'} p long m n z = record {
+    → StartPlaced says starts weight room marks marks' rows' pool' outcome
+start_placed {says} starts weight room {rows' = rows'} {pool' = pool'} (Ok p) long m n z = record {
   marks_zero = z ∙ ap zeros long;
-  grown = subst (λ (x : List ℕ). Grown says room (x ∷ []) rows' pool' p) m.codes_are n.grown;
+  start_placed = subst (λ (x : List ℕ). Grown says room (x ∷ []) rows' pool' p) m.codes_are n.grown;
 }
-
-pub pairs_few : (h : Head) (t : List ℕ) → (rule_refusal h t).number ≡ 0 → pair_count (rule_in h t) ≤ most_pairs
-pairs_few h t passed = (valid_of (rule_in h t) (passes_valid h t passed)).pairs_most
+start_placed {says} starts weight room {pool' = pool'} (Err fault) long m n z = record {
+  marks_zero = z ∙ ap zeros long;
+  start_placed = subst (λ (x : List ℕ). Unfit room (length pool') (x ∷ []) fault) m.codes_are n;
+}

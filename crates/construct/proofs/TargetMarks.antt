@@ -2,32 +2,30 @@
 use mathlib.Core.Path.{◌≡◌, refl, sym, ◌∙◌, ap}
 use mathlib.Core.Bool.{Bool, true, false}
 use mathlib.Core.List.{List, [], ◌∷◌, ◌++◌}
-use Prim.Native.Nat.{ℕ, suc, ◌+◌, ◌*◌, ◌≤◌, ◌<◌}
+use Prim.Native.Nat.{ℕ, suc, ◌+◌, ◌≤◌, ◌<◌}
 use native.Mathlib.Omega.{arith}
 use native.Mathlib.Numerals.{add-one}
 use lib.ListN.{length, get_or, take, drop, drop_of_length-le}
 use lib.Seq.{take-suc, take_all, drop-cons}
 use Rattle.model.specs.declared.Head.{Head}
-use Rattle.model.specs.Basics.{pick, zeros}
+use Rattle.model.specs.Basics.{pick}
 use Rattle.model.specs.Rules.{Edge, Rule, pair_count}
 use Rattle.model.specs.Runs.{no_edge}
-use Rattle.model.specs.Layout.{edge_width, edge_in, rule_in}
+use Rattle.model.specs.Layout.{rule_in, rule_refusal}
 use Rattle.model.specs.Construction.{with_code, location_of, allows, row_resets, target_of, pair_targets, row_targets}
 use Rattle.model.specs.Construction.{next_row}
 use Rattle.model.proofs.Valid.{valid_of}
+use Rattle.model.proofs.Readable.{passes_valid}
 use Rattle.model.proofs.CodeBounds.{target_below}
 use Rattle.codes.specs.declared.Scale.{Scale}
-use Rattle.codes.specs.declared.Pair.{Pair}
 use Rattle.pairs.specs.declared.Input.{Input}
-use Rattle.codes.specs.Codes.{unpacked}
-use Rattle.pairs.specs.Pairs.{pair_allows, pair_target}
+use Rattle.codes.specs.Codes.{Scaled}
 use Rattle.bits.specs.declared.Span.{Span}
 use Rattle.bits.specs.Bits.{codes_in, InSpan, CanMark, MarksAre}
-use Rattle.bits.proofs.Loops.{no_marks}
 use Rattle.construct.specs.Leaving.{leaving_from, edge_of, next_place, Linked}
-use Rattle.construct.specs.Marks.{Ready, NextMarked}
+use Rattle.construct.specs.Marks.{Enough, NextMarked}
 use Rattle.construct.proofs.LeavingLaws.{Standing, standing_from, next_is, next_later}
-use Rattle.construct.proofs.EdgeLaws.{edge_count, edge_in_lem, allowed_is, to_is, targets_from}
+use Rattle.construct.proofs.EdgeLaws.{edge_count, edge_in_lem, targets_from}
 
 -- The targets by the edges passed are marked; edge e is the next that leaves.
 pub record Pairing
@@ -75,21 +73,17 @@ module _
       ∙ inv.rest
 
   module _
-      {z : Scale} {lent links : List ℕ} (ready : Ready (rule_in h t) z lent) (linked : Linked (rule_in h t) links)
-      (l : e < h.count) where
+      {z : Scale} {lent links : List ℕ} (passed : (rule_refusal h t).number ≡ 0) (scaled : Scaled (rule_in h t) z)
+      (enough : Enough (rule_in h t) lent) (linked : Linked (rule_in h t) links) (l : e < h.count) where
     pub pairing_can :
-        (p : Pair) (to : ℕ) → p ≡ unpacked z x
-        → to ≡ pair_target z at.interval timer p (edge_in (drop (edge_width * e) t))
-        → length marks ≡ length lent
-        → CanMark marks span to
-    pairing_can p to u q long =
+        {to : ℕ} → to ≡ target_of r at.interval timer x edge → length marks ≡ length lent → CanMark marks span to
+    pairing_can {to} is_to long =
         let small : to < pair_count r =
-        rw (to_is h t ready.valid ready.scaled l at.interval timer x p to u q)
-        (target_below r at.interval timer x edge (edge_in_lem h t ready.valid ready.scaled l)) in
+        rw is_to (target_below r at.interval timer x edge (edge_in_lem h t passed scaled l)) in
         record {
           in_span = inv.in_span;
-          code_below = omega (arith, ready.marks_long);
-          code_most = omega (arith, (valid_of r ready.valid).pairs_most);
+          code_below = omega (arith, enough.marks_long);
+          code_most = omega (arith, (valid_of r (passes_valid h t passed)).pairs_most);
         }
 
     -- from the next edge on, once the targets by edge e are marked
@@ -113,32 +107,25 @@ module _
         })
 
     pub pairing_next :
-        (p : Pair) (b : Bool) (to n : ℕ) (marks' : List ℕ) (span' : Span) → p ≡ unpacked z x
-        → b ≡ pair_allows z.top at p (edge_in (drop (edge_width * e) t))
+        {b : Bool} {to : ℕ} (n : ℕ) (marks' : List ℕ) (span' : Span)
+        → b ≡ allows r at.symbol at.interval x edge
         → b ≡ true
-        → to ≡ pair_target z at.interval timer p (edge_in (drop (edge_width * e) t))
+        → to ≡ target_of r at.interval timer x edge
         → MarksAre (with_code to (codes_in marks)) marks' span'
         → n ≡ get_or links (next_place e) 0
         → Pairing h t at timer x n row marks' span'
-    pairing_next p b to n marks' span' u q y g m k =
-        let a : allows r at.symbol at.interval x edge ≡ true =
-        sym (allowed_is h t ready.valid ready.scaled l at x p b u q) ∙ y in
-        go_on n marks' span' k
-        (m.codes_are ∙ (rw (to_is h t ready.valid ready.scaled l at.interval timer x p to u g, a)))
-        m.in_span
+    pairing_next n marks' span' q y g m k =
+        go_on n marks' span' k (m.codes_are ∙ (rw (g, sym q ∙ y))) m.in_span
 
     pub pairing_skip :
-        (p : Pair) (b : Bool) (n : ℕ) (marks' : List ℕ) (span' : Span) → p ≡ unpacked z x
-        → b ≡ pair_allows z.top at p (edge_in (drop (edge_width * e) t))
+        {b : Bool} (n : ℕ) (marks' : List ℕ) (span' : Span) → b ≡ allows r at.symbol at.interval x edge
         → b ≡ false
         → marks' ≡ marks
         → span' ≡ span
         → n ≡ get_or links (next_place e) 0
         → Pairing h t at timer x n row marks' span'
-    pairing_skip p b n marks' span' u q y f g k =
-        let a : allows r at.symbol at.interval x edge ≡ false =
-        sym (allowed_is h t ready.valid ready.scaled l at x p b u q) ∙ y in
-        go_on n marks' span' k (rw (f, a)) (rw (f, g) inv.in_span)
+    pairing_skip n marks' span' q y f g k =
+        go_on n marks' span' k (rw (f, sym q ∙ y)) (rw (f, g) inv.in_span)
 
     -- the next edge comes later
     pub pairing_later : (n : ℕ) → n ≡ get_or links (next_place e) 0 → e < n
@@ -173,9 +160,9 @@ pub record Rowing
       MarksAre (row_targets (rule_in h t) at.symbol at.interval timer (take n row) []) marks span
 
 pub rowing_start :
-    (h : Head) (t : List ℕ) (at : Input) (timer : Bool) (row marks : List ℕ) → marks ≡ zeros (length marks)
-    → Rowing h t at timer row 0 marks (record { low = length marks; past = 0; count = 0 })
-rowing_start h t at timer row marks z = record { turns = omega arith; marks_are = no_marks marks z }
+    (h : Head) (t : List ℕ) (at : Input) (timer : Bool) (row marks : List ℕ) (span : Span) → MarksAre [] marks span
+    → Rowing h t at timer row 0 marks span
+rowing_start h t at timer row marks span m = record { turns = omega arith; marks_are = m }
 
 module _
     {h : Head} {t : List ℕ} {at : Input} {timer : Bool} {row : List ℕ} {n : ℕ} {marks : List ℕ} {span : Span}
@@ -202,15 +189,10 @@ module _
       length row ≤ n → MarksAre (row_targets (rule_in h t) at.symbol at.interval timer row []) marks span
   rowing_end l = rw (take_all n row l) at inv.marks_are
 
--- marks of another length are ready too
-pub ready_again :
-    {r : Rule} {z : Scale} {lent : List ℕ} (marks : List ℕ) → Ready r z lent → length marks ≡ length lent
-    → Ready r z marks
-ready_again marks ready e = record {
-  valid = ready.valid;
-  scaled = ready.scaled;
-  marks_long = rw e ready.marks_long;
-}
+-- marks of another length have room too
+pub enough_again :
+    {r : Rule} {lent : List ℕ} (marks : List ℕ) → Enough r lent → length marks ≡ length lent → Enough r marks
+enough_again marks enough e = record { marks_long = rw e enough.marks_long }
 
 -- the next row, from whether the timer is reset and the targets
 pub next_marked :

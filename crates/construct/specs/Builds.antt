@@ -1,17 +1,17 @@
 -- The whole build: from the start row on, into tables that hold zero.
-use Rattle.std.specs.Prelude.{◌≡◌, Bool, List, [], ◌∷◌, ℕ, ◌*◌, ◌≤◌, length}
+use Rattle.std.specs.Prelude.{◌≡◌, Result, MatchResult, Bool, List, [], ◌∷◌, ℕ, ◌*◌, ◌≤◌, length}
 use Rattle.model.specs.declared.Head.{Head}
 use Rattle.model.specs.declared.Built.{Built}
-use Rattle.model.specs.declared.Building.{Building}
+use Rattle.model.specs.declared.Fault.{Fault}
 use Rattle.model.specs.Basics.{zeros}
 use Rattle.model.specs.Rules.{Rule}
 use Rattle.model.specs.Construction.{most_rows}
 use Rattle.model.specs.Layout.{locations_in}
-use Rattle.model.specs.Tables.{row_width, no_built}
+use Rattle.model.specs.Tables.{row_width}
 use Rattle.codes.specs.declared.Scale.{Scale}
 use Rattle.construct.specs.declared.Progress.{Progress}
-use Rattle.construct.specs.Marks.{start_codes_by, CanStart, Ready}
-use Rattle.construct.specs.Rows.{Grown}
+use Rattle.construct.specs.Marks.{start_codes_by, CanStart, Enough}
+use Rattle.construct.specs.Rows.{Grown, Unfit}
 
 -- room for rows in an empty row table
 pub record RoomIn (room : ℕ) (rows : List ℕ) : Type 0 where
@@ -27,21 +27,20 @@ pub record CanPlaceStart (starts weight : ℕ) (marks rows pool : List ℕ) (roo
 
 -- the start row has number 0, or it does not fit
 pub record StartPlaced
-    (says : List ℕ → Bool) (starts weight room : ℕ) (marks marks' rows' pool' : List ℕ) (p : Progress) : Type 0 where
+    (says : List ℕ → Bool) (starts weight room : ℕ) (marks marks' rows' pool' : List ℕ)
+    (outcome : Result Progress Fault) : Type 0 where
   pub marks_zero : marks' ≡ zeros (length marks)
-  pub grown : Grown says room (start_codes_by weight (locations_in starts) ∷ []) rows' pool' p
+  pub start_placed :
+      MatchResult outcome (Grown says room (start_codes_by weight (locations_in starts) ∷ []) rows' pool')
+      (Unfit room (length pool') (start_codes_by weight (locations_in starts) ∷ []))
 
 -- every table is zero
-pub record CanBuild (r : Rule) (z : Scale) (marks cells rows pool : List ℕ) : Type 0 where
-  pub ready : Ready r z marks
+pub record CanBuild (r : Rule) (marks cells rows pool : List ℕ) : Type 0 where
+  pub enough : Enough r marks
   pub marks_zero : marks ≡ zeros (length marks)
   pub cells_zero : cells ≡ zeros (length cells)
   pub rows_zero : rows ≡ zeros (length rows)
   pub pool_zero : pool ≡ zeros (length pool)
-
--- no table: a number and a place
-abbrev pub not_built : ℕ → ℕ → Building
-not_built number place = record { number = number; place = place; built = no_built }
 
 -- the built record, from the head record, the scale and the rows
 abbrev pub built_from : Head → Scale → Progress → Built

@@ -3,3 +3,4 @@ pub mod Marks
 pub mod Rows
 pub mod Cells
 pub mod Builds
+pub mod Props

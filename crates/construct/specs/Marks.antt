@@ -1,14 +1,24 @@
--- The start row by its codes, and the rule that a build goes by.
+-- The rule that a build goes by, the start row by its codes, and a next row marked.
 use Rattle.std.specs.Prelude.{◌≡◌, true, List, [], ◌∷◌, ℕ, ◌*◌, ◌≤◌, ◌<◌, length}
 use Rattle.model.specs.Basics.{bit, zeros}
-use Rattle.model.specs.Rules.{Rule, most_locations, pair_count, most_pairs, valid_rule}
+use Rattle.model.specs.Rules.{Rule, most_locations, pair_count, most_pairs}
 use Rattle.model.specs.Construction.{with_code, row_resets, next_row}
 use Rattle.model.specs.Tables.{scratch_bits}
-use Rattle.codes.specs.declared.Scale.{Scale}
+use Rattle.codes.specs.Codes.{unpacked}
+use Rattle.pairs.specs.declared.Departure.{Departure}
 use Rattle.pairs.specs.declared.Input.{Input}
-use Rattle.codes.specs.Codes.{Scaled}
 use Rattle.bits.specs.Bits.{MarksAre}
+use Rattle.edges.specs.Views.{rule_of}
 use Rattle.construct.specs.declared.Marked.{Marked}
+use Rattle.construct.specs.declared.Plan.{Plan}
+
+-- the rule that a build goes by
+abbrev pub rule_by : Plan → Rule
+rule_by plan = rule_of plan.rule
+
+-- the pair of a code, as it is left
+abbrev pub departure_by : Plan → Input → ℕ → Departure
+departure_by plan at x = record { pair = unpacked plan.scale x; input = at; scale = plan.scale }
 
 -- the start row by the weight of a location
 abbrev pub start_codes_by : ℕ → List ℕ → List ℕ
@@ -21,10 +31,8 @@ pub record CanStart (marks : List ℕ) (starts weight : ℕ) : Type 0 where
   pub codes_below : (l : ℕ) → l < most_locations → bit l starts ≡ true → l * weight < scratch_bits * length marks
   pub codes_most : (l : ℕ) → l < most_locations → bit l starts ≡ true → l * weight < most_pairs
 
--- What a build knows at every step: the rule is valid, the scale is its own, and every code has a mark.
-pub record Ready (r : Rule) (z : Scale) (marks : List ℕ) : Type 0 where
-  pub valid : valid_rule r ≡ true
-  pub scaled : Scaled r z
+-- every code has a mark
+pub record Enough (r : Rule) (marks : List ℕ) : Type 0 where
   pub marks_long : pair_count r ≤ scratch_bits * length marks
 
 -- the row that a row leads to, marked, and whether the timer is reset

@@ -1,18 +1,20 @@
 -- Rows numbered so far, as the row table and the pool hold them, and the row that does not fit.
-use Rattle.std.specs.Prelude.{◌≡◌, Bool, ◌&&◌, List, [], ◌∷◌, ◌++◌, ℕ, zero, suc, ◌+◌, ◌*◌, ◌≤◌, ◌<◌, ltb, length}
-use Rattle.model.specs.declared.Head.{Head}
+use Rattle.std.specs.Prelude.{◌≡◌, Result, MatchResult, Bool, ◌&&◌, List, [], ◌∷◌, ◌++◌, ℕ, zero, suc}
+use Rattle.std.specs.Prelude.{◌+◌, ◌*◌, ◌≤◌, ◌<◌, ltb, length}
+use Rattle.model.specs.declared.Fault.{Fault}
 use Rattle.model.specs.Basics.{pick, same, zeros, filled, refusal}
 use Rattle.model.specs.Rules.{most_pairs}
 use Rattle.model.specs.Construction.{row_at, number_of, most_rows}
 use Rattle.model.specs.Tables.{row_width, row_start, row_length, codes_at, row_numbers, pool_numbers, fit_refusal}
+use Rattle.model.specs.Faults.{fault_number}
 use Rattle.model.specs.Walks.{any_final}
 use Rattle.model.proofs.Masks.{Asc}
 use Rattle.model.proofs.Discovery.{Each}
 use Rattle.model.proofs.RowNumbers.{Placed as Apart}
-use Rattle.codes.specs.declared.Scale.{Scale}
 use Rattle.construct.specs.declared.Finals.{Finals}
 use Rattle.construct.specs.declared.Found.{Found}
 use Rattle.construct.specs.declared.Found.TheVariants.{At, Nothing}
+use Rattle.construct.specs.declared.Plan.{Plan}
 use Rattle.construct.specs.declared.Progress.{Progress}
 
 -- n rows from number i on
@@ -32,8 +34,9 @@ is_at n x rows = ltb n (length rows) && same x (row_at rows n)
 abbrev pub says_by : Finals → List ℕ → Bool
 says_by f xs = any_final f.weight f.ends xs
 
-abbrev pub says_in : Head → Scale → List ℕ → Bool
-says_in h z xs = any_final z.weight h.ends xs
+-- the final locations that a build goes by
+abbrev pub finals_of : Plan → Finals
+finals_of plan = record { weight = plan.scale.weight; ends = plan.rule.head.ends }
 
 -- What the search in some rows answers, the first of which has number n: the number of the first that is equal, or
 -- nothing where none is.
@@ -69,44 +72,36 @@ pub record Held (says : List ℕ → Bool) (rows pool : List ℕ) (p : Progress)
   pub total_most : p.total ≤ most_pairs * p.rows
   pub room_most : p.room ≤ most_rows
   pub room_fits : row_width * p.room ≤ length rows
-  pub going : p.number ≡ 0
 
 -- 23 or 24: some row is the first that does not fit, whatever rows come after
-pub record Unfit (room pool number : ℕ) (rows : List (List ℕ)) : Type 0 where
-  pub least : 23 ≤ number
-  pub most : number ≤ 24
-  pub refuses : (more : List (List ℕ)) → fit_refusal 0 room 0 pool (rows ++ more) ≡ refusal number 0
+pub record Unfit (room pool : ℕ) (rows : List (List ℕ)) (fault : Fault) : Type 0 where
+  pub least : 23 ≤ fault_number fault
+  pub refuses : (more : List (List ℕ)) → fit_refusal 0 room 0 pool (rows ++ more) ≡ refusal (fault_number fault) 0
 
--- how far the rows are numbered where the next does not fit
-abbrev pub unfit_by : ℕ → Progress → Progress
-unfit_by number p = record {
-  number = number;
-  rows = p.rows;
-  total = p.total;
-  room = p.room;
-  last = 0;
-  before = 0;
-}
-
--- The rows are now these, and held; or some row of them does not fit.
+-- the rows are now these, and held
 pub record Grown
     (says : List ℕ → Bool) (room : ℕ) (after : List (List ℕ)) (rows' pool' : List ℕ) (p : Progress) : Type 0 where
-  pub held : p.number ≡ 0 → Held says rows' pool' p
-  pub rows_are : p.number ≡ 0 → rows_in p.rows rows' pool' ≡ after
-  pub refused : (p.number ≡ 0 → ⊥) → Unfit room (length pool') p.number after
+  pub held : Held says rows' pool' p
+  pub rows_are : rows_in p.rows rows' pool' ≡ after
   pub room_kept : p.room ≡ room
 
--- a row was given its number n, and is the one placed last
-pub record Numbered
+-- a row has its number n, and is the one placed last
+pub record HasNumber
     (says : List ℕ → Bool) (room : ℕ) (after : List (List ℕ)) (n : ℕ) (rows' pool' : List ℕ) (p : Progress) : Type 0
   where
     pub grown : Grown says room after rows' pool' p
-    pub row_is : p.number ≡ 0 → p.last ≡ n
+    pub row_is : p.last ≡ n
     pub row_below : p.last < most_rows
+
+-- a row was given its number n, or some row does not fit
+abbrev pub Numbered :
+    (List ℕ → Bool) → ℕ → List (List ℕ) → ℕ → List ℕ → List ℕ → Result Progress Fault → Type 0
+Numbered says room after n rows' pool' outcome =
+    MatchResult outcome (HasNumber says room after n rows' pool') (Unfit room (length pool') after)
 
 -- the same of marks, which are then cleared
 pub record MarksNumbered
     (says : List ℕ → Bool) (room : ℕ) (after : List (List ℕ)) (n : ℕ) (marks marks' rows' pool' : List ℕ)
-    (p : Progress) : Type 0 where
-  pub numbered : Numbered says room after n rows' pool' p
+    (outcome : Result Progress Fault) : Type 0 where
+  pub numbered : Numbered says room after n rows' pool' outcome
   pub marks_zero : marks' ≡ zeros (length marks)

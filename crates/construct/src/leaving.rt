@@ -1,113 +1,90 @@
 // The edges that leave a location on a symbol, linked one to the next in file order: a pair looks at no others.
 // Made once a build. The edge count stands for 'no edge'.
-ghost use Rattle.std.specs.Prelude.{◌≡◌, true, ◌+◌, ◌<◌, get_or};
-ghost use Rattle.model.specs.Rules.{valid_rule};
-ghost use Rattle.model.specs.Layout.{rule_in};
+ghost use Rattle.std.specs.Prelude.{◌≡◌, ◌+◌, ◌<◌, get_or};
+ghost use Rattle.model.specs.Layout.{rule_refusal};
 ghost use Rattle.model.specs.Construction.{pair_resets, row_resets};
-ghost use Rattle.codes.specs.Codes.{Scaled};
+ghost use Rattle.edges.specs.Views.{rule_of};
 ghost use Rattle.construct.specs.Leaving.{first_link, next_place, Linked};
+ghost use Rattle.construct.specs.Marks.{rule_by, departure_by};
 
-use codes::{Scale, unpack};
-use edges::fields::{source_of, symbol_of};
-use model::{Head, MOST_LOCATIONS, MOST_SYMBOLS};
-use numbers::{narrow16, narrow32, number_at, wide32};
-use pairs::Input;
-use pairs::resets::edge_resets;
+use crate::Plan;
+use edges::StoredRule;
+use model::{MOST_LOCATIONS, MOST_SYMBOLS};
+use numbers::at_or;
+use pairs::{Departure, Input};
 
 // Links in all: to the first edge that leaves each location on each symbol, then from each edge to the next like it.
-pub(crate) const FIRST_LINKS: usize = 512;
+const FIRST_LINKS: usize = 512;
 
-pub(crate) const LINK_COUNT: usize = 768;
+const LINK_COUNT: usize = 768;
 
 // Places MOST_SYMBOLS · location + symbol: the first edge that leaves there. Places FIRST_LINKS + e: the next after
 // edge e that leaves where it does, on its symbol.
-pub(crate) fn link_edges(head: Head, edges: &[u16]) -> [u16; LINK_COUNT]
-    requires { valid_rule (rule_in head edges.now) ≡ true }
-    ensures { Linked (rule_in head edges.now) result }
+pub(crate) fn link_edges(rule: StoredRule<'_>) -> [u16; LINK_COUNT]
+    requires { (rule_refusal rule.head rule.edges.now).number ≡ 0 }
+    ensures { Linked (rule_of rule.entry) result }
 {
-    let none = narrow16(wide32(head.count));
-    let mut links = [none; LINK_COUNT];
-    let mut e = head.count;
-    while 0 < e {
-        e -= 1;
-        let first = MOST_SYMBOLS * source_of(edges, e) + symbol_of(edges, e);
-        let at = wide32(e);
-        links[FIRST_LINKS + at] = links[first];
-        links[first] = narrow16(at);
+    let count = rule.head.count;
+    let mut links = [count as u16; LINK_COUNT];
+    for e in (0..count).rev() {
+        let edge = rule.edge(e);
+        let first = MOST_SYMBOLS * edge.source() + edge.symbol();
+        links[FIRST_LINKS + e as usize] = links[first];
+        links[first] = e as u16;
     }
     links
 }
 
-// The first edge that leaves a location on a symbol.
-pub(crate) fn first_edge(links: &[u16], count: u32, location: usize, symbol: u32) -> u32
-    ensures { result ≡ first_link count location symbol links.now }
-{
-    if MOST_LOCATIONS <= location {
-        return count;
-    }
-    if MOST_SYMBOLS as u32 <= symbol {
-        return count;
-    }
-    narrow32(number_at(links, MOST_SYMBOLS * location + wide32(symbol)))
-}
-
-// The next edge after `e` that leaves where it does, on its symbol.
-pub(crate) fn next_edge(links: &[u16], e: u32) -> u32
-    ensures { result ≡ get_or links.now (next_place e) 0 }
-{
-    narrow32(number_at(links, FIRST_LINKS + wide32(e)))
-}
-
-// Does the pair of a code allow an edge that resets a clock?
-pub(crate) fn pair_resets(
-    head: Head,
-    edges: &[u16],
-    links: &[u16],
-    scale: Scale,
-    input: Input,
-    code: u32,
-) -> bool
-    requires edges_value { valid_rule (rule_in head edges.now) ≡ true }
-    requires scaled { Scaled (rule_in head edges.now) scale }
-    requires linked { Linked (rule_in head edges.now) links.now }
-    ensures { result
-        ≡ pair_resets (rule_in head edges.now) input.symbol input.interval code
-        (rule_in head edges.now).edges }
-{
-    let pair = unpack(scale, code);
-    let mut e = first_edge(links, head.count, pair.location, input.symbol);
-    while e < head.count {
-        if edge_resets(edges, e, scale.top, input, pair) {
-            return true;
+impl Plan<'_> {
+    // The first edge that leaves a location on a symbol.
+    pub(crate) fn first_edge(self, location: usize, symbol: u32) -> u32
+        ensures { result ≡ first_link self.entry.rule.head.count location symbol self.entry.links.now }
+    {
+        if MOST_LOCATIONS <= location || MOST_SYMBOLS as u32 <= symbol {
+            return self.rule.head.count;
         }
-        e = next_edge(links, e);
+        u32::from(at_or(self.links, MOST_SYMBOLS * location + symbol as usize, 0))
     }
-    false
-}
 
-// Does some pair of a row allow one? Then the timer is reset. Resets are pinned to whole seconds: at no odd interval.
-pub(crate) fn row_resets(
-    head: Head,
-    edges: &[u16],
-    links: &[u16],
-    scale: Scale,
-    input: Input,
-    row: &[u32],
-) -> bool
-    requires edges_value { valid_rule (rule_in head edges.now) ≡ true }
-    requires scaled { Scaled (rule_in head edges.now) scale }
-    requires linked { Linked (rule_in head edges.now) links.now }
-    ensures { result ≡ row_resets (rule_in head edges.now) input.symbol input.interval row.now }
-{
-    if input.interval % 2 == 1 {
-        return false;
+    // The next edge after `e` that leaves where it does, on its symbol.
+    pub(crate) fn next_edge(self, e: u32) -> u32
+        ensures { result ≡ get_or self.entry.links.now (next_place e) 0 }
+    {
+        u32::from(at_or(self.links, FIRST_LINKS + e as usize, 0))
     }
-    let mut n: usize = 0;
-    while n < row.len() {
-        if pair_resets(head, edges, links, scale, input, row[n]) {
-            return true;
+
+    // The pair of a code, as it is left.
+    pub(crate) fn departure(self, input: Input, code: u32) -> Departure
+        ensures { result ≡ departure_by self.entry input code }
+    {
+        Departure {
+            pair: self.scale.unpack(code),
+            input,
+            scale: self.scale,
         }
-        n += 1;
     }
-    false
+
+    // Does the pair of a code allow an edge that resets a clock? The edges go by their links, so there is no range.
+    fn pair_resets(self, input: Input, code: u32) -> bool
+        ensures { result
+            ≡ pair_resets (rule_by self.entry) input.symbol input.interval code (rule_by self.entry).edges }
+    {
+        let left = self.departure(input, code);
+        let mut e = self.first_edge(left.pair.location, input.symbol);
+        while e < self.rule.head.count {
+            if left.resets_on(self.rule.edge(e)) {
+                return true;
+            }
+            e = self.next_edge(e);
+        }
+        false
+    }
+
+    // Does some pair of a row allow one? Then the timer is reset. Resets are pinned to whole seconds: at no odd
+    // interval.
+    pub(crate) fn row_resets(self, input: Input, row: &[u32]) -> bool
+        ensures { result ≡ row_resets (rule_by self.entry) input.symbol input.interval row.now }
+    {
+        input.interval % 2 == 0 && row.iter().any(|code| self.pair_resets(input, *code))
+    }
 }

@@ -1,11 +1,20 @@
 // The table builder: rows as sets of codes, numbered by discovery, into the lent tables.
 #![tactic(auto)]
 
+ghost use Rattle.std.specs.Prelude.{◌≡◌};
+ghost use Rattle.model.specs.Layout.{rule_refusal};
+ghost use Rattle.model.specs.Faults.{building_in};
 ghost use Rattle.model.specs.Promises.{BuildsTable};
+ghost use Rattle.edges.specs.Views.{rule_of};
+ghost use Rattle.codes.specs.Codes.{Scaled};
+ghost use Rattle.construct.specs.Leaving.{Linked};
 
-use crate::build::{build_checked, not_built};
+use crate::leaving::link_edges;
 use bits::Span;
-use model::{Building, Head};
+use codes::Scale;
+use codes::powers::scale_of;
+use edges::StoredRule;
+use model::{Built, Fault, Refused, SCRATCH_BITS};
 use rule::check_rule;
 
 mod build;
@@ -14,14 +23,25 @@ mod leaving;
 mod marks;
 mod rows;
 
-// What the marks of a next row come with: whether the timer is reset, and where they lie.
+// What a build goes by: a rule that passed 20 and 21, the links of its edges, and its scale.
+#[derive(Clone, Copy)]
+pub(crate) struct Plan<'a> {
+    pub(crate) rule: StoredRule<'a>,
+    pub(crate) links: &'a [u16],
+    pub(crate) scale: Scale,
+    pub(crate) ghost passed: { (rule_refusal rule.head rule.edges.now).number ≡ 0 },
+    pub(crate) ghost linked: { Linked (rule_of rule) links.now },
+    pub(crate) ghost scaled: { Scaled (rule_of rule) scale },
+}
+
+// What the marks of a next row come with: whether the timer is reset, and where they lie. Both are told in every case.
 #[derive(Clone, Copy)]
 pub(crate) struct Marked {
     pub(crate) timer: bool,
     pub(crate) span: Span,
 }
 
-// Where the row that is marked is found among those already numbered.
+// Where the row that is marked is found among those already numbered: document 01 fixes this form.
 #[derive(Clone, Copy)]
 pub(crate) enum Found {
     At(usize),
@@ -36,11 +56,9 @@ pub(crate) struct Finals {
 }
 
 // How far the rows are numbered: their count, how much of the pool they fill, and how many there is room for.
-// The number is 23 or 24 where the next did not fit, else 0.
 // `last` is the row that was placed last, `before` another one placed before it: where a row is looked for first.
 #[derive(Clone, Copy)]
 pub(crate) struct Progress {
-    pub(crate) number: usize,
     pub(crate) rows: usize,
     pub(crate) total: usize,
     pub(crate) room: usize,
@@ -55,21 +73,29 @@ pub(crate) struct Filled {
     pub(crate) progress: Progress,
 }
 
-// The table of a rule: 20, 21, 22, then 23 or 24 at the first row that does not fit.
+// The table of a rule: 20, 21, 22, then 23 or 24 at the first row that does not fit. 22 is a scratch shorter than
+// N / 32 numbers, rounded up.
 pub fn build_table(
-    head: Head,
-    edges: &[u16],
+    rule: StoredRule<'_>,
     scratch: &mut [u32],
     cells: &mut [u32],
     rows: &mut [u32],
     pool: &mut [u32],
-) -> Building
-    ensures { BuildsTable head edges.now scratch.old scratch.new cells.old
-        cells.new rows.old rows.new pool.old pool.new result }
+) -> Result<Built, Refused>
+    ensures { BuildsTable rule.entry.head rule.entry.edges.now scratch.old scratch.new cells.old
+        cells.new rows.old rows.new pool.old pool.new (building_in result) }
 {
-    let checked = check_rule(head, edges);
-    if checked.number != 0 {
-        return not_built(checked.number, checked.place);
+    check_rule(rule)?;
+    let scale = scale_of(rule);
+    let pairs = rule.head.locations as usize * scale.weight as usize;
+    if scratch.len() < pairs.div_ceil(SCRATCH_BITS) {
+        return Err(Fault::ShortScratch.into());
     }
-    build_checked(head, edges, scratch, cells, rows, pool)
+    let links = link_edges(rule);
+    let plan = Plan {
+        rule,
+        links: &links,
+        scale,
+    };
+    plan.build_in(scratch, cells, rows, pool)
 }

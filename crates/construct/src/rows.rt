@@ -2,221 +2,202 @@
 ghost use Rattle.std.specs.Prelude.{◌≡◌, ◌∷◌, ◌++◌, [], ◌+◌, ◌-◌, ◌*◌, ◌^◌, ◌≤◌, ◌<◌, length};
 ghost use Rattle.model.specs.Basics.{one_if};
 ghost use Rattle.model.specs.Construction.{number_of, with_row};
-ghost use Rattle.model.specs.Tables.{row_width, row_start, row_length};
+ghost use Rattle.model.specs.Tables.{row_start, row_length, codes_at};
 ghost use Rattle.model.proofs.RowNumbers.{Placed as Apart};
 ghost use Rattle.bits.specs.Bits.{codes_in, InSpan};
 ghost use Rattle.construct.specs.Rows.{rows_held, rows_in, is_at, found_from, found_in, says_by, Within, Held};
-ghost use Rattle.construct.specs.Rows.{unfit_by, Numbered, MarksNumbered};
+ghost use Rattle.construct.specs.Rows.{Numbered, MarksNumbered};
+ghost use Rattle.construct.specs.Props.{within_prop};
 
 use crate::{Finals, Found, Progress};
 use bits::{Span, all_marked, is_marked, lay_codes, unmark};
-use model::{ROW_LENGTH, ROW_VERDICT, ROW_WIDTH};
-use numbers::{has_bit, lesser, narrow32, quotient, wide32};
+use model::{Fault, ROW_LENGTH, ROW_VERDICT, ROW_WIDTH};
+use numbers::{has_bit, quotient};
 
-// Where the codes of a row start in the pool. A build spends most of its time in the search: its rows are known to lie
-// in their table, so no place is tested here, as `tables` does.
-pub(crate) fn start_in(rows: &[u32], row: usize) -> usize
-    requires { row_width * row + row_width ≤ length rows.now }
-    ensures { (result ≡ row_start rows.now row) × (result < 2 ^ 32) }
-{
-    wide32(rows[ROW_WIDTH * row])
+// The rows numbered so far, `count` of them. A build spends most of its time in the search: its rows are known to lie
+// in their tables, so no place is tested here, as `tables` does.
+#[derive(Clone, Copy)]
+pub(crate) struct Known<'a> {
+    pub(crate) rows: &'a [u32],
+    pub(crate) pool: &'a [u32],
+    pub(crate) count: usize,
+    pub(crate) ghost within: { Within count rows.now pool.now } by { within_prop count rows.now pool.now },
 }
 
-// How many codes it has.
-pub(crate) fn length_in(rows: &[u32], row: usize) -> usize
-    requires { row_width * row + row_width ≤ length rows.now }
-    ensures { (result ≡ row_length rows.now row) × (result < 2 ^ 32) }
-{
-    wide32(rows[ROW_WIDTH * row + ROW_LENGTH])
+// The row that is marked.
+#[derive(Clone, Copy)]
+pub(crate) struct Wanted<'a> {
+    pub(crate) marks: &'a [u32],
+    pub(crate) span: Span,
+    pub(crate) ghost in_span: { InSpan marks.now span },
 }
 
-// The row, from number `low` on and below `high`, that holds exactly the codes that are marked, `size` of them: rows of
-// another length are passed over, a row of this length is left at its first code that is not marked.
-pub(crate) fn find_row(
-    rows: &[u32],
-    pool: &[u32],
-    low: usize,
-    high: usize,
-    marks: &[u32],
-    size: usize,
-) -> Found
-    requires within { Within high rows.now pool.now }
-    requires size_value { size ≡ length (codes_in marks.now) }
-    ensures { result ≡ found_from low (codes_in marks.now)
-        (rows_held (high - low) low rows.now pool.now) }
-{
-    let mut row = low;
-    loop {
-        if high <= row {
-            break Found::Nothing;
-        }
-        if length_in(rows, row) == size {
-            let start = start_in(rows, row);
-            let mut j: usize = 0;
-            'codes: while j < size {
-                if !is_marked(marks, wide32(pool[start + j])) {
-                    break 'codes;
+impl<'a> Known<'a> {
+    // Where the codes of a row start in the pool.
+    fn start(self, row: usize) -> usize
+        requires { row < self.count }
+        ensures { (result ≡ row_start self.entry.rows.now row) × (result < 2 ^ 32) }
+    {
+        self.rows[ROW_WIDTH * row] as usize
+    }
+
+    // How many codes it has.
+    fn length(self, row: usize) -> usize
+        requires { row < self.count }
+        ensures { (result ≡ row_length self.entry.rows.now row) × (result < 2 ^ 32) }
+    {
+        self.rows[ROW_WIDTH * row + ROW_LENGTH] as usize
+    }
+
+    // Its codes.
+    pub(crate) fn codes(self, row: usize) -> &'a [u32]
+        requires { row < self.count }
+        ensures { result.now ≡ codes_at self.entry.rows.now self.entry.pool.now row }
+    {
+        let start = self.start(row);
+        let end = start + self.length(row);
+        &self.pool[start..end]
+    }
+
+    // The row, from number `low` on and below `high`, that holds exactly the codes that are marked: rows of another
+    // length are passed over, a row of this length is left at its first code that is not marked. Document 01 fixes the
+    // loops: a label on the inner, the outer yields the row by a break.
+    fn find_row(self, low: usize, high: usize, wanted: Wanted<'_>) -> Found
+        requires { high ≤ self.count }
+        ensures { result ≡ found_from low (codes_in wanted.entry.marks.now)
+            (rows_held (high - low) low self.entry.rows.now self.entry.pool.now) }
+    {
+        let mut row = low;
+        loop {
+            if high <= row {
+                break Found::Nothing;
+            }
+            if self.length(row) == wanted.span.count {
+                let start = self.start(row);
+                let mut j: usize = 0;
+                'codes: while j < wanted.span.count {
+                    if !is_marked(wanted.marks, self.pool[start + j] as usize) {
+                        break 'codes;
+                    }
+                    j += 1;
                 }
-                j += 1;
+                if j == wanted.span.count {
+                    break Found::At(row);
+                }
             }
-            if j == size {
-                break Found::At(row);
-            }
+            row += 1;
         }
-        row += 1;
     }
-}
 
-// The same among all rows, of which no two are equal: from `from` on, then those before it.
-pub(crate) fn find_from(
-    rows: &[u32],
-    pool: &[u32],
-    count: usize,
-    from: usize,
-    marks: &[u32],
-    size: usize,
-) -> Found
-    requires within { Within count rows.now pool.now }
-    requires apart { Apart (rows_in count rows.now pool.now) }
-    requires size_value { size ≡ length (codes_in marks.now) }
-    ensures { result ≡ found_in (codes_in marks.now) (rows_in count rows.now pool.now) }
-{
-    let middle = lesser(from, count);
-    let found = find_row(rows, pool, middle, count, marks, size);
-    let Found::At(row) = found else {
-        return find_row(rows, pool, 0, middle, marks, size);
-    };
-    Found::At(row)
-}
+    // The same among all rows, of which no two are equal: from `from` on, then those before it.
+    fn find_from(self, from: usize, wanted: Wanted<'_>) -> Found
+        requires { Apart (rows_in self.count self.rows.now self.pool.now) }
+        ensures { result ≡ found_in (codes_in wanted.entry.marks.now)
+            (rows_in self.entry.count self.entry.rows.now self.entry.pool.now) }
+    {
+        let middle = from.min(self.count);
+        let found = self.find_row(middle, self.count, wanted);
+        let Found::At(row) = found else {
+            return self.find_row(0, middle, wanted);
+        };
+        Found::At(row)
+    }
 
-// Does row `row` have a number, and does it hold exactly the codes that are marked?
-pub(crate) fn is_row(
-    rows: &[u32],
-    pool: &[u32],
-    count: usize,
-    row: usize,
-    marks: &[u32],
-    size: usize,
-) -> bool
-    requires within { Within count rows.now pool.now }
-    requires size_value { size ≡ length (codes_in marks.now) }
-    ensures { result ≡ is_at row (codes_in marks.now) (rows_in count rows.now pool.now) }
-{
-    if count <= row {
-        return false;
+    // Does row `row` have a number, and does it hold exactly the codes that are marked?
+    fn is_row(self, row: usize, wanted: Wanted<'_>) -> bool
+        ensures { result ≡ is_at row (codes_in wanted.entry.marks.now)
+            (rows_in self.entry.count self.entry.rows.now self.entry.pool.now) }
+    {
+        if self.count <= row || self.length(row) != wanted.span.count {
+            return false;
+        }
+        all_marked(wanted.marks, self.codes(row))
     }
-    if length_in(rows, row) != size {
-        return false;
-    }
-    let start = start_in(rows, row);
-    all_marked(marks, &pool[start..start + size])
 }
 
 // What codes say, 1 for yes: does one stand at a final location?
-pub(crate) fn row_says(codes: &[u32], finals: Finals) -> u32
+fn row_says(codes: &[u32], finals: Finals) -> u32
     ensures { result ≡ one_if (says_by finals codes.now) }
 {
-    let mut i: usize = 0;
-    while i < codes.len() {
-        let location = quotient(wide32(codes[i]), wide32(finals.weight));
-        if has_bit(wide32(finals.ends), location) {
-            return 1;
-        }
-        i += 1;
-    }
-    0
-}
-
-// The next row does not fit: 23 or 24.
-pub(crate) fn unfit(number: usize, p: Progress) -> Progress
-    ensures { result ≡ unfit_by number p }
-{
-    Progress {
-        number,
-        rows: p.rows,
-        total: p.total,
-        room: p.room,
-        last: 0,
-        before: 0,
-    }
+    let weight = finals.weight as usize;
+    let ends = finals.ends as usize;
+    let says = codes
+        .iter()
+        .any(|code| has_bit(ends, quotient(*code as usize, weight)));
+    u32::from(says)
 }
 
 // Gives the row that is marked, which no row equals, the next number: 23 where there is no room for it, else 24 where
 // the pool is too short. Its codes go straight into the pool.
 pub(crate) fn add_row(
-    marks: &[u32],
-    span: Span,
+    wanted: Wanted<'_>,
     finals: Finals,
     rows: &mut [u32],
     pool: &mut [u32],
     p: Progress,
-) -> Progress
-    requires in_span { InSpan marks.now span }
+) -> Result<Progress, Fault>
     requires held { Held (says_by finals) rows.old pool.old p }
-    requires pool_value { number_of (codes_in marks.now) (rows_in p.rows rows.old pool.old) ≡ p.rows }
+    requires pool_value { number_of (codes_in wanted.marks.now) (rows_in p.rows rows.old pool.old) ≡ p.rows }
     ensures { Numbered (says_by finals) p.room
-        (rows_in p.rows rows.old pool.old ++ (codes_in marks.now ∷ [])) p.rows
+        (rows_in p.rows rows.old pool.old ++ (codes_in wanted.entry.marks.now ∷ [])) p.rows
         rows.new pool.new result }
 {
     let row = p.rows;
     let total = p.total;
-    let room = p.room;
-    let size = span.count;
-    if room <= row {
-        return unfit(23, p);
+    let size = wanted.span.count;
+    if p.room <= row {
+        return Err(Fault::NoRoomForRow);
     }
     if pool.len() - total < size {
-        return unfit(24, p);
+        return Err(Fault::NoRoomForCodes);
     }
     let end = total + size;
-    lay_codes(marks, span, &mut pool[total..end]);
-    rows[ROW_WIDTH * row] = narrow32(total);
-    rows[ROW_WIDTH * row + ROW_LENGTH] = narrow32(size);
+    lay_codes(wanted.marks, wanted.span, &mut pool[total..end]);
+    rows[ROW_WIDTH * row] = total as u32;
+    rows[ROW_WIDTH * row + ROW_LENGTH] = size as u32;
     rows[ROW_WIDTH * row + ROW_VERDICT] = row_says(&pool[total..end], finals);
-    Progress {
-        number: 0,
+    Ok(Progress {
         rows: row + 1,
         total: end,
-        room,
+        room: p.room,
         last: row,
         before: p.last,
-    }
+    })
 }
 
 // The number of the row that is marked: if an equal row has a number that one, else the next. The row that was placed
 // last is looked at first, where it is right no search is made; a search begins at the one before. Both may be any
 // number.
-pub(crate) fn place_row(
-    marks: &[u32],
-    span: Span,
+fn place_row(
+    wanted: Wanted<'_>,
     finals: Finals,
     rows: &mut [u32],
     pool: &mut [u32],
     p: Progress,
-) -> Progress
-    requires in_span { InSpan marks.now span }
-    requires held { Held (says_by finals) rows.old pool.old p }
+) -> Result<Progress, Fault>
+    requires { Held (says_by finals) rows.old pool.old p }
     ensures { Numbered (says_by finals) p.room
-        (with_row (codes_in marks.now) (rows_in p.rows rows.old pool.old))
-        (number_of (codes_in marks.now) (rows_in p.rows rows.old pool.old))
+        (with_row (codes_in wanted.entry.marks.now) (rows_in p.rows rows.old pool.old))
+        (number_of (codes_in wanted.entry.marks.now) (rows_in p.rows rows.old pool.old))
         rows.new pool.new result }
 {
-    let size = span.count;
-    if is_row(rows, pool, p.rows, p.last, marks, size) {
-        return p;
-    }
-    let found = find_from(rows, pool, p.rows, p.before, marks, size);
-    let Found::At(row) = found else {
-        return add_row(marks, span, finals, rows, pool, p);
+    let known = Known {
+        rows,
+        pool,
+        count: p.rows,
     };
-    Progress {
-        number: p.number,
-        rows: p.rows,
-        total: p.total,
-        room: p.room,
+    if known.is_row(p.last, wanted) {
+        return Ok(p);
+    }
+    let found = known.find_from(p.before, wanted);
+    let Found::At(row) = found else {
+        return add_row(wanted, finals, rows, pool, p);
+    };
+    Ok(Progress {
         last: row,
         before: p.last,
-    }
+        ..p
+    })
 }
 
 // The same; the marks are then taken away.
@@ -227,7 +208,7 @@ pub(crate) fn place_marks(
     rows: &mut [u32],
     pool: &mut [u32],
     p: Progress,
-) -> Progress
+) -> Result<Progress, Fault>
     requires in_span { InSpan marks.old span }
     requires held { Held (says_by finals) rows.old pool.old p }
     ensures { MarksNumbered (says_by finals) p.room
@@ -235,7 +216,7 @@ pub(crate) fn place_marks(
         (number_of (codes_in marks.old) (rows_in p.rows rows.old pool.old))
         marks.old marks.new rows.new pool.new result }
 {
-    let placed = place_row(marks, span, finals, rows, pool, p);
+    let placed = place_row(Wanted { marks, span }, finals, rows, pool, p);
     unmark(marks, span);
     placed
 }

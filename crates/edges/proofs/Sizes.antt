@@ -7,7 +7,7 @@ use native.Mathlib.Omega.{arith}
 use native.Mathlib.Nat.{div-eq_of_lt, div-add-mod', mod-lt, le_trans, mul-le-mul, pow-le-pow_left, pow-le-pow_right}
 use lib.Dec.{eqb, ltb}
 use lib.Pow.{pow_pos, pow_mono}
-use borrow.Author.Tests.{lt-ltb, le-leb, lt-leb, eq-eqb, ltb-true, eqb-true}
+use borrow.Author.Tests.{lt-ltb, le-leb, eq-eqb, ltb-true, eqb-true}
 use Rattle.model.specs.declared.Head.{Head}
 use Rattle.model.specs.Rules.{cm, most_clocks, most_constant, most_locations, most_pairs, pair_count}
 use Rattle.model.specs.Layout.{rule_in}
@@ -41,34 +41,20 @@ pub pairs_fit :
 pairs_fit l top k p a b c e =
     rw (e, power_known (top + 2) k (omega arith) c) (mul-le-mul a (power_most (top + 2) k (omega arith) c))
 
--- N, or 0 where a factor is out of range: l, k and top are L, K and cm as they were computed
-module _ (h : Head) (t : List ℕ) (l : ℕ) (l_is : l ≡ h.locations) where
-  pub pairs_locations : most_locations < l → 0 ≡ small_pairs h t
-  pairs_locations q = rw (lt-leb h.locations most_locations (omega arith))
-
-  module _ (a : l ≤ most_locations) (k : ℕ) (k_is : k ≡ h.clocks) where
-    pub pairs_clocks : most_clocks < k → 0 ≡ small_pairs h t
-    pairs_clocks q = rw (le-leb h.locations most_locations (omega arith), lt-leb h.clocks most_clocks (omega arith))
-
-    module _ (b : k ≤ most_clocks) (top : ℕ) (top_is : top ≡ cm (rule_in h t)) where
-      pub pairs_top : most_constant < top → 0 ≡ small_pairs h t
-      pairs_top q =
-          rw (
-            le-leb h.locations most_locations (omega arith),
-            le-leb h.clocks most_clocks (omega arith),
-            lt-leb (cm (rule_in h t)) most_constant (omega (arith, top_is)),
-          )
-
-      pub pairs_known : top ≤ most_constant → (p : ℕ) → p ≡ small_power (top + 2) k → l * p ≡ small_pairs h t
-      unfolding pair_count rule_in
-      pairs_known c p e =
-          rw (
-            le-leb h.locations most_locations (omega arith),
-            le-leb h.clocks most_clocks (omega arith),
-            le-leb (cm (rule_in h t)) most_constant (omega (arith, top_is)),
-            e,
-            power_known (top + 2) k (omega arith) b,
-            l_is,
-            top_is,
-            k_is,
-          )
+-- N, where its factors are in range: top is cm as it was computed
+pub pairs_known :
+    (h : Head) (t : List ℕ) (top p : ℕ) → h.locations ≤ most_locations → h.clocks ≤ most_clocks
+    → top ≡ cm (rule_in h t)
+    → top ≤ most_constant
+    → p ≡ small_power (top + 2) h.clocks
+    → h.locations * p ≡ small_pairs h t
+unfolding pair_count rule_in
+pairs_known h t top p a b top_is c e =
+    rw (
+      le-leb h.locations most_locations a,
+      le-leb h.clocks most_clocks b,
+      le-leb (cm (rule_in h t)) most_constant (omega (arith, top_is)),
+      e,
+      power_known (top + 2) h.clocks (omega arith) b,
+      top_is,
+    )

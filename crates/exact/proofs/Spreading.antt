@@ -1,26 +1,29 @@
 -- The configurations that the edges lead to from one: those added, with the edges still to try, are what all give.
-use mathlib.Core.Path.{◌≡◌, refl, sym, ◌∙◌, ap, ap₂}
-use mathlib.Core.Bool.{Bool, true, false}
-use mathlib.Core.List.{List}
-use Prim.Native.Nat.{ℕ, ◌+◌, ◌-◌, ◌*◌, ◌≤◌, ◌<◌}
-use native.Mathlib.Omega.{arith}
-use lib.ListN.{length, drop}
+use Rattle.std.proofs.Common.{◌≡◌, ◌<◌, ◌≤◌, ◌+◌, ◌-◌, ◌*◌, ℕ, Bool, true, false, List, length, drop, refl, sym, ◌∙◌}
+use Rattle.std.proofs.Common.{ap, ap₂, arith}
+use native.Mathlib.Nat.{mul-le-mul_right}
 use Rattle.model.specs.Basics.{pick}
 use Rattle.model.specs.Rules.{Edge}
 use Rattle.model.specs.Runs.{zeroed, Config, config, with_config, by_edges}
 use Rattle.model.specs.Layout.{edge_width, edge_at, edges_in}
 use Rattle.model.proofs.EdgeTable.{edges_rest}
 use Rattle.model.proofs.Configs.{edges_grow}
+use Rattle.edges.specs.declared.StoredEdge.{StoredEdge}
+use Rattle.edges.specs.Views.{edge_of}
 use Rattle.ages.specs.declared.Configuration.{Configuration}
 use Rattle.ages.specs.Ages.{ages_of, config_of, takes, with_symbol, Moved}
 use Rattle.ages.proofs.Moves.{moved_ages}
-use Rattle.exact.specs.declared.bank.Added.{Added}
-use Rattle.exact.specs.declared.bank.Added.TheVariants.{Count, Full}
-use Rattle.exact.specs.Banks.{configs_at, Holds}
-use Rattle.exact.proofs.Adding.{still_roomy}
-use Rattle.exact.specs.Ready.{Roomy, by_edges_of}
+use Rattle.exact.specs.declared.bank.Bank.{Bank}
+use Rattle.exact.specs.Chunks.{configs_in}
+use Rattle.exact.specs.Banks.{configs_of, Filled}
+use Rattle.exact.specs.Ready.{by_edges_of}
 
-module _ (k count : ℕ) (edges : List ℕ) (d symbol : ℕ) (from : Configuration) (room : ℕ) where
+-- more than there is room for, among as many or more
+pub still_over :
+    (size w : ℕ) (cs all : List Config) → size < length cs * w → length cs ≤ length all → size < length all * w
+still_over size w cs all h g = omega (arith, mul-le-mul_right {m = length cs} {n = length all} w g)
+
+module _ (k count : ℕ) (edges : List ℕ) (d symbol : ℕ) (from : Configuration) where
   -- the edges from number e on are left, cs are there
   abbrev spread_from : ℕ → List Config → List Config
   spread_from e cs =
@@ -32,18 +35,18 @@ module _ (k count : ℕ) (edges : List ℕ) (d symbol : ℕ) (from : Configurati
   abbrev target : ℕ → Config
   target e = config (edge_at e edges).target (zeroed (edge_at e edges).resets (ages_of k from.ages))
 
-  pub record Spreading (held e : ℕ) (all : List Config) (len : ℕ) (bank : List ℕ) : Type 0 where
-    pub turns : e ≤ count
-    pub roomy : Roomy k room held bank
-    pub length_is : length bank ≡ len
-    pub rest_is : spread_from e (configs_at k held 0 bank) ≡ all
+  -- size is the bank's numbers
+  pub record Spreading (e size : ℕ) (all : List Config) (bank : Bank) : Type 0 where
+    pub clocks_are : bank.clocks ≡ k
+    pub size_is : length bank.numbers.now ≡ size
+    pub rest_is : spread_from e (configs_of bank) ≡ all
 
   pub spreading :
-      (n : ℕ) (bank : List ℕ) → Roomy k room n bank
-      → Spreading n 0 (by_edges_of k count edges d symbol from (configs_at k n 0 bank)) (length bank) bank
-  spreading n bank ready =
+      (bank : Bank) → bank.clocks ≡ k
+      → Spreading 0 (length bank.numbers.now) (by_edges_of k count edges d symbol from (configs_of bank)) bank
+  spreading bank h =
       let z : count - 0 ≡ count = omega arith in
-      record { turns = omega arith; roomy = ready; length_is = refl; rest_is = rw z }
+      record { clocks_are = h; size_is = refl; rest_is = rw z }
 
   spread_step :
       (e : ℕ) (cs : List Config) → e < count
@@ -54,63 +57,65 @@ module _ (k count : ℕ) (edges : List ℕ) (d symbol : ℕ) (from : Configurati
       ap (λ (es : List Edge). by_edges d (with_symbol symbol) from.location (ages_of k from.ages) es cs)
       (edges_rest count e edges h)
 
-  module _ {held e : ℕ} {all : List Config} {len : ℕ} {bank : List ℕ} (inv : Spreading held e all len bank)
-      (h : e < count)
-      (r : Bool) (test : r ≡ takes d k symbol from (edge_at e edges)) where
+  module _ {e size : ℕ} {all : List Config} {bank : Bank} (inv : Spreading e size all bank) (h : e < count) (r : Bool)
+      (edge : StoredEdge) (at : (edge.table.now ≡ edges) × (edge.number ≡ e))
+      (told : r ≡ takes d bank.clocks symbol from (edge_of edge)) where
+    test : r ≡ takes d k symbol from (edge_at e edges)
+    test = rw (inv.clocks_are, at.0, at.1) at told
+
     -- an edge that cannot be taken
-    pub spreading_other : r ≡ false → Spreading held (e + 1) all len bank
+    pub spreading_other : r ≡ false → Spreading (e + 1) size all bank
     spreading_other f = record {
-      turns = omega arith;
-      roomy = inv.roomy;
-      length_is = inv.length_is;
-      rest_is = (rw (sym test ∙ f) at (sym (spread_step e (configs_at k held 0 bank) h))) ∙ inv.rest_is;
+      clocks_are = inv.clocks_are;
+      size_is = inv.size_is;
+      rest_is = (rw (sym test ∙ f) at (sym (spread_step e (configs_of bank) h))) ∙ inv.rest_is;
     }
 
-    module _ (yes : r ≡ true) (next : Configuration) (moved : Moved (edge_at e edges) from next) where
+    module _ (yes : r ≡ true) (next : Configuration) (went : Moved (edge_of edge) from next) where
+      moved : Moved (edge_at e edges) from next
+      moved = rw (at.0, at.1) at went
+
       next_is : config_of k next ≡ target e
       next_is = ap₂ config moved.location_is (moved_ages k moved)
 
       -- what is left once the configuration is added
-      then_rest : spread_from (e + 1) (with_config (config_of k next) (configs_at k held 0 bank)) ≡ all
+      then_rest : spread_from (e + 1) (with_config (config_of k next) (configs_of bank)) ≡ all
       then_rest =
           rw next_is
-          ((rw (sym test ∙ yes) at (sym (spread_step e (configs_at k held 0 bank) h))) ∙ inv.rest_is)
+          ((rw (sym test ∙ yes) at (sym (spread_step e (configs_of bank) h))) ∙ inv.rest_is)
 
-      module _ (bank' : List ℕ) (added : Added)
-          (holds : Holds k room 0 (with_config (config_of k next) (configs_at k held 0 bank)) bank' added) where
-        pub spreading_added :
-            (more : ℕ) → added ≡ Count more → length bank' ≡ length bank → Spreading more (e + 1) all len bank'
-        spreading_added more q l =
-            let there = rw q at holds in
-            record {
-              turns = omega arith;
-              roomy = still_roomy k room more bank' inv.roomy there.0 l;
-              length_is = l ∙ inv.length_is;
-              rest_is = ap (spread_from (e + 1)) there.1 ∙ then_rest;
-            }
+      pub spreading_added :
+          (bank' : Bank) → Filled bank (with_config (config_of bank.clocks next) (configs_of bank)) bank'
+          → Spreading (e + 1) size all bank'
+      spreading_added bank' there =
+          record {
+            clocks_are = there.clocks_are ∙ inv.clocks_are;
+            size_is = there.size_is ∙ inv.size_is;
+            rest_is =
+                ap (spread_from (e + 1)) (rw inv.clocks_are at there.configs_are) ∙ (rw inv.clocks_are at then_rest);
+          }
 
-        pub spreading_full : added ≡ Full → room < length all
-        spreading_full q =
-            let cs : List Config = with_config (config_of k next) (configs_at k held 0 bank) in
-            let over : room < length cs = rw q at holds in
-            let grows : length cs ≤ length (spread_from (e + 1) cs) =
-            edges_grow d (with_symbol symbol) from.location (ages_of k from.ages)
-            (edges_in (count - (e + 1)) (drop (edge_width * (e + 1)) edges))
-            cs in
-            omega (arith, over, grows, ap (λ (x : List Config). length x) then_rest)
+      pub spreading_full :
+          length bank.numbers.now
+          < length (with_config (config_of bank.clocks next) (configs_of bank)) * (bank.clocks + 1)
+          → (w : ℕ) → w ≡ k
+          → size < length all * (w + 1)
+      spreading_full over w same =
+          let cs : List Config = with_config (config_of k next) (configs_in k bank.held bank.numbers.now) in
+          let grows : length cs ≤ length (spread_from (e + 1) cs) =
+          edges_grow d (with_symbol symbol) from.location (ages_of k from.ages)
+          (edges_in (count - (e + 1)) (drop (edge_width * (e + 1)) edges))
+          cs in
+          let rest : spread_from (e + 1) cs ≡ all = rw inv.clocks_are at then_rest in
+          rw same
+          (still_over size (k + 1) cs all (rw (inv.clocks_are, inv.size_is) at over)
+          (omega (arith, grows, ap (λ (x : List Config). length x) rest)))
 
   pub spread_all :
-      {held e : ℕ} {all : List Config} {len : ℕ} {bank : List ℕ} → Spreading held e all len bank → count ≤ e
-      → Holds k room 0 all bank (Count held)
+      {e size : ℕ} {all : List Config} {bank : Bank} (was : Bank) → Spreading e size all bank → count ≤ e
+      → was.clocks ≡ k → size ≡ length was.numbers.now
+      → Filled was all bank
   unfolding by_edges
-  spread_all {e = e} inv h =
-      let z : count - e ≡ 0 = omega arith in (inv.roomy.count_most, rw z at inv.rest_is)
-
--- the clocks that were read are the head's
-pub clocks_known :
-    (k k' count : ℕ) (edges : List ℕ) (d symbol : ℕ) (from : Configuration) (room n : ℕ) (bank bank' : List ℕ)
-    (added : Added)
-    → k ≡ k'
-    → Holds k room 0 (by_edges_of k count edges d symbol from (configs_at k n 0 bank)) bank' added
-    → Holds k' room 0 (by_edges_of k' count edges d symbol from (configs_at k' n 0 bank)) bank' added
-clocks_known k k' count edges d symbol from room n bank bank' added e h = rw e at h
+  spread_all {e} was inv h g l =
+      let z : count - e ≡ 0 = omega arith in
+      record { clocks_are = inv.clocks_are ∙ sym g; size_is = inv.size_is ∙ l; configs_are = rw z at inv.rest_is }

@@ -1,41 +1,25 @@
--- Configurations in a lent list of numbers: k + 1 numbers each, the location and then the ages of k clocks.
-use Rattle.std.specs.Prelude.{◌≡◌, List, [], ◌∷◌, ℕ, zero, suc, ◌+◌, ◌≤◌, ◌<◌, length, get_or}
-use Rattle.model.specs.Basics.{Refusal, fine, refusal}
-use Rattle.model.specs.Rules.{most_clocks}
-use Rattle.model.specs.Runs.{Config, config}
-use Rattle.ages.specs.declared.Configuration.{Configuration}
-use Rattle.ages.specs.Ages.{numbers_of}
-use Rattle.exact.specs.declared.bank.Added.{Added}
-use Rattle.exact.specs.declared.bank.Added.TheVariants.{Count, Full}
+-- A bank: what it holds, and what adding to it comes to.
+use Rattle.std.specs.Prelude.{◌≡◌, List, ℕ, ◌+◌, ◌*◌, ◌<◌, length, Option, Some, None}
+use Rattle.model.specs.Runs.{Config}
+use Rattle.exact.specs.declared.bank.Bank.{Bank}
+use Rattle.exact.specs.Chunks.{configs_in}
 
--- n numbers from place `at` on
-abbrev pub numbers_at : ℕ → ℕ → List ℕ → List ℕ
-numbers_at zero at s = []
-numbers_at (suc n) at s = get_or s at 0 ∷ numbers_at n (suc at) s
+abbrev pub configs_of : Bank → List Config
+configs_of bank = configs_in bank.clocks bank.held bank.numbers.now
 
--- the configuration at a place, and n of them from a place on
-abbrev pub config_at : ℕ → ℕ → List ℕ → Config
-config_at k at s = config (get_or s at 0) (numbers_at k (suc at) s)
+-- a bank over k clocks with nothing in it, of so many numbers
+pub record Empty (k size : ℕ) (bank : Bank) : Type 0 where
+  pub clocks_are : bank.clocks ≡ k
+  pub size_is : length bank.numbers.now ≡ size
+  pub none_held : bank.held ≡ 0
 
-abbrev pub configs_at : ℕ → ℕ → ℕ → List ℕ → List Config
-configs_at k zero at s = []
-configs_at k (suc n) at s = config_at k at s ∷ configs_at k n (at + (k + 1)) s
+-- a bank over the same clocks and of the same size as it was, with these configurations
+pub record Filled (was : Bank) (cs : List Config) (bank : Bank) : Type 0 where
+  pub clocks_are : bank.clocks ≡ was.clocks
+  pub size_is : length bank.numbers.now ≡ length was.numbers.now
+  pub configs_are : configs_of bank ≡ cs
 
--- the numbers of a configuration
-abbrev pub numbers_in : Config → List ℕ
-numbers_in c = c.location ∷ c.ages
-
--- a configuration that was read at a place: its first ages are those of the rule's clocks
-pub record Loaded (at : ℕ) (s : List ℕ) (c : Configuration) : Type 0 where
-  pub location_is : c.location ≡ get_or s at 0
-  pub ages_are : numbers_of c.ages.of ≡ numbers_at most_clocks (at + 1) s
-
--- What adding answers. Count: so many stand from place `at` on, and they are cs. Full: cs are more than there is room.
-abbrev pub Holds : ℕ → ℕ → ℕ → List Config → List ℕ → Added → Type 0
-Holds k room at cs s (Count n) = (n ≤ room) × (configs_at k n at s ≡ cs)
-Holds k room at cs s Full = room < length cs
-
--- Full is 26, at the place of the event; Count is no refusal
-abbrev pub refusal_of : ℕ → Added → Refusal
-refusal_of i (Count n) = fine
-refusal_of i Full = refusal 26 i
+-- What adding answers: the configurations are there, or they are more than there is room for.
+abbrev pub Holds : Bank → List Config → Bank → Option (Unit {0}) → Type 0
+Holds was cs bank (Some done) = Filled was cs bank
+Holds was cs bank None = length was.numbers.now < length cs * (was.clocks + 1)

@@ -1,3 +1,4 @@
+pub mod Chunks
 pub mod Banks
 pub mod Ready
 pub mod Runs

@@ -1,116 +1,138 @@
 // A bank of configurations in a lent slice: K + 1 numbers each, the location and then the ages.
-ghost use Rattle.std.specs.Prelude.{◌≡◌, [], ◌∷◌, ◌++◌, ◌+◌, ◌*◌, ◌≤◌, ◌<◌, length};
-ghost use Rattle.std.proofs.lemmas.List.Edits.{sets};
+ghost use Rattle.std.specs.Prelude.{◌≡◌, [], ◌∷◌, ◌++◌, ◌+◌, ◌-◌, ◌*◌, ◌≤◌, ◌<◌, length, take};
+ghost use Rattle.std.specs.Slice.Iter.{chunks_exact_rest, chunks_exact_size};
 ghost use Rattle.model.specs.Rules.{most_clocks};
 ghost use Rattle.model.specs.Runs.{has_config, with_config};
 ghost use Rattle.ages.specs.Ages.{config_of, same_config};
-ghost use Rattle.exact.specs.Banks.{numbers_in, config_at, configs_at, Loaded, Holds};
-ghost use Rattle.exact.specs.Ready.{Roomy};
+ghost use Rattle.exact.specs.Chunks.{config_in, any_final, Loaded};
 
-use ages::{Ages, Configuration, age_of, same_configuration};
+use ages::{Ages, Configuration, has_location};
 use model::Age;
-use numbers::entry_at;
+use numbers::at_or;
+use std::slice::ChunksExact;
 
-// What adding a configuration to a bank finds.
-#[derive(Clone, Copy)]
-pub enum Added {
-    // So many are there now.
-    Count(usize),
-    // There is no room for it.
-    Full,
-}
-
-// The configuration at a place. All four ages are read; those past the rule's clocks are not looked at.
-pub(crate) fn load(bank: &[u32], at: usize) -> Configuration
-    requires { at ≤ length bank.now }
-    ensures { Loaded at bank.now result }
+// The configuration of K + 1 numbers. All four ages are read; those past the rule's clocks are not looked at.
+pub(crate) fn load(numbers: &[u32]) -> Configuration
+    ensures { Loaded numbers.now result }
 {
     let ages = Ages {
         of: [
-            Age(entry_at(bank, at + 1)),
-            Age(entry_at(bank, at + 2)),
-            Age(entry_at(bank, at + 3)),
-            Age(entry_at(bank, at + 4)),
+            Age(at_or(numbers, 1, 0)),
+            Age(at_or(numbers, 2, 0)),
+            Age(at_or(numbers, 3, 0)),
+            Age(at_or(numbers, 4, 0)),
         ],
     };
     Configuration {
-        location: entry_at(bank, at),
+        location: at_or(numbers, 0, 0),
         ages,
     }
 }
 
-// The configuration is written at a place.
-pub(crate) fn store(bank: &mut [u32], at: usize, clocks: usize, c: Configuration)
-    requires { (clocks ≤ most_clocks) × (at + clocks < length bank.old) }
-    ensures { bank.new ≡ sets bank.old at (numbers_in (config_of clocks c)) }
+// The configuration is written as K + 1 numbers.
+fn store(numbers: &mut [u32], c: Configuration)
+    requires { (0 < length numbers.old) × (length numbers.old ≤ most_clocks + 1) }
+    ensures { config_in numbers.new ≡ config_of (length numbers.old - 1) c }
 {
-    bank[at] = c.location;
-    let ages = c.ages;
-    let mut k: usize = 0;
-    while k < clocks {
-        let age = age_of(ages, clocks, k);
-        bank[at + 1 + k] = age.0;
-        k += 1;
+    numbers[0] = c.location;
+    for k in 1..numbers.len() {
+        numbers[k] = at_or(&c.ages.of, k - 1, Age(0)).0;
     }
 }
 
-// Is the configuration the one at a place? Most differ in their location, so the ages are read only after it.
-pub(crate) fn is_at(bank: &[u32], clocks: usize, at: usize, c: Configuration) -> bool
-    requires { (clocks ≤ most_clocks) × (at ≤ length bank.now) }
-    ensures { result ≡ same_config (config_of clocks c) (config_at clocks at bank.now) }
+// Is the configuration the one of these numbers? Most differ in their location, so the ages are read only after it.
+fn is_same(numbers: &[u32], clocks: usize, c: Configuration) -> bool
+    requires { (clocks ≤ most_clocks) × (length numbers.now ≡ clocks + 1) }
+    ensures { result ≡ same_config (config_of clocks c) (config_in numbers.now) }
 {
-    if entry_at(bank, at) != c.location {
+    if numbers[0] != c.location {
         return false;
     }
-    let known = load(bank, at);
-    same_configuration(c, known, clocks)
+    let known = load(numbers);
+    c.same(known, clocks)
 }
 
-// Is the configuration among the first n of the bank.
-pub(crate) fn has_config(bank: &[u32], clocks: usize, n: usize, c: Configuration) -> bool
-    requires { (clocks ≤ most_clocks) × (n * (clocks + 1) ≤ length bank.now) }
-    ensures { result ≡ has_config (config_of clocks c) (configs_at clocks n 0 bank.now) }
-{
-    let width = clocks + 1;
-    let mut at: usize = 0;
-    let mut i: usize = 0;
-    while i < n {
-        if is_at(bank, clocks, at, c) {
-            return true;
+// So many configurations `held`, at the front of the numbers.
+#[derive(Drop)]
+pub(crate) struct Bank<'a> {
+    pub(crate) numbers: &'a mut [u32],
+    pub(crate) clocks: usize,
+    pub(crate) held: usize,
+    pub(crate) ghost clocks_most: { clocks ≤ most_clocks },
+    pub(crate) ghost held_fits: { held * (clocks + 1) ≤ length numbers.now },
+}
+
+impl<'a> Bank<'a> {
+    ghost use Rattle.exact.specs.Banks.{configs_of, Holds, Empty};
+
+    // With nothing in it yet.
+    pub(crate) fn new(numbers: &'a mut [u32], clocks: usize) -> Bank<'a>
+        requires { clocks ≤ most_clocks }
+        ensures { Empty clocks (length numbers.old) result }
+    {
+        Bank {
+            numbers,
+            clocks,
+            held: 0,
         }
-        at += width;
-        i += 1;
     }
-    false
-}
 
-// The configuration behind the n that are there.
-pub(crate) fn append(
-    bank: &mut [u32],
-    clocks: usize,
-    room: usize,
-    n: usize,
-    c: Configuration,
-) -> Added
-    requires { Roomy clocks room n bank.old }
-    ensures { Holds clocks room 0 (configs_at clocks n 0 bank.old ++ (config_of clocks c ∷ []))
-        bank.new result }
-{
-    if room <= n {
-        return Added::Full;
+    // The numbers of each configuration.
+    pub(crate) fn chunks(&self) -> ChunksExact<'_, u32>
+        ensures size { chunks_exact_size result ≡ self.now.clocks + 1 }
+        ensures rest { chunks_exact_rest result ≡ take (self.now.held * (self.now.clocks + 1)) self.now.numbers.now }
+    {
+        let width = self.clocks + 1;
+        let end = self.held * width;
+        self.numbers[..end].chunks_exact(width)
     }
-    store(bank, n * (clocks + 1), clocks, c);
-    Added::Count(n + 1)
-}
 
-// The bank with the configuration, unless it is there already.
-pub(crate) fn add(bank: &mut [u32], clocks: usize, room: usize, n: usize, c: Configuration) -> Added
-    requires { Roomy clocks room n bank.old }
-    ensures { Holds clocks room 0 (with_config (config_of clocks c) (configs_at clocks n 0 bank.old))
-        bank.new result }
-{
-    if has_config(bank, clocks, n, c) {
-        return Added::Count(n);
+    // Is the configuration in the bank?
+    fn has(&self, c: Configuration) -> bool
+        ensures { result ≡ has_config (config_of self.now.clocks c) (configs_of self.now) }
+    {
+        for numbers in self.chunks() {
+            if is_same(numbers, self.clocks, c) {
+                return true;
+            }
+        }
+        false
     }
-    append(bank, clocks, room, n, c)
+
+    // The configuration behind those that are there, or none if there is no room for it.
+    pub(crate) fn append(&mut self, c: Configuration) -> Option<()>
+        ensures { Holds self.old (configs_of self.old ++ (config_of self.old.clocks c ∷ [])) self.new result }
+    {
+        let width = self.clocks + 1;
+        let at = self.held * width;
+        if self.numbers.len() - at < width {
+            return None;
+        }
+        let end = at + width;
+        store(&mut self.numbers[at..end], c);
+        self.held += 1;
+        Some(())
+    }
+
+    // The same, unless it is there already.
+    pub(crate) fn add(&mut self, c: Configuration) -> Option<()>
+        ensures { Holds self.old (with_config (config_of self.old.clocks c) (configs_of self.old)) self.new result }
+    {
+        if self.has(c) {
+            return Some(());
+        }
+        self.append(c)
+    }
+
+    // Is one of them at a location of the set?
+    pub(crate) fn some_at(&self, set: u32) -> bool
+        ensures { result ≡ any_final set (configs_of self.now) }
+    {
+        for numbers in self.chunks() {
+            if has_location(set, numbers[0]) {
+                return true;
+            }
+        }
+        false
+    }
 }

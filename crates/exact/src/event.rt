@@ -1,90 +1,56 @@
 // One event: from the configurations in one bank to those that it leads to, in the other.
-ghost use Rattle.exact.specs.Banks.{configs_at, Holds};
-ghost use Rattle.exact.specs.Ready.{Roomy, by_edges_of, by_configs_of, Stepping};
+ghost use Rattle.std.specs.Prelude.{◌≡◌};
+ghost use Rattle.exact.specs.Banks.{configs_of, Holds};
+ghost use Rattle.exact.specs.Ready.{by_edges_of, by_configs_of, Stepping};
 
-use crate::bank::{Added, add, load};
-use ages::{Configuration, after_delay, after_edge, can_take};
-use model::{Age, Head};
-use numbers::wide32;
+use crate::bank::{Bank, load};
+use ages::Configuration;
+use edges::StoredRule;
+use model::Age;
 
-// The configurations that the edges lead to from one, added to the n of the bank.
+// The configurations that the edges lead to from one, added to the bank.
 pub(crate) fn by_edges(
-    head: Head,
-    edges: &[u16],
+    rule: StoredRule<'_>,
     grain: u32,
     symbol: u16,
     from: Configuration,
-    bank: &mut [u32],
-    room: usize,
-    n: usize,
-) -> Added
-    requires { Roomy head.clocks room n bank.old }
-    ensures { Holds head.clocks room 0
-        (by_edges_of head.clocks head.count edges.now grain symbol from
-        (configs_at head.clocks n 0 bank.old))
+    bank: &mut Bank<'_>,
+) -> Option<()>
+    requires { bank.old.clocks ≡ rule.head.clocks }
+    ensures { Holds bank.old
+        (by_edges_of rule.entry.head.clocks rule.entry.head.count rule.entry.edges.now grain symbol from
+        (configs_of bank.old))
         bank.new result }
 {
-    let clocks = wide32(head.clocks);
-    let count = head.count;
-    let mut held = n;
-    let mut e: u32 = 0;
-    while e < count {
-        if can_take(edges, e, clocks, grain, symbol, from) {
-            let next = after_edge(edges, e, from);
-            let added = add(bank, clocks, room, held, next);
-            let Added::Count(more) = added else {
-                return Added::Full;
-            };
-            held = more;
+    for e in 0..rule.head.count {
+        let edge = rule.edge(e);
+        if from.can_take(edge, bank.clocks, grain, symbol) {
+            let next = from.after_edge(edge);
+            bank.add(next)?;
         }
-        e += 1;
     }
-    Added::Count(held)
+    Some(())
 }
 
-// The n configurations from place `from` on, after the delay: what they lead to is gathered from place `to` on.
+// The configurations of one bank, after the delay: what they lead to is gathered in the other.
 pub(crate) fn by_configs(
-    head: Head,
-    edges: &[u16],
+    rule: StoredRule<'_>,
     grain: u32,
     symbol: u16,
     delay: Age,
-    scratch: &mut [u32],
-    from: usize,
-    n: usize,
-    to: usize,
-    room: usize,
-) -> Added
-    requires { Stepping head delay.0 room from n to scratch.old }
-    ensures { Holds head.clocks room to
-        (by_configs_of head edges.now grain symbol delay.0
-        (configs_at head.clocks n from scratch.old))
-        scratch.new result }
+    from: &Bank<'_>,
+    to: &mut Bank<'_>,
+) -> Option<()>
+    requires { Stepping rule.head.clocks delay.0 from.now to.old }
+    ensures { Holds to.old
+        (by_configs_of rule.entry.head rule.entry.edges.now grain symbol delay.0 (configs_of from.now))
+        to.new result }
 {
-    let width = wide32(head.clocks) + 1;
-    let end = to + room * width;
-    let mut held: usize = 0;
-    let mut at = from;
-    let mut i: usize = 0;
-    while i < n {
-        let before = load(scratch, at);
-        let after = after_delay(before, delay);
-        let added = by_edges(
-            head,
-            edges,
-            grain,
-            symbol,
-            after,
-            &mut scratch[to..end],
-            room,
-            held,
-        );
-        let Added::Count(more) = added else {
-            return Added::Full;
-        };
-        held = more;
-        at += width;
-        i += 1;
+    to.held = 0;
+    for numbers in from.chunks() {
+        let before = load(numbers);
+        let after = before.after_delay(delay);
+        by_edges(rule, grain, symbol, after, to)?;
     }
-    Added::Count(held)
+    Some(())
 }

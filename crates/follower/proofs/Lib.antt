@@ -1,3 +1,1 @@
-pub mod Stray
-pub mod Checks
-pub mod Moves
+pub mod AnyPool

@@ -1,16 +1,19 @@
 // The follower: one timer over a table, brought forward event by event, its row's verdict after each.
 #![tactic(auto)]
 
-ghost use Rattle.std.specs.Prelude.{◌≡◌, List, [], ℕ, ◌≤◌, ◌<◌};
-ghost use Rattle.model.specs.Words.{most_events};
+ghost use Rattle.std.specs.Prelude.{◌≡◌, List, ℕ, ◌≤◌, ◌<◌};
+ghost use Rattle.model.specs.Faults.{answer_in, started_in};
 ghost use Rattle.model.specs.Tables.{tables};
+ghost use Rattle.model.specs.Words.{most_events};
 ghost use Rattle.model.specs.Walks.{start_at, step, strayed};
 ghost use Rattle.model.specs.Promises.{answer_of, event, followed_by, StartsFollower, FollowsEvent, FollowsInPlace};
-ghost use Rattle.follower.specs.Checks.{event_checks, answered, kept_by};
+ghost use Rattle.tables.specs.Views.{table_in};
+ghost use Rattle.follower.specs.Checks.{event_checks};
+ghost use Rattle.follower.specs.Outcomes.{followed_in, moved_in};
 
-use model::{Answer, Built, Followed, Follower, MOST_EVENTS, Moved, Stamp, Started};
-use numbers::{wide16, wide32};
-use shape::in_shape;
+use model::{Built, Fault, Follower, MOST_EVENTS, Refused, Stamp};
+use shape::check_table;
+use tables::Table;
 use walk::{Walk, verdict};
 use word::grain_ok;
 
@@ -27,22 +30,14 @@ pub(crate) fn at_start(grain: u32) -> Follower
     }
 }
 
-// Only 30 refuses, and then D is zero too.
-pub fn start_follower(grain: u32) -> Started
-    ensures { StartsFollower grain result }
+// Only 30 refuses.
+pub fn start_follower(grain: u32) -> Result<Follower, Refused>
+    ensures { StartsFollower grain (started_in result) }
 {
-    if grain_ok(grain) {
-        return Started {
-            number: 0,
-            place: 0,
-            follower: at_start(grain),
-        };
+    if !grain_ok(grain) {
+        return Err(Fault::BadGrain.into());
     }
-    Started {
-        number: 30,
-        place: 0,
-        follower: at_start(0),
-    }
+    Ok(at_start(grain))
 }
 
 // Row not below R, reset stamp above last stamp or no multiple of D, or count over 4,096.
@@ -50,164 +45,112 @@ pub(crate) fn strayed(rows: u32, follower: Follower) -> bool
     requires { 1 ≤ follower.grain }
     ensures { result ≡ strayed rows follower }
 {
-    let reset = follower.reset.0;
-    let last = follower.last.0;
-    if rows <= follower.row {
-        return true;
-    }
-    if last < reset {
-        return true;
-    }
-    if reset % follower.grain != 0 {
-        return true;
-    }
-    (MOST_EVENTS as u32) < follower.count
-}
-
-pub(crate) fn answered(number: u8, place: usize) -> Answer
-    ensures { result ≡ answered number place }
-{
-    Answer {
-        number,
-        place,
-        value: 0,
-    }
+    rows <= follower.row
+        || follower.last < follower.reset
+        || follower.reset.0 % follower.grain != 0
+        || (MOST_EVENTS as u32) < follower.count
 }
 
 // 30, 34, 31, 32, 33, in this order. The event is number count + 1.
-pub(crate) fn check_event(follower: Follower, built: Built, symbol: u16, stamp: Stamp) -> Answer
-    ensures { result ≡ answer_of (event_checks built follower (event symbol stamp)) 0 }
+pub(crate) fn check_event(
+    follower: Follower,
+    built: Built,
+    symbol: u16,
+    stamp: Stamp,
+) -> Result<(), Refused>
+    ensures { answer_in (λ u. 0) result ≡ answer_of (event_checks built follower (event symbol stamp)) 0 }
 {
     if !grain_ok(follower.grain) {
-        return answered(30, 0);
+        return Err(Fault::BadGrain.into());
     }
     if strayed(built.rows, follower) {
-        return answered(34, 0);
+        return Err(Fault::Strayed.into());
     }
     if follower.count == MOST_EVENTS as u32 {
-        return answered(31, 0);
+        return Err(Fault::BadCount.into());
     }
-    let event = wide32(follower.count) + 1;
-    if wide32(built.symbols) <= wide16(symbol) {
-        return answered(32, event);
+    let place = follower.count as usize + 1;
+    if built.symbols <= u32::from(symbol) {
+        return Err(Refused {
+            fault: Fault::UnknownSymbol,
+            place,
+        });
     }
-    if stamp.0 < follower.last.0 {
-        return answered(33, event);
+    if stamp < follower.last {
+        return Err(Refused {
+            fault: Fault::FallingStamp,
+            place,
+        });
     }
-    answered(0, 0)
+    Ok(())
 }
 
 // The follower after an event.
-pub(crate) fn moved(
-    follower: Follower,
-    built: Built,
-    cells: &[u32],
-    symbol: u16,
-    stamp: Stamp,
-) -> Follower
+#[tactic(auto, unfolding(model::specs::Walks::step))]
+pub(crate) fn moved(follower: Follower, table: Table<'_>, symbol: u16, stamp: Stamp) -> Follower
     requires { follower.count < most_events }
-    ensures { result ≡ step (tables built cells.now [] []) follower (event symbol stamp) }
+    ensures { result ≡ step (table_in table.entry) follower (event symbol stamp) }
 {
-    let grain = follower.grain;
-    let since = follower.reset;
     let walk = Walk {
         row: follower.row,
-        reset: since,
+        reset: follower.reset,
     };
-    let next = walk.step(built, cells, grain, symbol, stamp);
-    let reset = next.reset;
+    let next = walk.step(table, follower.grain, symbol, stamp);
     Follower {
-        grain,
+        grain: follower.grain,
         row: next.row,
-        reset,
+        reset: next.reset,
         last: stamp,
         count: follower.count + 1,
     }
 }
 
-// A refused event leaves the follower as it was.
-pub(crate) fn kept(refused: Answer, follower: Follower) -> Followed
-    ensures { result ≡ kept_by refused follower }
-{
-    Followed {
-        number: refused.number,
-        place: refused.place,
-        yes: false,
-        follower,
-    }
-}
-
-// 25: the follower as it was.
-pub fn out_of_shape(follower: Follower) -> Followed
-    ensures { result ≡ kept_by (answered 25 0) follower }
-{
-    kept(answered(25, 0), follower)
-}
-
-// The event's own checks, then the step; the verdict is the one that the new row stores, whatever the pool holds.
+// The event's own checks, then the step, with the verdict that the new row stores. Written into its callers, so that
+// they read follower and table where those lie and write the answer once: a record handed on is a copy.
+#[inline(always)]
 pub fn take_event(
     follower: Follower,
-    built: Built,
-    cells: &[u32],
-    rows: &[u32],
+    table: Table<'_>,
     symbol: u16,
     stamp: Stamp,
-) -> Followed
-    ensures { (pool : List ℕ) → result ≡ followed_by (event_checks built follower (event symbol stamp))
-        (tables built cells.now rows.now pool) follower (event symbol stamp) }
+) -> Result<(Follower, bool), Refused>
+    ensures { (pool : List ℕ) → followed_in follower result
+        ≡ followed_by (event_checks table.entry.built follower (event symbol stamp))
+        (tables table.entry.built table.entry.cells.now table.entry.rows.now pool) follower (event symbol stamp) }
 {
-    let checked = check_event(follower, built, symbol, stamp);
-    if checked.number != 0 {
-        return kept(checked, follower);
-    }
-    let next = moved(follower, built, cells, symbol, stamp);
-    let yes = verdict(rows, next.row);
-    Followed {
-        number: 0,
-        place: 0,
-        yes,
-        follower: next,
-    }
+    check_event(follower, table.built, symbol, stamp)?;
+    let next = moved(follower, table, symbol, stamp);
+    let yes = verdict(table, next.row);
+    Ok((next, yes))
 }
 
 // 25, then the event.
+#[tactic(auto, unfolding(model::specs::Promises::followed, model::specs::Walks::follow_refusal))]
 pub fn follow_event(
     follower: Follower,
-    built: Built,
-    cells: &[u32],
-    rows: &[u32],
-    pool: &[u32],
+    table: Table<'_>,
     symbol: u16,
     stamp: Stamp,
-) -> Followed
-    ensures { FollowsEvent follower built cells.now rows.now pool.now
-        symbol stamp result }
+) -> Result<(Follower, bool), Refused>
+    ensures { FollowsEvent follower table.entry.built table.entry.cells.now table.entry.rows.now table.entry.pool.now
+        symbol stamp (followed_in follower result) }
 {
-    if !in_shape(built, cells, rows, pool) {
-        return out_of_shape(follower);
-    }
-    take_event(follower, built, cells, rows, symbol, stamp)
+    check_table(table)?;
+    take_event(follower, table, symbol, stamp)
 }
 
-// The same on the head's own record, brought forward where it is kept.
+// The same on the head's own record, brought forward where it is kept; a refused event leaves it as it was.
 pub fn follow_in_place(
     follower: &mut Follower,
-    built: Built,
-    cells: &[u32],
-    rows: &[u32],
-    pool: &[u32],
+    table: Table<'_>,
     symbol: u16,
     stamp: Stamp,
-) -> Moved
-    ensures { FollowsInPlace follower.old follower.new built cells.now
-        rows.now pool.now symbol stamp result }
+) -> Result<bool, Refused>
+    ensures { FollowsInPlace follower.old follower.new table.entry.built table.entry.cells.now table.entry.rows.now
+        table.entry.pool.now symbol stamp (moved_in result) }
 {
     let was = *follower;
-    let step = follow_event(was, built, cells, rows, pool, symbol, stamp);
-    *follower = step.follower;
-    Moved {
-        number: step.number,
-        place: step.place,
-        yes: step.yes,
-    }
+    let (next, yes) = follow_event(was, table, symbol, stamp)?;
+    *follower = next;
+    Ok(yes)
 }

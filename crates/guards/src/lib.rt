@@ -4,20 +4,20 @@
 // Total: a number past the end of a text is 0, and so is what a clock past the readings reads.
 #![tactic(auto)]
 
-ghost use Rattle.std.specs.Prelude.{◌≡◌, true, ◌^◌, ◌<◌};
-ghost use Rattle.model.specs.Texts.{atom_at, plain_atoms, flat};
-ghost use Rattle.model.specs.Rules.{guard_of};
+ghost use Rattle.std.specs.Prelude.{◌≡◌, MatchOption};
+ghost use Rattle.model.specs.Texts.{plain_atoms, flat};
+ghost use Rattle.model.specs.Rules.{plain_edge, guard_of};
 ghost use Rattle.model.specs.Guards.{related, meets, guard, is_met};
-ghost use Rattle.model.specs.Layout.{edge_at};
-ghost use Rattle.guards.specs.Whole.{Whole};
+ghost use Rattle.edges.specs.Views.{edge_of};
+ghost use Rattle.guards.specs.Atoms.{atom_of};
 
 use crate::groups::first_member;
-use edges::fields::{kind_of, text_of};
+use edges::StoredEdge;
 use model::{
-    ATOM_CONSTANT, ATOM_RELATION, ATOM_WIDTH, EDGE_COUNT, EDGE_FIELDS, EDGE_KIND, EDGE_WIDTH,
-    Guard, MOST_ATOMS, MOST_RELATION, PLAIN_EDGE,
+    ATOM_WIDTH, EDGE_COUNT, EDGE_FIELDS, EDGE_KIND, EDGE_WIDTH, MOST_ATOMS, MOST_RELATION,
+    PLAIN_EDGE,
 };
-use numbers::{entry_at, has_bit, lesser, number_at, wide16, wide32};
+use numbers::{at_or, has_bit};
 
 mod groups;
 
@@ -33,7 +33,7 @@ const ABOVE: usize = 0b111000;
 pub(crate) fn relate(relation: usize, value: usize, limit: usize) -> bool
     ensures { result ≡ related relation value limit }
 {
-    let code = lesser(relation, MOST_RELATION);
+    let code = relation.min(MOST_RELATION);
     if value < limit {
         return has_bit(BELOW, code);
     }
@@ -43,115 +43,94 @@ pub(crate) fn relate(relation: usize, value: usize, limit: usize) -> bool
     has_bit(AT_LIMIT, code)
 }
 
-// Does an atom with these three numbers hold?
-pub(crate) fn numbers_hold(
-    clock: usize,
-    relation: usize,
-    constant: usize,
-    readings: &[u32],
-    unit: u32,
-) -> bool
-    requires { constant < 2 ^ 16 }
-    ensures { result
-        ≡ meets unit readings.now (record { clock = clock; relation = relation; constant = constant }) }
-{
-    let value = wide32(entry_at(readings, clock));
-    relate(relation, value, constant * wide32(unit))
+// An atom as a text spells it: a clock, a relation by its code, a whole constant. Not `edges::Atom`, whose numbers are
+// widened: here it is tested where it stands, which builds and runs spend their time in.
+#[derive(Clone, Copy)]
+pub(crate) struct StoredAtom {
+    pub clock: u16,
+    pub relation: u16,
+    pub constant: u16,
 }
 
-// Does the atom whose three numbers stand from a place on hold?
-pub(crate) fn atom_holds(text: &[u16], at: usize, readings: &[u32], unit: u32) -> bool
-    requires { at < 2 ^ 63 }
-    ensures { result ≡ meets unit readings.now (atom_at at text.now) }
-{
-    let clock = number_at(text, at);
-    let relation = number_at(text, at + ATOM_RELATION);
-    let constant = number_at(text, at + ATOM_CONSTANT);
-    numbers_hold(clock, relation, constant, readings, unit)
+impl StoredAtom {
+    // Does it hold? The readings and the unit stay two, here and below: a value of both goes through memory at each
+    // call of a group, which makes edges with groups slower by a sixth.
+    pub(crate) fn holds(self, readings: &[u32], unit: u32) -> bool
+        ensures { result ≡ meets unit readings.now (atom_of self) }
+    {
+        let value = at_or(readings, usize::from(self.clock), 0) as usize;
+        let limit = usize::from(self.constant) * unit as usize;
+        relate(usize::from(self.relation), value, limit)
+    }
 }
 
 // A text of kind 5, atom by atom: it holds, or the first atom, by position from 0, that does not.
-pub(crate) fn first_plain(text: &[u16], readings: &[u32], unit: u32) -> Guard
+// Counted by hand: with a chain over chunks_exact(3) the check leaves a goal about the chunks that it does not close.
+pub(crate) fn first_plain(text: &[u16], readings: &[u32], unit: u32) -> Option<usize>
     ensures { result ≡ guard unit readings.now (flat (plain_atoms text.now)) }
 {
-    let mut at: usize = 0;
+    let mut rest = text;
     let mut position: usize = 0;
-    while ATOM_WIDTH <= text.len() - at {
-        let clock = wide16(text[at]);
-        let relation = wide16(text[at + ATOM_RELATION]);
-        let constant = wide16(text[at + ATOM_CONSTANT]);
-        if !numbers_hold(clock, relation, constant, readings, unit) {
-            return Guard::Fails(position);
+    while let [clock, relation, constant, behind @ ..] = rest {
+        let atom = StoredAtom {
+            clock: *clock,
+            relation: *relation,
+            constant: *constant,
+        };
+        if !atom.holds(readings, unit) {
+            return Some(position);
         }
         position += 1;
-        at += ATOM_WIDTH;
+        rest = behind;
     }
-    Guard::Holds
+    None
 }
 
-// The guard of edge `e`: it holds, or the first member of its outermost level, by position from 0, that does not.
-pub fn guard_of(edges: &[u16], e: u32, readings: &[u32], unit: u32) -> Guard
-    ensures { result ≡ guard unit readings.now (guard_of (edge_at e edges.now)) }
+// The guard of an edge: it holds, or the first member of its outermost level, by position from 0, that does not.
+pub fn guard_of(edge: StoredEdge<'_>, readings: &[u32], unit: u32) -> Option<usize>
+    ensures { result ≡ guard unit readings.now (guard_of (edge_of edge.entry)) }
 {
-    let text = text_of(edges, e);
-    if kind_of(edges, e) == PLAIN_EDGE {
-        return first_plain(text, readings, unit);
+    if edge.kind() == PLAIN_EDGE {
+        return first_plain(edge.text(), readings, unit);
     }
-    first_member(text, readings, unit)
+    first_member(edge.text(), readings, unit)
 }
 
-// Does a guard that answers so hold?
-pub(crate) fn met(answer: Guard) -> bool
-    ensures { result ≡ is_met answer }
+// The text of an edge of kind 5 that stands whole in the table, with no more atoms than it may have, as each edge of
+// kind 5 of a rule does. Its places are tested once, for all of its atoms.
+pub(crate) fn whole_text(edge: StoredEdge<'_>) -> Option<&[u16]>
+    ensures { MatchOption result (Unit {0})
+        (λ text. ((edge_of edge.entry).kind ≡ plain_edge) × (text.now ≡ (edge_of edge.entry).text)) }
 {
-    match answer {
-        Guard::Holds => true,
-        Guard::Fails(_) => false,
+    let table = edge.table;
+    let place = EDGE_WIDTH * edge.number as usize;
+    if table.len() < place + EDGE_WIDTH {
+        return None;
     }
+    if usize::from(table[place + EDGE_KIND]) != PLAIN_EDGE {
+        return None;
+    }
+    let count = usize::from(table[place + EDGE_COUNT]);
+    if MOST_ATOMS < count {
+        return None;
+    }
+    let first = place + EDGE_FIELDS;
+    let past = first + ATOM_WIDTH * count;
+    Some(&table[first..past])
 }
 
-// Is edge `e` of kind 5, whole in the table, with no more atoms than it may have? Each edge of kind 5 of a rule is.
-pub(crate) fn is_plain(edges: &[u16], e: u32) -> bool
-    ensures { result ≡ true → Whole e edges.now }
+// Does the guard of an edge hold? Atoms of kind 5 are read where they stand. For any other edge, table and readings are
+// lent anew: so they stay in registers in the test in place, which builds and runs spend their time in.
+pub fn guard_holds(edge: StoredEdge<'_>, readings: &[u32], unit: u32) -> bool
+    ensures { result ≡ is_met (guard unit readings.now (guard_of (edge_of edge.entry))) }
 {
-    let place = EDGE_WIDTH * wide32(e);
-    if edges.len() < place + EDGE_WIDTH {
-        return false;
+    if let Some(text) = whole_text(edge) {
+        return first_plain(text, readings, unit).is_none();
     }
-    if wide16(edges[place + EDGE_KIND]) != PLAIN_EDGE {
-        return false;
-    }
-    wide16(edges[place + EDGE_COUNT]) <= MOST_ATOMS
-}
-
-// Does the guard of such an edge hold? Its atoms are read where they stand, with no test of their places.
-pub(crate) fn plain_holds(edges: &[u16], e: u32, readings: &[u32], unit: u32) -> bool
-    requires { Whole e edges.now }
-    ensures { result ≡ is_met (guard unit readings.now (guard_of (edge_at e edges.now))) }
-{
-    let place = EDGE_WIDTH * wide32(e);
-    let mut at = place + EDGE_FIELDS;
-    let mut left = wide16(edges[place + EDGE_COUNT]);
-    while 0 < left {
-        let clock = wide16(edges[at]);
-        let relation = wide16(edges[at + ATOM_RELATION]);
-        let constant = wide16(edges[at + ATOM_CONSTANT]);
-        if !numbers_hold(clock, relation, constant, readings, unit) {
-            return false;
-        }
-        left -= 1;
-        at += ATOM_WIDTH;
-    }
-    true
-}
-
-// Does the guard of edge `e` hold? An edge of kind 5 is tested in place. For any other, table and readings are lent
-// anew: so they stay in registers in the test in place, which builds and runs spend their time in.
-pub fn guard_holds(edges: &[u16], e: u32, readings: &[u32], unit: u32) -> bool
-    ensures { result ≡ is_met (guard unit readings.now (guard_of (edge_at e edges.now))) }
-{
-    if is_plain(edges, e) {
-        return plain_holds(edges, e, readings, unit);
-    }
-    met(guard_of(&edges[0..], e, &readings[0..], unit))
+    let table = edge.table;
+    let anew = StoredEdge {
+        table: &table[0..],
+        number: edge.number,
+    };
+    guard_of(anew, &readings[0..], unit).is_none()
 }

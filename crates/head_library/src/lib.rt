@@ -1,17 +1,23 @@
 // What C and Rust link: every public entry under a C name, with the promise of the function that it calls.
-// Records cross by value, a lent table as pointer and length, the follower kept in place as one pointer.
+// Records cross by value, a lent table as pointer and length, the follower kept in place as one pointer. C passes the
+// parts of a rule or a table one by one, and a refusal goes back as its number and place: both are so here alone.
 #![tactic(auto)]
 
 ghost use Rattle.model.specs.Promises.{ChecksRule, ChecksWord, ChecksTable, ReadsRule, WritesRule, BuildsTable};
 ghost use Rattle.model.specs.Promises.{RunsExact, RunsTable, StartsFollower, FollowsEvent, FollowsInPlace, Decides};
-ghost use Rattle.model.specs.Tables.{tables};
 ghost use Rattle.model.specs.Promises.{GivesNext, ChecksInclusion, CountsShares};
+ghost use Rattle.model.specs.Tables.{tables};
 ghost use Rattle.head_library.specs.Lent.{RunsBranchesInto};
 
+use crate::records::{branch_of, followed, found_of, moved, next_of, shares_of};
+use edges::StoredRule;
 use model::{
     Answer, Batch, Building, Built, Followed, Follower, Head, Inclusion, Listed,
     MOST_BRANCH_EVENTS, Moved, Next, Reading, Shares, Size, Stamp, Started,
 };
+use tables::Table;
+
+mod records;
 
 // The branch runner's answer, its edges in a lent array.
 #[repr(C)]
@@ -29,21 +35,23 @@ pub struct BranchAnswer {
 pub extern "C" fn alderskein_check_rule(head: Head, edges: &[u16]) -> Answer
     ensures { ChecksRule head edges.now result }
 {
-    rule::check_rule(head, edges)
+    rule::check_rule(StoredRule { head, edges })
+        .map(|_| 0)
+        .into()
 }
 
 #[unsafe(no_mangle)]
 pub extern "C" fn alderskein_read_rule(file: &[u8], edges: &mut [u16]) -> Reading
     ensures { ReadsRule file.now edges.old edges.new result }
 {
-    reader::read_rule(file, edges)
+    reader::read_rule(file, edges).into()
 }
 
 #[unsafe(no_mangle)]
 pub extern "C" fn alderskein_write_rule(head: Head, edges: &[u16], out: &mut [u8]) -> Answer
     ensures { WritesRule head edges.now out.old out.new result }
 {
-    writer::write_rule(head, edges, out)
+    writer::write_rule(StoredRule { head, edges }, out).into()
 }
 
 #[unsafe(no_mangle)]
@@ -57,6 +65,8 @@ pub extern "C" fn alderskein_check_word(
     ensures { ChecksWord symbol_count grain most symbols.now stamps.now result }
 {
     word::check_word(symbol_count, grain, most, symbols, stamps)
+        .map(|_| 0)
+        .into()
 }
 
 #[unsafe(no_mangle)]
@@ -71,10 +81,9 @@ pub extern "C" fn alderskein_build_table(
     ensures { BuildsTable head edges.now scratch.old scratch.new cells.old
         cells.new rows.old rows.new pool.old pool.new result }
 {
-    construct::build_table(head, edges, scratch, cells, rows, pool)
+    construct::build_table(StoredRule { head, edges }, scratch, cells, rows, pool).into()
 }
 
-// Field by field, since an answer that is handed on whole is copied once more.
 #[unsafe(no_mangle)]
 pub extern "C" fn alderskein_check_table(
     built: Built,
@@ -84,12 +93,13 @@ pub extern "C" fn alderskein_check_table(
 ) -> Answer
     ensures { ChecksTable built cells.now rows.now pool.now result }
 {
-    let answer = shape::check_table(built, cells, rows, pool);
-    Answer {
-        number: answer.number,
-        place: answer.place,
-        value: answer.value,
-    }
+    let table = Table {
+        built,
+        cells,
+        rows,
+        pool,
+    };
+    shape::check_table(table).map(|_| 0).into()
 }
 
 #[unsafe(no_mangle)]
@@ -105,7 +115,15 @@ pub extern "C" fn alderskein_run_table(
     ensures { RunsTable built cells.now rows.now pool.now grain symbols.now
         stamps.now result }
 {
-    walk::run_table(built, cells, rows, pool, grain, symbols, stamps)
+    let table = Table {
+        built,
+        cells,
+        rows,
+        pool,
+    };
+    walk::run_table(table, grain, symbols, stamps)
+        .map(usize::from)
+        .into()
 }
 
 #[unsafe(no_mangle)]
@@ -120,7 +138,9 @@ pub extern "C" fn alderskein_run_exact(
     ensures { RunsExact head edges.now grain symbols.now stamps.now
         scratch.old scratch.new result }
 {
-    exact::run_exact(head, edges, grain, symbols, stamps, scratch)
+    exact::run_exact(StoredRule { head, edges }, grain, symbols, stamps, scratch)
+        .map(usize::from)
+        .into()
 }
 
 #[unsafe(no_mangle)]
@@ -135,7 +155,7 @@ pub extern "C" fn alderskein_run_branches(
     ensures { RunsBranchesInto head edges.now grain symbols.now stamps.now
         taken.new result }
 {
-    let run = branch::run_branches(head, edges, grain, symbols, stamps);
+    let run = branch_of(branch::run_branches(StoredRule { head, edges }, grain, symbols, stamps));
     let run_edges = run.edges;
     *taken = run_edges;
     BranchAnswer {
@@ -152,10 +172,9 @@ pub extern "C" fn alderskein_run_branches(
 pub extern "C" fn alderskein_start_follower(grain: u32) -> Started
     ensures { StartsFollower grain result }
 {
-    follower::start_follower(grain)
+    follower::start_follower(grain).into()
 }
 
-// The two parts of `follow_event`: called from here, both read the lent records where they are, with no copy between.
 #[unsafe(no_mangle)]
 pub extern "C" fn alderskein_follow_event(
     follower: Follower,
@@ -168,10 +187,16 @@ pub extern "C" fn alderskein_follow_event(
 ) -> Followed
     ensures { FollowsEvent follower built cells.now rows.now pool.now symbol stamp result }
 {
-    if !shape::in_shape(built, cells, rows, pool) {
-        return follower::out_of_shape(follower);
-    }
-    follower::take_event(follower, built, cells, rows, symbol, stamp)
+    let table = Table {
+        built,
+        cells,
+        rows,
+        pool,
+    };
+    followed(
+        follower,
+        follower::follow_event(follower, table, symbol, stamp),
+    )
 }
 
 // The head's own record, brought forward where it is kept.
@@ -188,14 +213,13 @@ pub extern "C" fn alderskein_follow_in_place(
     ensures { FollowsInPlace follower.old follower.new built cells.now rows.now
         pool.now symbol stamp result }
 {
-    let was = *follower;
-    let step = follower::follow_event(was, built, cells, rows, pool, symbol, stamp);
-    *follower = step.follower;
-    Moved {
-        number: step.number,
-        place: step.place,
-        yes: step.yes,
-    }
+    let table = Table {
+        built,
+        cells,
+        rows,
+        pool,
+    };
+    moved(follower::follow_in_place(follower, table, symbol, stamp))
 }
 
 #[unsafe(no_mangle)]
@@ -217,13 +241,15 @@ pub extern "C" fn alderskein_decide(
     verdict::decide(
         file, edges, scratch, cells, rows, pool, grain, symbols, stamps,
     )
+    .map(usize::from)
+    .into()
 }
 
 #[unsafe(no_mangle)]
 pub extern "C" fn alderskein_next_word(size: Size, word: Listed) -> Next
     ensures { GivesNext size word result }
 {
-    lists::next_word(size, word)
+    next_of(word, lists::next_word(size, word))
 }
 
 #[unsafe(no_mangle)]
@@ -245,9 +271,19 @@ pub extern "C" fn alderskein_check_inclusion(
         scratch.new symbols.old symbols.new stamps.old
         stamps.new result }
 {
-    inclusion::check_inclusion(
-        first, cells, rows, pool, second, cells2, rows2, pool2, scratch, symbols, stamps,
-    )
+    let one = Table {
+        built: first,
+        cells,
+        rows,
+        pool,
+    };
+    let other = Table {
+        built: second,
+        cells: cells2,
+        rows: rows2,
+        pool: pool2,
+    };
+    found_of(inclusion::check_inclusion(one, other, scratch, symbols, stamps))
 }
 
 #[unsafe(no_mangle)]
@@ -261,5 +297,5 @@ pub extern "C" fn alderskein_count_shares(
 ) -> Shares
     ensures { CountsShares batch cells.now rows.now pool.now events seconds result }
 {
-    shares::count_shares(batch, cells, rows, pool, events, seconds)
+    shares_of(shares::count_shares(batch, cells, rows, pool, events, seconds))
 }

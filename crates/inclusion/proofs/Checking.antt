@@ -4,31 +4,27 @@ use mathlib.Core.Bool.{false}
 use mathlib.Core.List.{List}
 use Prim.Native.Nat.{ℕ, ◌≤◌}
 use native.Mathlib.Omega.{arith}
-use lib.ListN.{length, take}
-use lib.Seq.{length-take-le}
-use borrow.Author.Tests.{eqb-true}
+use lib.ListN.{length}
+use Rattle.std.proofs.Common.{Err}
+use Rattle.model.specs.declared.Refused.{Refused}
 use Rattle.model.specs.declared.Inclusion.{Inclusion}
-use Rattle.model.specs.Basics.{lesser, zeros, filled, Refusal, refusal, passes}
+use Rattle.model.specs.Basics.{lesser, zeros, filled, Refusal, passes}
 use Rattle.model.specs.Tables.{Tables}
 use Rattle.model.specs.Words.{most_events}
 use Rattle.model.specs.Lists.{symbols_of, stamps_of}
-use Rattle.model.specs.Inclusion.{joint_count, inclusion_refusal}
 use Rattle.model.specs.Promises.{inclusion, Searched, holds, shown, too_long, ChecksInclusion}
 use Rattle.model.proofs.Logic.{no_way}
-use Rattle.inclusion.specs.Graphs.{Paired}
-use Rattle.inclusion.specs.Judging.{Admitted, Judges}
+use Rattle.model.proofs.Faults.{refuses}
+use Rattle.inclusion.specs.Judging.{Admitted, Judges, inclusion_in}
 use Rattle.inclusion.proofs.Zeros.{cleared_self}
-use Rattle.inclusion.proofs.Refusing.{admitted_fine, admitted_paired}
+use Rattle.inclusion.proofs.Refusing.{admitted_fine}
 
 pub checks_refused :
-    (t u : Tables) (scratch symbols stamps : List ℕ) (number : ℕ) → Judges t u (length scratch) number
-    → (number ≡ 0 → ⊥)
-    → ChecksInclusion t u scratch scratch symbols symbols stamps stamps (inclusion (refusal number 0) false 0)
-checks_refused t u scratch symbols stamps number j h = record {
+    (t u : Tables) (scratch symbols stamps : List ℕ) (r : Refused) → Judges t u (length scratch) (Err r)
+    → ChecksInclusion t u scratch scratch symbols symbols stamps stamps (inclusion_in (Err r))
+checks_refused t u scratch symbols stamps r j = record {
   refused = λ k. (ap (λ (f : Refusal). inclusion f false 0) j.refusal_is, refl, refl, refl);
-  searched = λ k.
-      absurd (h (ap (λ (f : Refusal). f.number) j.refusal_is
-      ∙ eqb-true (inclusion_refusal t u (length scratch)).number 0 k));
+  searched = λ k. no_way (sym (refuses r.fault r.place) ∙ (ap passes j.refusal_is ∙ k));
 }
 
 -- only the rooms' lengths matter
@@ -59,22 +55,3 @@ checks_searched t u scratch scratch' symbols symbols' stamps stamps' answer n a 
   refused = λ k. no_way (sym k ∙ ap passes (admitted_fine t u (length scratch) a));
   searched = λ k. (cleared_self n e ∙ ap zeros l, r);
 }
-
--- the part of the scratch that the search takes
-pub record PartLent (t u : Tables) (scratch : List ℕ) (states : ℕ) : Type 0 where
-  pub states_in : states ≤ length scratch
-  pub part_length : length (take states scratch) ≡ states
-  pub part_paired : Paired t.built t.cells u.built u.cells (length (take states scratch))
-
-pub part_lent :
-    (t u : Tables) (scratch : List ℕ) (states : ℕ) → Admitted t u (length scratch)
-    → states ≡ joint_count t.built u.built
-    → PartLent t u scratch states
-part_lent t u scratch states a e =
-    let h : states ≤ length scratch = omega (arith, e, a.states_in) in
-    let k : length (take states scratch) ≡ states = length-take-le states scratch h in
-    record {
-      states_in = h;
-      part_length = k;
-      part_paired = admitted_paired t u (length scratch) a (length (take states scratch)) (k ∙ e);
-    }

@@ -1,14 +1,15 @@
 -- The three ways in which a search ends: all found, no room for the word, the word.
 use mathlib.Core.Path.{◌≡◌, refl, sym, ◌∙◌, ap, subst}
 use mathlib.Core.Bool.{true, false}
-use mathlib.Core.List.{List, [], ◌++◌}
-use Prim.Native.Nat.{ℕ, ◌-◌, ◌≤◌, ◌<◌}
+use mathlib.Core.List.{List, ◌++◌}
+use Rattle.std.specs.declared.ops.ControlFlow.TheVariants.{Break, Continue}
+use Prim.Native.Nat.{ℕ, suc, ◌-◌, ◌≤◌, ◌<◌}
 use native.Mathlib.Omega.{arith}
 use lib.ListN.{length, take, drop}
 use lib.Seq.{length-take-le}
 use Rattle.model.specs.Basics.{lesser, zeros, filled, refusal, fine}
 use Rattle.model.specs.Words.{Event, events_of, most_events}
-use Rattle.model.specs.Tables.{Tables, tables}
+use Rattle.model.specs.Tables.{Tables}
 use Rattle.model.specs.Lists.{list_grain, symbols_of, stamps_of}
 use Rattle.model.specs.Inclusion.{most_joint_states, Comparable, word_room, OnlyFirst, NoneBelow, SomeOnlyFirst}
 use Rattle.model.specs.Promises.{inclusion, Searched, holds, shown, too_long}
@@ -19,28 +20,19 @@ use Rattle.model.proofs.Lists.{symbols_back, stamps_back}
 use Rattle.numbers.proofs.Laid.{drop_zeros}
 use Rattle.inclusion.specs.Graphs.{Graph, graph_of, Paired}
 use Rattle.inclusion.proofs.Graphs.{paired_as}
-use Rattle.inclusion.specs.declared.Progress.{Progress}
 use Rattle.inclusion.specs.Parts.{low, way}
-use Rattle.inclusion.specs.Scans.{Scan, Wins, Searches}
-use Rattle.inclusion.specs.Trails.{steps_of, Trail, Retraceable, sums}
+use Rattle.inclusion.specs.Scans.{progress_in, Wins, Searches}
+use Rattle.inclusion.specs.Trails.{Trail, Retraceable, sums}
 use Rattle.inclusion.specs.Judging.{Shows}
 use Rattle.inclusion.proofs.Steps.{only_first_at, goal_is}
 use Rattle.inclusion.proofs.Findings.{all_included, none_shorter, some_word, won_trail, last_way}
 use Rattle.inclusion.proofs.Words.{sums_length, steps_known, path_shows}
 use Rattle.inclusion.proofs.Ways.{word_fits}
 
--- the codes of the rows say nothing that the search asks
-abbrev bared : Tables → Tables
-bared t = tables t.built t.cells t.rows []
-
-same_graph : (t u : Tables) → graph_of (bared t) (bared u) ≡ graph_of t u
-unfolding graph_of
-same_graph t u = refl
-
 -- a goal at place `last`
 pub record GoalAt (t u : Tables) (s : List ℕ) (last : ℕ) : Type 0 where
   pub events : ℕ
-  pub trail : Trail (steps_of t.built t.cells u.built u.cells) s last events
+  pub trail : Trail (graph_of t u) s last events
   pub none : Comparable t u → NoneBelow events t u
   pub some : SomeOnlyFirst t u
   pub came : 1 ≤ last → 1 ≤ way s (low s last)
@@ -48,12 +40,12 @@ pub record GoalAt (t u : Tables) (s : List ℕ) (last : ℕ) : Type 0 where
   pub wins : only_first_at t u (low s last) ≡ true
 
 goal_at :
-    (t u : Tables) {n : ℕ} (p : Paired t.built t.cells u.built u.cells n) (s : List ℕ) (tail : ℕ)
+    (t u : Tables) {n : ℕ} (p : Paired t.built t.cells u.built u.cells n) (s : List ℕ) (last : ℕ)
     → length s ≡ n
-    → Wins (graph_of t u) s tail
-    → GoalAt t u s (tail - 1)
-goal_at t u p s tail e w =
-    let i : w.last ≡ tail - 1 = omega (arith, w.tail_is) in
+    → Wins (graph_of t u) s (suc last)
+    → GoalAt t u s last
+goal_at t u p s last e w =
+    let i : w.last ≡ last = omega (arith, w.tail_is) in
     subst (λ (k : ℕ). GoalAt t u s k) i
     (record {
       events = w.won.scan.level w.last;
@@ -73,21 +65,20 @@ room_fits r a b e h k = (
 
 module _ (t u : Tables) where
   abbrev steps : Graph
-  steps = steps_of t.built t.cells u.built u.cells
+  steps = graph_of t u
 
   -- the search ended with all found
   pub ends_included :
-      (s s' symbols stamps : List ℕ) (p : Progress) → Comparable t u
+      (s s' symbols stamps : List ℕ) (tail : ℕ) → Comparable t u
       → Paired t.built t.cells u.built u.cells (length s)
-      → Searches (graph_of (bared t) (bared u)) s s' p
-      → p.goal ≡ false
+      → Searches (graph_of t u) s s' (progress_in (Continue tail))
       → symbols ≡ zeros (length symbols)
       → stamps ≡ zeros (length stamps)
       → Searched t u symbols symbols stamps stamps (inclusion fine true 0)
-  ends_included s s' symbols stamps p c a r o z v =
+  ends_included s s' symbols stamps tail c a r z v =
       holds refl
       (all_included t u a
-      (subst (λ (g : Graph). Scan g s' p.tail p.tail p.tail 0) (same_graph t u) (r.goes o))
+      (r.goes refl)
       r.some
       c)
       z
@@ -95,13 +86,10 @@ module _ (t u : Tables) where
 
   -- the search ended at a goal
   pub ends_goal :
-      (s s' : List ℕ) (p : Progress) → Paired t.built t.cells u.built u.cells (length s)
-      → Searches (graph_of (bared t) (bared u)) s s' p
-      → p.goal ≡ true
-      → GoalAt t u s' (p.tail - 1)
-  ends_goal s s' p a r o =
-      goal_at t u a s' p.tail r.same_length
-      (subst (λ (g : Graph). Wins g s' p.tail) (same_graph t u) (r.wins o))
+      (s s' : List ℕ) (last : ℕ) → Paired t.built t.cells u.built u.cells (length s)
+      → Searches (graph_of t u) s s' (progress_in (Break last))
+      → GoalAt t u s' last
+  ends_goal s s' last a r = goal_at t u a s' last r.same_length (r.wins refl)
 
   -- no room for the word
   pub ends_long :
@@ -121,7 +109,7 @@ module _ (t u : Tables) where
       → Paired t.built t.cells u.built u.cells n
       → length s ≡ n
       → (xs ts : List ℕ) → events ≤ length xs → events ≤ length ts → ts ≡ zeros (length ts)
-      → Retraceable t.built t.cells u.built u.cells s last (take events xs) (take events ts)
+      → Retraceable t u s last (take events xs) (take events ts)
   show_ready s last events w n e p l xs ts h k z =
       let a : length (take events xs) ≡ events = length-take-le events xs h in
       let b : length (take events ts) ≡ events = length-take-le events ts k in

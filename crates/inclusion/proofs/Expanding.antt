@@ -7,15 +7,14 @@ use native.Mathlib.Omega.{arith}
 use native.Mathlib.Numerals.{add-one}
 use lib.ListN.{length}
 use Rattle.model.specs.Tables.{Tables}
-use Rattle.model.specs.JointStates.{State, state, takes}
+use Rattle.model.specs.JointStates.{State, takes}
 use Rattle.model.proofs.Logic.{no_way}
-use Rattle.inclusion.specs.declared.Joint.{Joint}
-use Rattle.inclusion.specs.Numbers.{packed, Apart}
+use Rattle.inclusion.specs.declared.sides.Joint.{Joint}
+use Rattle.inclusion.specs.Numbers.{packed, first_in, second_in, Apart}
 use Rattle.inclusion.specs.Graphs.{graph_of, Paired}
 use Rattle.inclusion.proofs.Graphs.{graph_symbols, paired_as, waits_goal}
-use Rattle.inclusion.specs.declared.Progress.{Progress}
 use Rattle.inclusion.specs.Parts.{ways, level_marks, most_mark, low, high, level_mark}
-use Rattle.inclusion.specs.Scans.{Scan, Next, event, WinsAs, ReachedBy, Reaches, Expands}
+use Rattle.inclusion.specs.Scans.{Progress, Scan, Next, event, WinsAs, ReachedBy, Reaches, Expands}
 use Rattle.inclusion.proofs.Scanning.{take_scan, move_scan}
 
 pub graph_wins :
@@ -30,7 +29,7 @@ graph_wins t u n p = record {
 -- a number taken apart takes an event
 abbrev pub taken_from : Tables → Tables → ℕ → Joint → ℕ
 taken_from t u s j =
-    packed t.built u.built (takes t s (state j.row j.age)) (takes u s (state j.row2 j.age2))
+    packed t.built u.built (takes t s (first_in j)) (takes u s (second_in j))
 
 pub graph_takes :
     (t u : Tables) (x s y : ℕ) (j : Joint) → Apart t.built u.built x j → y ≡ taken_from t u s j

@@ -17,7 +17,7 @@ use Rattle.inclusion.proofs.JointLaws.{InState, start_inside, start_packed}
 use Rattle.inclusion.proofs.Graphs.{graph_symbols, waits_inside, takes_inside, waits_goal}
 use Rattle.inclusion.specs.Parts.{low, way}
 use Rattle.inclusion.specs.Scans.{Placed, Came, began, waited, taken, Scan, Won}
-use Rattle.inclusion.specs.Trails.{steps_of, Trail, led_by, sums}
+use Rattle.inclusion.specs.Trails.{Trail, led_by, sums}
 use Rattle.inclusion.proofs.Levels.{came_first}
 use Rattle.inclusion.proofs.SearchLaws.{target, none_below, none_at_all}
 use Rattle.inclusion.proofs.Steps.{graph_waits, graph_takes, graph_goal, goal_is}
@@ -30,15 +30,6 @@ waits_same :
     → (graph_of t u).goal ((graph_of t u).waits_to x) ≡ (graph_of t u).goal x
 unfolding graph_of
 waits_same t u p x h = waits_goal t u p x h
-
--- the way back needs no rows and no codes
-same_came :
-    (t u : Tables) (s : List ℕ) (level : ℕ → ℕ) (k : ℕ) → Came (graph_of t u) s level k
-    → Came (steps_of t.built t.cells u.built u.cells) s level k
-unfolding graph_of
-same_came t u s level k (began e f v) = began e f v
-same_came t u s level k (waited j e f v i) = waited j e f v i
-same_came t u s level k (taken a q b d f v i) = taken a q b d f v i
 
 -- a joint state found at a level
 record Seen (t u : Tables) (s : List ℕ) (tail : ℕ) (level : ℕ → ℕ) (k : ℕ) (x y : State) : Type 0 where
@@ -148,7 +139,7 @@ module _
     some = omega arith
 
     abbrev steps : Graph
-    steps = steps_of t.built t.cells u.built u.cells
+    steps = graph_of t u
 
     -- what is seen below the goal's level stands before the goal
     not_last :
@@ -178,8 +169,7 @@ module _
     -- a word leads to the goal, and its stamps have 32 bits
     pub some_word : length s ≡ n → SomeOnlyFirst t u
     some_word e =
-        let v = way_to steps s z.level (suc last) (λ k b. same_came t u s z.level k (z.came k b)) last
-        (omega arith) in
+        let v = way_to steps s z.level (suc last) z.came last (omega arith) in
         let here : 0 < n = omega (arith, e, z.laid.counted) in
         let known : all_below t.built.symbols v.symbols ≡ true = steps_known t u v.symbols v.inside in
         let end : ℕ = led_by steps v.symbols v.pauses 0 in
@@ -195,7 +185,7 @@ module _
         }
 
     -- the way back
-    pub won_trail : Trail (steps_of t.built t.cells u.built u.cells) s last (z.level last)
+    pub won_trail : Trail (graph_of t u) s last (z.level last)
     won_trail = record {
       standing = record {
         short = omega (arith, z.laid.counted);
@@ -206,7 +196,7 @@ module _
       level_is = refl;
       rising = z.rising;
       level_mark_lem = z.level_mark_lem;
-      came = λ k b. same_came t u s z.level k (z.came k b);
+      came = z.came;
     }
 
     -- a goal is not found by waiting

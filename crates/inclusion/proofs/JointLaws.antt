@@ -1,7 +1,7 @@
 -- Numbers of joint states: their sizes, one table's half waiting or taking an event, both halves put together and
 -- taken apart again.
 use mathlib.Core.Path.{◌≡◌, sym, ◌∙◌, ap, ap₂, subst}
-use mathlib.Core.Bool.{Bool, true, false, ◌&&◌, not}
+use mathlib.Core.Bool.{true, false}
 use mathlib.Core.List.{[]}
 use Prim.Native.Nat.{ℕ, ◌+◌, ◌*◌, ◌/◌, ◌%◌, ◌≤◌, ◌<◌}
 use native.Mathlib.Omega.{arith}
@@ -15,9 +15,9 @@ use Rattle.model.specs.Construction.{most_rows, interval_count, top_interval}
 use Rattle.model.specs.Walks.{built_width}
 use Rattle.model.specs.Inclusion.{state_count, joint_count}
 use Rattle.model.specs.JointStates.{State, state, start_state, waited, waits}
-use Rattle.inclusion.specs.declared.Joint.{Joint}
+use Rattle.inclusion.specs.declared.sides.Joint.{Joint}
 use Rattle.inclusion.specs.Numbers.{state_number, state_of, packed, first_state, second_state}
-use Rattle.inclusion.specs.Numbers.{Sized, Inside, bare, first_in, second_in, Stands, Apart}
+use Rattle.inclusion.specs.Numbers.{Sized, Inside, bare, first_in, second_in, Is, InBoth, Stands, Apart}
 
 -- a state that a table has
 abbrev pub InState : Built → State → Type 0
@@ -100,9 +100,6 @@ pub joined_fits :
     (a b : Built) (q p m : ℕ) → m ≡ state_count b → q < state_count a → p < state_count b → q * m + p < joint_count a b
 joined_fits a b q p m e h g = subst (λ (z : ℕ). q * z + p < joint_count a b) (sym e) (joined_below a b q p h g)
 
-pub joint_most : {a b : Built} → Sized a → Sized b → joint_count a b ≤ most_states * most_states
-joint_most s u = omega (arith, mul-le-mul (states_most s) (states_most u))
-
 pub put_together :
     (b : Built) (m q p f g : ℕ) → m ≡ state_count b → q ≡ f → p ≡ g → q * m + p ≡ f * state_count b + g
 put_together b m q p f g e h k = rw (h, k, e)
@@ -116,14 +113,13 @@ pub second_back : (a b : Built) (x y : State) → InState b y → second_state a
 second_back a b x y j = ap (state_of b) (digits_mod (state_number a x) (number_below b y j)) ∙ state_again b y j
 
 pub packed_apart :
-    {a b : Built} {n : ℕ} {j : Joint} → Inside a j.row j.age → Inside b j.row2 j.age2
+    {a b : Built} {n : ℕ} {j : Joint} → InBoth a b j
     → n ≡ packed a b (first_in j) (second_in j)
     → Apart a b n j
-packed_apart {a} {b} {n} {j} i k e = record {
-  first_is = sym (ap (first_state a b) e ∙ first_back a b (first_in j) (second_in j) i k);
-  second_is = sym (ap (second_state a b) e ∙ second_back a b (first_in j) (second_in j) k);
-  first_in_lem = i;
-  second_in_lem = k;
+packed_apart {a} {b} {n} {j} i e = record {
+  first_is = sym (ap (first_state a b) e ∙ first_back a b (first_in j) (second_in j) i.first_in_lem i.second_in_lem);
+  second_is = sym (ap (second_state a b) e ∙ second_back a b (first_in j) (second_in j) i.second_in_lem);
+  inside = i;
 }
 
 -- the start is state 0
@@ -147,27 +143,11 @@ waits_packed {a} {b} n m k w e =
     ∙ ap₂ (packed a b) (w.first_is ∙ ap (waits (bare a [])) k.first_is)
     (w.second_is ∙ ap (waits (bare b [])) k.second_is)
 
--- a number taken apart
+-- one table's number taken apart
 pub apart_is :
-    (a b : Built) (x m w v : ℕ) → Sized a → Sized b → x < joint_count a b → m ≡ state_count b → w ≡ built_width a
-    → v ≡ built_width b
-    → Apart a b x (record { row = x / m / w; age = x / m % w; row2 = x % m / v; age2 = x % m % v })
-apart_is a b x m w v s u h e f g = record {
-  first_is = rw (e, f);
-  second_is = rw (e, g);
-  first_in_lem = record {
-    row_in = rw f (row_below a (x / m) (first_below a b x m u e h));
-    age_in = rw f (age_below a (x / m));
-  };
-  second_in_lem = record {
-    row_in = rw g (row_below b (x % m) (second_below b x m u e));
-    age_in = rw g (age_below b (x % m));
-  };
+    (b : Built) (q w : ℕ) → w ≡ built_width b → q < state_count b
+    → Is b (record { row = q / w; age = q % w }) (state_of b q)
+apart_is b q w e h = record {
+  is = rw e;
+  inside = record { row_in = rw e (row_below b q h); age_in = rw e (age_below b q) };
 }
-
--- the two verdicts, one after the other
-pub both_say : (p q v w : Bool) → p ≡ v → p ≡ true → q ≡ w → not q ≡ (v && not w)
-both_say p q v w e t f = rw (sym e ∙ t, f)
-
-pub first_not : (p v w : Bool) → p ≡ v → p ≡ false → false ≡ (v && not w)
-first_not p v w e t = rw (sym e ∙ t)

@@ -1,6 +1,7 @@
 -- Joint states as numbers and as a graph
 pub mod JointLaws
 pub mod Graphs
+pub mod Views
 -- The scratch as two tables; a state noted, waiting followed, a state reached, its events taken, the whole search
 pub mod Parts
 pub mod Scanning

@@ -1,14 +1,13 @@
 -- One state reached: found already, or noted: a goal, or its waiting followed.
-use mathlib.Core.Path.{◌≡◌, sym, ◌∙◌, ap, ap₂, subst}
+use mathlib.Core.Path.{◌≡◌, refl, sym, ◌∙◌, ap, ap₂, subst}
 use mathlib.Core.Bool.{Bool, true, false, ◌&&◌, not}
 use mathlib.Core.List.{List}
-use Prim.Native.Nat.{ℕ, ◌+◌, ◌≤◌}
+use Prim.Native.Nat.{ℕ, suc, ◌≤◌}
 use native.Mathlib.Omega.{arith}
-use native.Mathlib.Numerals.{add-one}
 use Rattle.model.specs.declared.Built.{Built}
 use Rattle.model.specs.JointStates.{State}
 use Rattle.model.proofs.Logic.{no_way}
-use Rattle.inclusion.specs.declared.Joint.{Joint}
+use Rattle.inclusion.specs.declared.sides.Joint.{Joint}
 use Rattle.inclusion.specs.Numbers.{first_state, second_state, says_row, Apart}
 use Rattle.inclusion.specs.Parts.{low, high, noted, Laid}
 use Rattle.inclusion.specs.Scans.{WaitsAs, Extends, Reaches}
@@ -18,7 +17,7 @@ use Rattle.inclusion.proofs.Scanning.{grown_scan, grown_won}
 -- a goal, asked of the two rows
 pub goal_by :
     {a b : Built} {j : Joint} (rows rows2 : List ℕ) (y : ℕ) (o : Bool) → Apart a b y j
-    → o ≡ (says_row rows j.row && not (says_row rows2 j.row2))
+    → o ≡ (says_row rows j.first.row && not (says_row rows2 j.second.row))
     → o ≡ (says_row rows (first_state a b y).row && not (says_row rows2 (second_state a b y).row))
 goal_by rows rows2 y o k e =
     e ∙ ap₂ (λ (v w : State). says_row rows v.row && not (says_row rows2 w.row)) k.first_is k.second_is
@@ -44,9 +43,9 @@ module _
     grown = noted_grown n s₁ e
 
     -- noted, and a goal
-    pub reach_goal : o ≡ true → Reaches a b rows rows2 s tail y mark s₁ (record { tail = tail + 1; goal = true })
+    pub reach_goal : o ≡ true → Reaches a b rows rows2 s tail y mark s₁ (record { tail = suc tail; goal = true })
     reach_goal u = record {
-      laid = subst (λ (i : ℕ). Laid s₁ i) (sym (add-one tail)) (grown_laid n grown);
+      laid = grown_laid n grown;
       keeps = grown_keeps n.laid n.not_found grown;
       later = omega arith;
       scans = λ g from m i k z nx. record {
@@ -55,7 +54,7 @@ module _
           last = tail;
           from = from;
           m = m;
-          tail_is = add-one tail;
+          tail_is = refl;
           won = grown_won z s₁ y mark i grown n.state_below n.not_found nx
               (k.goal_is y n.state_below ∙ sym f ∙ u);
         };

@@ -1,6 +1,9 @@
 -- The refusals in their order, and what passes them.
-use mathlib.Core.Path.{◌≡◌, sym}
+use mathlib.Core.Path.{◌≡◌}
 use mathlib.Core.Bool.{true, false}
+use Rattle.std.proofs.Common.{Err}
+use Rattle.model.specs.declared.Fault.TheVariants.{OutOfShape, OtherSymbols, NoRoomForStates}
+use Rattle.model.specs.Faults.{at_once}
 use Prim.Native.Nat.{ℕ, ◌≤◌, ◌<◌}
 use native.Mathlib.Omega.{arith}
 use borrow.Author.Tests.{lt-ltb, le-ltb, eq-eqb, ne_eqb}
@@ -24,7 +27,7 @@ shape_sized t h =
       top_most = k.top_most;
     }
 
-shape_celled : (t : Tables) → in_shape t ≡ true → Celled t.built t.cells
+pub shape_celled : (t : Tables) → in_shape t ≡ true → Celled t.built t.cells
 shape_celled t h = record {
   sized = shape_sized t h;
   cells_long = (shaped t h).long.cells_long;
@@ -46,23 +49,24 @@ module _ (t u : Tables) (n : ℕ) where
   abbrev states : ℕ
   states = joint_count t.built u.built
 
-  pub first_bad : in_shape t ≡ false → Judges t u n 25
+  pub first_bad : in_shape t ≡ false → Judges t u n (Err (at_once OutOfShape))
   unfolding inclusion_refusal shape_refusal
-  first_bad h = record { refusal_is = rw h; admits = λ e. absurd (omega (arith, e)) }
+  first_bad h = record { refusal_is = rw h; admits = tt }
 
-  pub second_bad : in_shape t ≡ true → in_shape u ≡ false → Judges t u n 25
+  pub second_bad : in_shape t ≡ true → in_shape u ≡ false → Judges t u n (Err (at_once OutOfShape))
   unfolding inclusion_refusal shape_refusal
-  second_bad h k = record { refusal_is = rw (h, k); admits = λ e. absurd (omega (arith, e)) }
+  second_bad h k = record { refusal_is = rw (h, k); admits = tt }
 
   pub symbols_bad :
-      in_shape t ≡ true → in_shape u ≡ true → (t.built.symbols ≡ u.built.symbols → ⊥) → Judges t u n 35
+      in_shape t ≡ true → in_shape u ≡ true → (t.built.symbols ≡ u.built.symbols → ⊥)
+      → Judges t u n (Err (at_once OtherSymbols))
   unfolding inclusion_refusal shape_refusal
   symbols_bad h k d = record {
     refusal_is = rw (h, k, ne_eqb t.built.symbols u.built.symbols d);
-    admits = λ e. absurd (omega (arith, e));
+    admits = tt;
   }
 
-  pub too_many : Comparable t u → most_joint_states < states → Judges t u n 36
+  pub too_many : Comparable t u → most_joint_states < states → Judges t u n (Err (at_once NoRoomForStates))
   unfolding inclusion_refusal shape_refusal
   too_many c m = record {
     refusal_is =
@@ -72,10 +76,11 @@ module _ (t u : Tables) (n : ℕ) where
           eq-eqb t.built.symbols u.built.symbols c.same_symbols,
           lt-ltb most_joint_states states m,
         );
-    admits = λ e. absurd (omega (arith, e));
+    admits = tt;
   }
 
-  pub too_short : Comparable t u → states ≤ most_joint_states → n < states → Judges t u n 36
+  pub too_short :
+      Comparable t u → states ≤ most_joint_states → n < states → Judges t u n (Err (at_once NoRoomForStates))
   unfolding inclusion_refusal shape_refusal
   too_short c m o = record {
     refusal_is =
@@ -86,7 +91,7 @@ module _ (t u : Tables) (n : ℕ) where
           le-ltb most_joint_states states m,
           lt-ltb n states o,
         );
-    admits = λ e. absurd (omega (arith, e));
+    admits = tt;
   }
 
   pub admitted_fine : Admitted t u n → inclusion_refusal t u n ≡ fine
@@ -99,6 +104,3 @@ module _ (t u : Tables) (n : ℕ) where
         le-ltb most_joint_states states a.states_most,
         le-ltb n states a.states_in,
       )
-
-  pub none_bad : Admitted t u n → Judges t u n 0
-  none_bad a = record { refusal_is = sym (admitted_fine a); admits = λ e. a }

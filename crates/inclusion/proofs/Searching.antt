@@ -17,9 +17,8 @@ use Rattle.inclusion.specs.Numbers.{packed}
 use Rattle.inclusion.specs.Graphs.{Graph, graph_of, Paired}
 use Rattle.inclusion.proofs.JointLaws.{states_some, start_packed}
 use Rattle.inclusion.proofs.Graphs.{paired_as}
-use Rattle.inclusion.specs.declared.Progress.{Progress}
 use Rattle.inclusion.specs.Parts.{Laid, unmarked}
-use Rattle.inclusion.specs.Scans.{Place, Scan, first, ReachedBy, Reaches, Expands, Searches}
+use Rattle.inclusion.specs.Scans.{Progress, Place, Scan, first, ReachedBy, Reaches, Expands, Searches}
 use Rattle.inclusion.proofs.Expanding.{graph_wins}
 
 none_marked : (n : ℕ) → unmarked (zeros n) ≡ n

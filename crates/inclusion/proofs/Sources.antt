@@ -6,37 +6,33 @@ use Prim.Native.Nat.{ℕ, ◌-◌, ◌≤◌, ◌<◌}
 use native.Mathlib.Omega.{arith}
 use lib.Dec.{eqb}
 use borrow.Author.Tests.{eqb-true, eq-eqb, ne_eqb}
-use Rattle.model.specs.declared.Built.{Built}
-use Rattle.model.specs.JointStates.{State, state, takes}
+use Rattle.model.specs.Tables.{Tables}
+use Rattle.model.specs.JointStates.{State, takes}
 use Rattle.model.proofs.Logic.{and_left, and_right, and_both, no_way, Two, less, least, two}
-use Rattle.inclusion.specs.declared.Joint.{Joint}
-use Rattle.inclusion.specs.Numbers.{packed, bare, Apart}
+use Rattle.inclusion.specs.declared.sides.Joint.{Joint}
+use Rattle.inclusion.specs.Numbers.{packed, first_in, second_in, Apart}
 use Rattle.inclusion.specs.Graphs.{Graph, graph_of}
 use Rattle.inclusion.specs.Parts.{low, level_mark}
-use Rattle.inclusion.specs.Trails.{steps_of, Source, Nearest}
+use Rattle.inclusion.specs.Trails.{Source, Nearest}
 
 -- another level; the level asked for
 pub leads_not : (m level : ℕ) (rest : Bool) (l : ℕ) → l ≡ m → (l ≡ level → ⊥) → false ≡ (eqb m level && rest)
 leads_not m level rest l e h = rw (ne_eqb m level (λ q. h (e ∙ q)))
 
 pub leads_is :
-    (a : Built) (cells : List ℕ) (b : Built) (cells2 : List ℕ) (symbol v z y x m level l : ℕ) (j : Joint) → z ≡ v
-    → Apart a b z j
-    → y
-    ≡ packed a b (takes (bare a cells) symbol (state j.row j.age))
-    (takes (bare b cells2) symbol (state j.row2 j.age2))
+    (t u : Tables) (symbol v z y x m level l : ℕ) (j : Joint) → z ≡ v → Apart t.built u.built z j
+    → y ≡ packed t.built u.built (takes t symbol (first_in j)) (takes u symbol (second_in j))
     → l ≡ m
     → l ≡ level
-    → eqb y x ≡ (eqb m level && eqb ((steps_of a cells b cells2).takes_to symbol v) x)
+    → eqb y x ≡ (eqb m level && eqb ((graph_of t u).takes_to symbol v) x)
 unfolding graph_of
-leads_is a cells b cells2 symbol v z y x m level l j e k f g h =
-    let q : y ≡ (steps_of a cells b cells2).takes_to symbol v =
+leads_is t u symbol v z y x m level l j e k f g h =
+    let q : y ≡ (graph_of t u).takes_to symbol v =
     f
-    ∙ ap₂ (λ (c d : State). packed a b (takes (bare a cells) symbol c) (takes (bare b cells2) symbol d)) k.first_is
-    k.second_is
-    ∙ ap ((steps_of a cells b cells2).takes_to symbol) e in
-    let t : eqb m level ≡ true = eq-eqb m level (sym g ∙ h) in
-    rw t (ap (λ (w : ℕ). eqb w x) q)
+    ∙ ap₂ (λ (c d : State). packed t.built u.built (takes t symbol c) (takes u symbol d)) k.first_is k.second_is
+    ∙ ap ((graph_of t u).takes_to symbol) e in
+    let r : eqb m level ≡ true = eq-eqb m level (sym g ∙ h) in
+    rw r (ap (λ (w : ℕ). eqb w x) q)
 
 -- nothing from k on
 pub record Looking (g : Graph) (s : List ℕ) (place x symbol level k : ℕ) : Type 0 where

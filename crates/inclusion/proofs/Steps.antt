@@ -11,7 +11,7 @@ use Rattle.inclusion.specs.Numbers.{packed, first_state, second_state}
 use Rattle.inclusion.specs.Graphs.{graph_of, waiting_to, taking_to, Paired}
 use Rattle.inclusion.proofs.JointLaws.{InState, start_inside, start_packed, first_back, second_back}
 use Rattle.inclusion.proofs.Graphs.{first_inside, second_inside, waits_inside, takes_inside, waits_below}
-use Rattle.inclusion.specs.Trails.{steps_of, waits_on}
+use Rattle.inclusion.specs.Trails.{waits_on}
 use Rattle.inclusion.proofs.SearchLaws.{target}
 
 -- a goal is a number that only the first table accepts
@@ -98,14 +98,14 @@ module _ (t u : Tables) {n : ℕ} (p : Paired t.built t.cells u.built u.cells n)
       goal_is t u (packed one two x y) ∙ ap₂ (target t u) (first_back one two x y i j) (second_back one two x y j)
 
   -- pauses
-  pub pause_below : (k x : ℕ) → x < n → waits_on (steps_of one t.cells two u.cells) k x < n
+  pub pause_below : (k x : ℕ) → x < n → waits_on (graph_of t u) k x < n
   unfolding graph_of
   pause_below zero x h = h
   pause_below (suc k) x h = pause_below k (waiting_to t u x) (waits_below t u p x h)
 
   pub pause_is :
       {v : Tables} {at : ℕ → State} (f : Follows t u n v at) (k x : ℕ) → x < n
-      → at (waits_on (steps_of one t.cells two u.cells) k x) ≡ waits_for k v (at x)
+      → at (waits_on (graph_of t u) k x) ≡ waits_for k v (at x)
   unfolding graph_of
   pause_is f zero x h = refl
   pause_is {v} f (suc k) x h =

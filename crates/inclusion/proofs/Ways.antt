@@ -18,7 +18,7 @@ use Rattle.inclusion.specs.Graphs.{Graph, graph_of, Paired}
 use Rattle.inclusion.proofs.Graphs.{waits_below, takes_below, waits_goal}
 use Rattle.inclusion.specs.Parts.{low}
 use Rattle.inclusion.specs.Scans.{Came, began, waited, taken}
-use Rattle.inclusion.specs.Trails.{steps_of, waits_on, led_by, sum_of, sums}
+use Rattle.inclusion.specs.Trails.{waits_on, led_by, sum_of, sums}
 use Rattle.inclusion.proofs.Steps.{pause_below}
 use Rattle.inclusion.proofs.Words.{sums_length}
 
@@ -120,7 +120,7 @@ word_fits xs ps e h =
 -- a way stays inside, and waiting at its end leads to a goal only from one
 module _ (t u : Tables) {n : ℕ} (c : Paired t.built t.cells u.built u.cells n) where
   abbrev g : Graph
-  g = steps_of t.built t.cells u.built u.cells
+  g = graph_of t u
 
   pub led_below : (xs ps : List ℕ) (x : ℕ) → x < n → all_below t.built.symbols xs ≡ true → led_by g xs ps x < n
   unfolding graph_of

@@ -20,7 +20,7 @@ use Rattle.model.proofs.JointWalk.{of_keeps, walk_is}
 use Rattle.inclusion.specs.Numbers.{first_state, second_state}
 use Rattle.inclusion.specs.Graphs.{Graph, graph_of, Paired}
 use Rattle.inclusion.proofs.Graphs.{takes_below}
-use Rattle.inclusion.specs.Trails.{steps_of, waits_on, led_by, sums}
+use Rattle.inclusion.specs.Trails.{waits_on, led_by, sums}
 use Rattle.inclusion.proofs.SearchLaws.{target}
 use Rattle.inclusion.proofs.Steps.{Follows, first_follows, second_follows, pause_is, pause_below}
 
@@ -30,7 +30,7 @@ sums_length k (p ∷ ps) = ap suc (sums_length (k + p) ps)
 
 -- the steps of two tables know the first one's symbols
 pub steps_known :
-    (t u : Tables) (xs : List ℕ) → all_below (steps_of t.built t.cells u.built u.cells).symbols xs ≡ true
+    (t u : Tables) (xs : List ℕ) → all_below (graph_of t u).symbols xs ≡ true
     → all_below t.built.symbols xs ≡ true
 unfolding graph_of
 steps_known t u xs b = b
@@ -49,7 +49,7 @@ in_order k (x ∷ xs) (p ∷ ps) = (omega arith, in_order (k + p) xs ps)
 
 module _ (t u : Tables) {n : ℕ} (c : Paired t.built t.cells u.built u.cells n) where
   abbrev g : Graph
-  g = steps_of t.built t.cells u.built u.cells
+  g = graph_of t u
 
   abbrev known : ℕ
   known = t.built.symbols

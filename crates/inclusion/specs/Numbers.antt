@@ -7,7 +7,8 @@ use Rattle.model.specs.Tables.{Tables, tables, row_verdict}
 use Rattle.model.specs.Walks.{built_width, cell_need, cell_place}
 use Rattle.model.specs.Inclusion.{state_count}
 use Rattle.model.specs.JointStates.{State, state}
-use Rattle.inclusion.specs.declared.Joint.{Joint}
+use Rattle.inclusion.specs.declared.sides.RowAge.{RowAge}
+use Rattle.inclusion.specs.declared.sides.Joint.{Joint}
 
 -- one table's state as a number below R · W, and back
 abbrev pub state_number : Built → State → ℕ
@@ -51,18 +52,29 @@ pub record Inside (b : Built) (row age : ℕ) : Type 0 where
 abbrev pub bare : Built → List ℕ → Tables
 bare b cells = tables b cells [] []
 
+-- a row and an age as a state; that it stands for a state of a table
+abbrev pub in_state : RowAge → State
+in_state r = state r.row r.age
+
+pub record Is (b : Built) (r : RowAge) (x : State) : Type 0 where
+  pub is : in_state r ≡ x
+  pub inside : Inside b r.row r.age
+
 -- the two states of a joint state; both inside their tables, and which they are
 abbrev pub first_in : Joint → State
-first_in j = state j.row j.age
+first_in j = in_state j.first
 
 abbrev pub second_in : Joint → State
-second_in j = state j.row2 j.age2
+second_in j = in_state j.second
+
+pub record InBoth (a b : Built) (j : Joint) : Type 0 where
+  pub first_in_lem : Inside a j.first.row j.first.age
+  pub second_in_lem : Inside b j.second.row j.second.age
 
 pub record Stands (a b : Built) (j : Joint) (x y : State) : Type 0 where
   pub first_is : first_in j ≡ x
   pub second_is : second_in j ≡ y
-  pub first_in_lem : Inside a j.row j.age
-  pub second_in_lem : Inside b j.row2 j.age2
+  pub inside : InBoth a b j
 
 -- a number taken apart
 abbrev pub Apart : Built → Built → ℕ → Joint → Type 0

@@ -1,13 +1,14 @@
 -- What the search keeps: the states found stand in order of their level, each by how it was found; those below `done`
 -- have their waiting found and are no goal, those below `from` have their events found, and so has `from` for the
 -- symbols below m.
-use Rattle.std.specs.Prelude.{◌≡◌, true, false, ◌&&◌, not, List, [], ℕ, suc, ◌+◌, ◌*◌, ◌%◌, ◌≤◌, ◌<◌, length}
+use Rattle.std.specs.declared.ops.ControlFlow.{ControlFlow}
+use Rattle.std.specs.declared.ops.ControlFlow.TheVariants.{Break, Continue}
+use Rattle.std.specs.Prelude.{◌≡◌, Bool, true, false, ◌&&◌, not, List, [], ℕ, suc, ◌+◌, ◌*◌, ◌%◌, ◌≤◌, ◌<◌, length}
 use Rattle.model.specs.declared.Built.{Built}
 use Rattle.model.specs.Rules.{most_symbols}
 use Rattle.model.specs.JointStates.{waits}
 use Rattle.inclusion.specs.Numbers.{packed, first_state, second_state, says_row, bare}
 use Rattle.inclusion.specs.Graphs.{Graph}
-use Rattle.inclusion.specs.declared.Progress.{Progress}
 use Rattle.inclusion.specs.Parts.{low, high, ways, level_marks, level_mark, way, Laid, Keeps}
 
 -- a state that stands below a place
@@ -99,6 +100,15 @@ pub record Wins (g : Graph) (s : List ℕ) (tail : ℕ) : Type 0 where
   pub m : ℕ
   pub tail_is : tail ≡ suc last
   pub won : Won g s last from m
+
+-- how far a search is: so many states are found; whether the last of them is a goal
+pub record Progress : Type 0 where
+  pub tail : ℕ
+  pub goal : Bool
+
+abbrev pub progress_in : ControlFlow ℕ ℕ → Progress
+progress_in (Continue tail) = record { tail = tail; goal = false }
+progress_in (Break last) = record { tail = suc last; goal = true }
 
 -- reaching a state: it is found now, and with it all that waiting leads to; or it is a goal, and the last
 pub record ReachedBy (g : Graph) (s : List ℕ) (from m y : ℕ) (p : Progress) : Type 0 where

@@ -1,15 +1,10 @@
 -- The way back from a goal: how many events lead there, which, and after which pauses.
 use Rattle.std.specs.Prelude.{◌≡◌, true, List, [], ◌∷◌, ℕ, zero, suc, ◌+◌, ◌%◌, ◌≤◌, ◌<◌, length}
-use Rattle.model.specs.declared.Built.{Built}
+use Rattle.model.specs.Tables.{Tables}
 use Rattle.model.specs.Basics.{all_below, zeros}
-use Rattle.inclusion.specs.Numbers.{bare}
 use Rattle.inclusion.specs.Graphs.{Graph, graph_of, Paired}
 use Rattle.inclusion.specs.Parts.{low, high, level_mark, way, level_marks}
 use Rattle.inclusion.specs.Scans.{Came}
-
--- the steps of two tables; no goal is asked of this graph
-abbrev pub steps_of : Built → List ℕ → Built → List ℕ → Graph
-steps_of a cells b cells2 = graph_of (bare a cells) (bare b cells2)
 
 -- the states below a place
 pub record Standing (s : List ℕ) (n : ℕ) : Type 0 where
@@ -29,9 +24,9 @@ pub record Trail (g : Graph) (s : List ℕ) (last n : ℕ) : Type 0 where
 -- what the way back starts from: the last state found by an event, unless it is the first; a room of as many events as
 -- lead there, with no pauses so far
 pub record Retraceable
-    (a : Built) (cells : List ℕ) (b : Built) (cells2 s : List ℕ) (last : ℕ) (symbols stamps : List ℕ) : Type 0 where
-  pub paired : Paired a cells b cells2 (length s)
-  pub trail : Trail (steps_of a cells b cells2) s last (length symbols)
+    (t u : Tables) (s : List ℕ) (last : ℕ) (symbols stamps : List ℕ) : Type 0 where
+  pub paired : Paired t.built t.cells u.built u.cells (length s)
+  pub trail : Trail (graph_of t u) s last (length symbols)
   pub same_length : length stamps ≡ length symbols
   pub no_pauses : stamps ≡ zeros (length stamps)
   pub by_event : 1 ≤ last → 1 ≤ way s (low s last)

@@ -1,41 +1,30 @@
 // Does one table allow only what another allows? If not, a shortest word that refutes it.
 #![tactic(auto)]
 
-ghost use Rattle.std.specs.Prelude.{◌≡◌, length};
+ghost use Rattle.std.specs.Prelude.{◌≡◌, true, false, MatchOption, length};
 ghost use Rattle.model.specs.Basics.{lesser, zeros};
 ghost use Rattle.model.specs.Words.{most_events};
-ghost use Rattle.model.specs.Tables.{tables};
-ghost use Rattle.model.specs.Promises.{ChecksInclusion};
-ghost use Rattle.inclusion.specs.Graphs.{Paired};
-ghost use Rattle.inclusion.specs.Trails.{steps_of, Retraceable};
-ghost use Rattle.inclusion.specs.Judging.{Judges, Shows, Settles};
+ghost use Rattle.model.specs.Walks.{in_shape};
+ghost use Rattle.model.specs.Promises.{ChecksInclusion, Searched};
+ghost use Rattle.tables.specs.Views.{table_in};
+ghost use Rattle.inclusion.specs.Views.{first_of, second_of, graph_in, joint_states};
+ghost use Rattle.inclusion.specs.Trails.{Retraceable};
+ghost use Rattle.inclusion.specs.Judging.{Judges, Shows, inclusion_in};
 
 use crate::scan::search;
+use crate::sides::{Side, Two};
 use crate::states::joint_count;
 use crate::trail::{depth, retrace, sum_up};
-use model::{Built, Inclusion, MOST_EVENTS, MOST_JOINT_STATES};
-use numbers::{clear16, clear32, lesser};
+use model::{Fault, MOST_EVENTS, MOST_JOINT_STATES, Refused};
+use numbers::lesser;
 use shape::in_shape;
+use std::ops::ControlFlow;
+use tables::Table;
 
 mod scan;
+mod sides;
 mod states;
 mod trail;
-
-// The rows and the ages of the two timers, in half seconds and cut at each table's top interval.
-#[derive(Clone, Copy)]
-pub(crate) struct Joint {
-    pub(crate) row: usize,
-    pub(crate) age: usize,
-    pub(crate) row2: usize,
-    pub(crate) age2: usize,
-}
-
-// How many states are found, and whether the last of them is a goal.
-#[derive(Clone, Copy)]
-pub(crate) struct Progress {
-    pub(crate) tail: usize,
-    pub(crate) goal: bool,
-}
 
 // The events that the lent word room can show.
 pub(crate) fn word_room(symbols: usize, stamps: usize) -> usize
@@ -44,189 +33,122 @@ pub(crate) fn word_room(symbols: usize, stamps: usize) -> usize
     lesser(MOST_EVENTS, lesser(symbols, stamps))
 }
 
-// 25 for either table, 35, 36; 0 for none.
-pub(crate) fn refusal_of(
-    first: Built,
-    cells: &[u32],
-    rows: &[u32],
-    pool: &[u32],
-    second: Built,
-    cells2: &[u32],
-    rows2: &[u32],
-    pool2: &[u32],
-    size: usize,
-) -> u8
-    ensures { Judges (tables first cells.now rows.now pool.now)
-        (tables second cells2.now rows2.now pool2.now) size result }
+// A table as the search takes it; none where it is out of shape.
+pub(crate) fn shaped<'a>(table: Table<'a>) -> Option<Side<'a>>
+    ensures { MatchOption result (in_shape (table_in table.entry) ≡ false)
+        (λ s. (in_shape (table_in table.entry) ≡ true) × (s.table ≡ table.entry)) }
 {
-    if !in_shape(first, cells, rows, pool) {
-        return 25;
+    if !in_shape(table) {
+        return None;
     }
-    if !in_shape(second, cells2, rows2, pool2) {
-        return 25;
-    }
-    if first.symbols != second.symbols {
-        return 35;
+    Some(Side { table })
+}
+
+// 25 for either table, 35, 36.
+pub(crate) fn admit<'a>(
+    first: Table<'a>,
+    second: Table<'a>,
+    size: usize,
+) -> Result<Two<'a>, Refused>
+    ensures { Judges (table_in first.entry) (table_in second.entry) size result }
+{
+    let Some(first) = shaped(first) else {
+        return Err(Fault::OutOfShape.into());
+    };
+    let Some(second) = shaped(second) else {
+        return Err(Fault::OutOfShape.into());
+    };
+    if first.table.built.symbols != second.table.built.symbols {
+        return Err(Fault::OtherSymbols.into());
     }
     let states = joint_count(first, second);
     if MOST_JOINT_STATES < states {
-        return 36;
+        return Err(Fault::NoRoomForStates.into());
     }
     if size < states {
-        return 36;
+        return Err(Fault::NoRoomForStates.into());
     }
-    0
+    Ok(Two { first, second })
 }
 
 // The word that leads to the state at place `last`.
 pub(crate) fn show(
-    first: Built,
-    cells: &[u32],
-    second: Built,
-    cells2: &[u32],
+    two: Two<'_>,
     scratch: &[u32],
     last: usize,
     symbols: &mut [u16],
     stamps: &mut [u32],
 )
-    requires { Retraceable first cells.now second cells2.now scratch.now last symbols.old stamps.old }
-    ensures { Shows (steps_of first cells.now second cells2.now) scratch.now last
-        symbols.new stamps.new }
+    requires { Retraceable (first_of two) (second_of two) scratch.now last symbols.old stamps.old }
+    ensures { Shows (graph_in two.entry) scratch.now last symbols.new stamps.new }
 {
-    retrace(first, cells, second, cells2, scratch, last, symbols, stamps);
+    retrace(two, scratch, last, symbols, stamps);
     sum_up(stamps);
 }
 
-// Searches; on a goal writes the word, if there is room. The pools say nothing that the search asks.
+// Searches; on a goal writes the word, if there is room.
 pub(crate) fn settle(
-    first: Built,
-    cells: &[u32],
-    rows: &[u32],
-    second: Built,
-    cells2: &[u32],
-    rows2: &[u32],
+    two: Two<'_>,
     scratch: &mut [u32],
     symbols: &mut [u16],
     stamps: &mut [u32],
-) -> Inclusion
-    requires { Paired first cells.now second cells2.now (length scratch.old)
-        × (scratch.old ≡ zeros (length scratch.old))
-        × (symbols.old ≡ zeros (length symbols.old))
-        × (stamps.old ≡ zeros (length stamps.old)) }
-    ensures { Settles first cells.now rows.now second cells2.now rows2.now
-        symbols.old symbols.new stamps.old stamps.new result }
+) -> Result<Option<usize>, Refused>
+    requires scratch_long { length scratch.old ≡ joint_states two }
+    requires scratch_zero { scratch.old ≡ zeros (length scratch.old) }
+    requires symbols_zero { symbols.old ≡ zeros (length symbols.old) }
+    requires stamps_zero { stamps.old ≡ zeros (length stamps.old) }
+    ensures { Searched (first_of two.entry) (second_of two.entry)
+        symbols.old symbols.new stamps.old stamps.new (inclusion_in result) }
 {
-    let p = search(first, cells, rows, second, cells2, rows2, scratch);
-    if !p.goal {
-        return Inclusion {
-            number: 0,
-            place: 0,
-            included: true,
-            events: 0,
-        };
-    }
-    let last = p.tail - 1;
+    let ControlFlow::Break(last) = search(two, scratch) else {
+        return Ok(None);
+    };
     let events = depth(scratch, last);
     if word_room(symbols.len(), stamps.len()) < events {
-        return Inclusion {
-            number: 37,
-            place: 0,
-            included: false,
-            events: 0,
-        };
+        return Err(Fault::NoRoomForWord.into());
     }
     show(
-        first,
-        cells,
-        second,
-        cells2,
+        two,
         scratch,
         last,
         &mut symbols[..events],
         &mut stamps[..events],
     );
-    Inclusion {
-        number: 0,
-        place: 0,
-        included: false,
-        events,
-    }
+    Ok(Some(events))
 }
 
 // The same in rooms as they are lent: they are cleared first. `part` has a number for each joint state.
 pub(crate) fn settle_in(
-    first: Built,
-    cells: &[u32],
-    rows: &[u32],
-    second: Built,
-    cells2: &[u32],
-    rows2: &[u32],
+    two: Two<'_>,
     part: &mut [u32],
     symbols: &mut [u16],
     stamps: &mut [u32],
-) -> Inclusion
-    requires { Paired first cells.now second cells2.now (length part.old) }
-    ensures { Settles first cells.now rows.now second cells2.now rows2.now
-        symbols.old symbols.new stamps.old stamps.new result }
+) -> Result<Option<usize>, Refused>
+    requires { length part.old ≡ joint_states two }
+    ensures { Searched (first_of two.entry) (second_of two.entry)
+        symbols.old symbols.new stamps.old stamps.new (inclusion_in result) }
 {
-    clear32(part);
-    clear16(symbols);
-    clear32(stamps);
-    settle(
-        first, cells, rows, second, cells2, rows2, part, symbols, stamps,
-    )
+    part.fill(0);
+    symbols.fill(0);
+    stamps.fill(0);
+    settle(two, part, symbols, stamps)
 }
 
-// 25, 35 and 36, then the search. The scratch ends as zero, and so does all of the word room past the word.
-pub fn check_inclusion(
-    first: Built,
-    cells: &[u32],
-    rows: &[u32],
-    pool: &[u32],
-    second: Built,
-    cells2: &[u32],
-    rows2: &[u32],
-    pool2: &[u32],
+// 25, 35 and 36, then the search: none where the first allows only what the second allows, else how many events the
+// word has. The scratch ends as zero, and so does all of the word room past the word.
+pub fn check_inclusion<'a>(
+    first: Table<'a>,
+    second: Table<'a>,
     scratch: &mut [u32],
     symbols: &mut [u16],
     stamps: &mut [u32],
-) -> Inclusion
-    ensures { ChecksInclusion (tables first cells.now rows.now pool.now)
-        (tables second cells2.now rows2.now pool2.now) scratch.old
-        scratch.new symbols.old symbols.new stamps.old
-        stamps.new result }
+) -> Result<Option<usize>, Refused>
+    ensures { ChecksInclusion (table_in first.entry) (table_in second.entry) scratch.old
+        scratch.new symbols.old symbols.new stamps.old stamps.new (inclusion_in result) }
 {
-    let number = refusal_of(
-        first,
-        cells,
-        rows,
-        pool,
-        second,
-        cells2,
-        rows2,
-        pool2,
-        scratch.len(),
-    );
-    if number != 0 {
-        return Inclusion {
-            number,
-            place: 0,
-            included: false,
-            events: 0,
-        };
-    }
-    let states = joint_count(first, second);
-    let answer = settle_in(
-        first,
-        cells,
-        rows,
-        second,
-        cells2,
-        rows2,
-        &mut scratch[..states],
-        symbols,
-        stamps,
-    );
-    clear32(scratch);
-    answer
+    let two = admit(first, second, scratch.len())?;
+    let states = joint_count(two.first, two.second);
+    let found = settle_in(two, &mut scratch[..states], symbols, stamps);
+    scratch.fill(0);
+    found
 }

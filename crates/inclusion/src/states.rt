@@ -1,113 +1,104 @@
 // A joint state of two tables, by value and as one number for the scratch: half a second's wait, an event, and whether
 // only the first accepts there.
-ghost use Rattle.std.specs.Prelude.{◌≡◌, ◌&&◌, not, [], ◌%◌, ◌≤◌, ◌<◌, eqb};
+ghost use Rattle.std.specs.Prelude.{◌≡◌, ◌&&◌, not, ◌%◌, ◌≤◌, ◌<◌, eqb};
 ghost use Rattle.model.specs.Basics.{pick};
-ghost use Rattle.model.specs.Construction.{most_rows};
 ghost use Rattle.model.specs.Walks.{built_width, cell_at};
 ghost use Rattle.model.specs.Inclusion.{state_count, joint_count};
-ghost use Rattle.model.specs.JointStates.{state, waited, waits, takes};
-ghost use Rattle.inclusion.specs.Numbers.{state_number, packed, says_row, Sized, Celled, Inside, bare};
-ghost use Rattle.inclusion.specs.Numbers.{first_in, second_in, Stands, Apart};
+ghost use Rattle.model.specs.JointStates.{waited, waits, takes};
+ghost use Rattle.inclusion.specs.Numbers.{state_number, state_of, says_row, Inside, in_state};
+ghost use Rattle.inclusion.specs.Numbers.{first_in, second_in, Is};
+ghost use Rattle.inclusion.specs.Views.{side_of, first_of, second_of, joint_states, number_in};
+ghost use Rattle.inclusion.specs.Views.{Inward, ApartIn, StandsIn};
 
-use crate::Joint;
-use model::Built;
-use numbers::wide32;
-use walk::verdict;
+use crate::sides::{Joint, RowAge, Side, Two};
 
-// W
-pub(crate) fn width(built: Built) -> usize
-    ensures { result ≡ built_width built }
-{
-    2 * wide32(built.top) + 2
-}
-
-// R · W
-pub(crate) fn state_count(built: Built) -> usize
-    requires { Sized built }
-    ensures { (result ≡ state_count built) × (1 ≤ result) }
-{
-    wide32(built.rows) * width(built)
-}
-
-// R · W of the first times R · W of the second
-pub(crate) fn joint_count(first: Built, second: Built) -> usize
-    requires { Sized first × Sized second }
-    ensures { result ≡ joint_count first second }
-{
-    state_count(first) * state_count(second)
-}
-
-// A number taken apart.
-pub(crate) fn apart(first: Built, second: Built, x: usize) -> Joint
-    requires { Sized first × Sized second × (x < joint_count first second) }
-    ensures { Apart first second x result }
-{
-    let m = state_count(second);
-    let w = width(first);
-    let w2 = width(second);
-    let q = x / m;
-    let p = x % m;
-    Joint {
-        row: q / w,
-        age: q % w,
-        row2: p / w2,
-        age2: p % w2,
+impl Side<'_> {
+    // W
+    pub(crate) fn width(self) -> usize
+        ensures { result ≡ built_width self.entry.table.built }
+    {
+        self.table.width()
     }
-}
 
-// One table's state as a number.
-pub(crate) fn number_of(built: Built, row: usize, age: usize) -> usize
-    requires { Sized built × Inside built row age }
-    ensures { (result ≡ state_number built (state row age)) × (result < state_count built) }
-{
-    row * width(built) + age
-}
-
-// Both as one number.
-pub(crate) fn pack(first: Built, second: Built, j: Joint) -> usize
-    requires { Sized first × Sized second × Inside first j.row j.age × Inside second j.row2 j.age2 }
-    ensures { (result ≡ packed first second (first_in j) (second_in j)) × (result < joint_count first second) }
-{
-    let m = state_count(second);
-    let q = number_of(first, j.row, j.age);
-    let p = number_of(second, j.row2, j.age2);
-    q * m + p
-}
-
-// A timer's age, half a second on.
-pub(crate) fn age_on(built: Built, age: usize) -> usize
-    requires { Sized built × (age < built_width built) }
-    ensures { (result ≡ waited built.top age) × (result < built_width built) }
-{
-    if age + 1 < width(built) {
-        return age + 1;
+    // R · W
+    pub(crate) fn state_count(self) -> usize
+        ensures { (result ≡ state_count self.entry.table.built) × (1 ≤ result) }
+    {
+        self.table.built.rows as usize * self.width()
     }
-    age
-}
 
-// Both tables, half a second on: the rows stay.
-pub(crate) fn wait_on(first: Built, second: Built, j: Joint) -> Joint
-    requires { Sized first × Sized second × Inside first j.row j.age × Inside second j.row2 j.age2 }
-    ensures { Stands first second result (waits (bare first []) (first_in j)) (waits (bare second []) (second_in j)) }
-{
-    let age = age_on(first, j.age);
-    let age2 = age_on(second, j.age2);
-    Joint {
-        row: j.row,
-        age,
-        row2: j.row2,
-        age2,
+    // A number taken apart.
+    pub(crate) fn apart(self, q: usize) -> RowAge
+        requires { q < state_count self.table.built }
+        ensures { Is self.entry.table.built result (state_of self.entry.table.built q) }
+    {
+        let w = self.width();
+        RowAge {
+            row: q / w,
+            age: q % w,
+        }
     }
-}
 
-// The cell of a row and an age at a symbol.
-pub(crate) fn cell_of(built: Built, cells: &[u32], row: usize, age: usize, symbol: usize) -> usize
-    requires { Celled built cells.now × Inside built row age × (symbol < built.symbols) }
-    ensures { result ≡ cell_at (bare built cells.now) row symbol age }
-{
-    let w = width(built);
-    let at = (row * wide32(built.symbols) + symbol) * w + age;
-    wide32(cells[at])
+    // A state as a number.
+    pub(crate) fn number_of(self, at: RowAge) -> usize
+        requires { Inside self.table.built at.row at.age }
+        ensures { (result ≡ state_number self.entry.table.built (in_state at))
+            × (result < state_count self.entry.table.built) }
+    {
+        at.row * self.width() + at.age
+    }
+
+    // The timer's age, half a second on.
+    pub(crate) fn age_on(self, age: usize) -> usize
+        requires { age < built_width self.table.built }
+        ensures { (result ≡ waited self.entry.table.built.top age) × (result < built_width self.entry.table.built) }
+    {
+        if age + 1 < self.width() {
+            return age + 1;
+        }
+        age
+    }
+
+    // Half a second on: the row stays.
+    pub(crate) fn wait_on(self, at: RowAge) -> RowAge
+        requires { Inside self.table.built at.row at.age }
+        ensures { Is self.entry.table.built result (waits (side_of self.entry) (in_state at)) }
+    {
+        RowAge {
+            row: at.row,
+            age: self.age_on(at.age),
+        }
+    }
+
+    // The cell of a row and an age at a symbol.
+    pub(crate) fn cell_of(self, at: RowAge, symbol: usize) -> usize
+        requires { Inside self.table.built at.row at.age × (symbol < self.table.built.symbols) }
+        ensures { result ≡ cell_at (side_of self.entry) at.row symbol at.age }
+    {
+        let w = self.width();
+        let place = (at.row * self.table.built.symbols as usize + symbol) * w + at.age;
+        self.table.cells[place] as usize
+    }
+
+    // After an event.
+    pub(crate) fn take_from(self, at: RowAge, symbol: usize) -> RowAge
+        requires { Inside self.table.built at.row at.age × (symbol < self.table.built.symbols) }
+        ensures { Is self.entry.table.built result (takes (side_of self.entry) symbol (in_state at)) }
+    {
+        let cell = self.cell_of(at, symbol);
+        RowAge {
+            row: cell / 2,
+            age: age_after(cell, at.age),
+        }
+    }
+
+    // A row's verdict.
+    pub(crate) fn says(self, row: usize) -> bool
+        requires { row < self.table.built.rows }
+        ensures { result ≡ says_row self.entry.table.rows.now row }
+    {
+        self.table.row_verdict(row as u32) == 1
+    }
 }
 
 // A timer's age after an event: 0 where the cell resets it.
@@ -120,47 +111,66 @@ pub(crate) fn age_after(cell: usize, age: usize) -> usize
     age
 }
 
-// Both tables after an event.
-pub(crate) fn take_from(
-    first: Built,
-    cells: &[u32],
-    second: Built,
-    cells2: &[u32],
-    j: Joint,
-    symbol: usize,
-) -> Joint
-    requires { Celled first cells.now × Celled second cells2.now × Inside first j.row j.age
-        × Inside second j.row2 j.age2 × (symbol < first.symbols) × (symbol < second.symbols) }
-    ensures { Stands first second result (takes (bare first cells.now) symbol (first_in j))
-        (takes (bare second cells2.now) symbol (second_in j)) }
+// R · W of the first times R · W of the second
+pub(crate) fn joint_count(first: Side<'_>, second: Side<'_>) -> usize
+    ensures { result ≡ joint_count first.entry.table.built second.entry.table.built }
 {
-    let cell = cell_of(first, cells, j.row, j.age, symbol);
-    let cell2 = cell_of(second, cells2, j.row2, j.age2, symbol);
-    let age = age_after(cell, j.age);
-    let age2 = age_after(cell2, j.age2);
-    Joint {
-        row: cell / 2,
-        age,
-        row2: cell2 / 2,
-        age2,
-    }
+    first.state_count() * second.state_count()
 }
 
-// A row's verdict.
-pub(crate) fn says(rows: &[u32], row: usize) -> bool
-    requires { row < most_rows }
-    ensures { result ≡ says_row rows.now row }
-{
-    verdict(rows, row as u32)
-}
-
-// Does the first table accept there, and the second not?
-pub(crate) fn only_first(rows: &[u32], rows2: &[u32], j: Joint) -> bool
-    requires { (j.row < most_rows) × (j.row2 < most_rows) }
-    ensures { result ≡ (says_row rows.now j.row && not (says_row rows2.now j.row2)) }
-{
-    if says(rows, j.row) {
-        return !says(rows2, j.row2);
+impl Two<'_> {
+    // A number taken apart.
+    pub(crate) fn apart(self, x: usize) -> Joint
+        requires { x < joint_states self }
+        ensures { ApartIn self.entry x result }
+    {
+        let m = self.second.state_count();
+        let first = self.first.apart(x / m);
+        let second = self.second.apart(x % m);
+        Joint { first, second }
     }
-    false
+
+    // Both as one number.
+    pub(crate) fn pack(self, j: Joint) -> usize
+        requires { Inward self j }
+        ensures { (result ≡ number_in self.entry j) × (result < joint_states self.entry) }
+    {
+        let m = self.second.state_count();
+        let q = self.first.number_of(j.first);
+        let p = self.second.number_of(j.second);
+        q * m + p
+    }
+
+    // Both tables, half a second on.
+    pub(crate) fn wait_on(self, j: Joint) -> Joint
+        requires { Inward self j }
+        ensures { StandsIn self.entry result
+            (waits (first_of self.entry) (first_in j))
+            (waits (second_of self.entry) (second_in j)) }
+    {
+        let first = self.first.wait_on(j.first);
+        let second = self.second.wait_on(j.second);
+        Joint { first, second }
+    }
+
+    // Both tables after an event.
+    pub(crate) fn take_from(self, j: Joint, symbol: usize) -> Joint
+        requires { Inward self j × (symbol < (first_of self).built.symbols) }
+        ensures { StandsIn self.entry result
+            (takes (first_of self.entry) symbol (first_in j))
+            (takes (second_of self.entry) symbol (second_in j)) }
+    {
+        let first = self.first.take_from(j.first, symbol);
+        let second = self.second.take_from(j.second, symbol);
+        Joint { first, second }
+    }
+
+    // Does the first table accept there, and the second not?
+    pub(crate) fn only_first(self, j: Joint) -> bool
+        requires { Inward self j }
+        ensures { result ≡ (says_row (first_of self.entry).rows j.first.row
+            && not (says_row (second_of self.entry).rows j.second.row)) }
+    {
+        self.first.says(j.first.row) && !self.second.says(j.second.row)
+    }
 }

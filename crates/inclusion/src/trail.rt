@@ -1,14 +1,14 @@
 // The way back from the goal of a search: its events, by symbol and stamp.
 ghost use Rattle.std.specs.Prelude.{◌≡◌, ◌&&◌, ℕ, suc, ◌≤◌, ◌<◌, eqb, length};
 ghost use Rattle.model.specs.Inclusion.{most_joint_states};
-ghost use Rattle.inclusion.specs.Graphs.{Graph, Paired};
+ghost use Rattle.inclusion.specs.Views.{first_of, second_of, graph_in, joint_states};
+ghost use Rattle.inclusion.specs.Graphs.{Graph};
 ghost use Rattle.inclusion.specs.Parts.{low, high, level_mark};
-ghost use Rattle.inclusion.specs.Trails.{steps_of, Standing, Trail, Retraceable, Source, Nearest};
+ghost use Rattle.inclusion.specs.Trails.{Standing, Trail, Retraceable, Source, Nearest};
 ghost use Rattle.inclusion.specs.Trails.{sum_of, sums, Retraced};
 
 use crate::scan::{LEVEL_MARKS, WAYS, mark_at, state_at};
-use crate::states::{apart, pack, take_from};
-use model::Built;
+use crate::sides::Two;
 
 // The level mark of the state at place k.
 pub(crate) fn level_at(scratch: &[u32], k: usize) -> usize
@@ -26,68 +26,58 @@ pub(crate) fn depth(scratch: &[u32], last: usize) -> usize
     ensures { (result ≤ last) × ((g : Graph) (n : ℕ) → Trail g scratch.now last n → result ≡ n) }
 {
     let mut n: usize = 0;
-    let mut k: usize = 0;
-    while k < last {
+    for k in 0..last {
         let here = level_at(scratch, k);
         let next = level_at(scratch, k + 1);
         if here != next {
             n += 1;
         }
-        k += 1;
     }
     n
 }
 
 // Does the symbol lead from the state at place k to x, at that level mark?
 pub(crate) fn leads(
-    first: Built,
-    cells: &[u32],
-    second: Built,
-    cells2: &[u32],
+    two: Two<'_>,
     scratch: &[u32],
     k: usize,
     x: usize,
     symbol: usize,
     level: usize,
 ) -> bool
-    requires { Paired first cells.now second cells2.now (length scratch.now) × (k < length scratch.now)
-        × (low scratch.now k < length scratch.now)
-        × (1 ≤ high scratch.now (low scratch.now k))
-        × (symbol < first.symbols) }
+    requires long { length scratch.now ≡ joint_states two }
+    requires place { k < length scratch.now }
+    requires state { low scratch.now k < length scratch.now }
+    requires marked { 1 ≤ high scratch.now (low scratch.now k) }
+    requires known { symbol < (first_of two).built.symbols }
     ensures { result ≡ (eqb (level_mark scratch.now (low scratch.now k)) level
-        && eqb ((steps_of first cells.now second cells2.now).takes_to symbol
-        (low scratch.now k)) x) }
+        && eqb ((graph_in two.entry).takes_to symbol (low scratch.now k)) x) }
 {
     if level_at(scratch, k) != level {
         return false;
     }
-    let j = apart(first, second, state_at(scratch, k));
-    let next = take_from(first, cells, second, cells2, j, symbol);
-    pack(first, second, next) == x
+    let j = two.apart(state_at(scratch, k));
+    let next = two.take_from(j, symbol);
+    two.pack(next) == x
 }
 
 // The place nearest below from which the symbol leads to x, at that level mark.
 pub(crate) fn before(
-    first: Built,
-    cells: &[u32],
-    second: Built,
-    cells2: &[u32],
+    two: Two<'_>,
     scratch: &[u32],
     place: usize,
     x: usize,
     symbol: usize,
     level: usize,
 ) -> usize
-    requires { Paired first cells.now second cells2.now (length scratch.now) × Standing scratch.now place
-        × (symbol < first.symbols)
-        × Source (steps_of first cells.now second cells2.now) scratch.now place x symbol level }
-    ensures { Nearest (steps_of first cells.now second cells2.now) scratch.now place x
-        symbol level result }
+    requires long { length scratch.now ≡ joint_states two }
+    requires standing { Standing scratch.now place }
+    requires known { symbol < (first_of two).built.symbols }
+    requires source { Source (graph_in two) scratch.now place x symbol level }
+    ensures { Nearest (graph_in two.entry) scratch.now place x symbol level result }
 {
-    let mut k = place;
-    while 0 < k {
-        k -= 1;
-        if leads(first, cells, second, cells2, scratch, k, x, symbol, level) {
+    for k in (0..place).rev() {
+        if leads(two, scratch, k, x, symbol, level) {
             return k;
         }
     }
@@ -96,21 +86,18 @@ pub(crate) fn before(
 
 // Symbols, and the pause before each, from the last event to the first.
 pub(crate) fn retrace(
-    first: Built,
-    cells: &[u32],
-    second: Built,
-    cells2: &[u32],
+    two: Two<'_>,
     scratch: &[u32],
     last: usize,
     symbols: &mut [u16],
     stamps: &mut [u32],
 )
-    requires { Retraceable first cells.now second cells2.now scratch.now last symbols.old stamps.old }
-    ensures { Retraced (steps_of first cells.now second cells2.now) scratch.now last
-        symbols.new stamps.new }
+    requires { Retraceable (first_of two) (second_of two) scratch.now last symbols.old stamps.old }
+    ensures { Retraced (graph_in two.entry) scratch.now last symbols.new stamps.new }
 {
     let mut k = last;
     let mut left = symbols.len();
+    // No range: an event leads back over several places.
     while 0 < k {
         let x = state_at(scratch, k);
         let mark = mark_at(scratch, x) - 1;
@@ -122,7 +109,7 @@ pub(crate) fn retrace(
             left -= 1;
             symbols[left] = (way - 1) as u16;
             let level = (mark / WAYS + (LEVEL_MARKS - 1)) % LEVEL_MARKS;
-            k = before(first, cells, second, cells2, scratch, k, x, way - 1, level);
+            k = before(two, scratch, k, x, way - 1, level);
         }
     }
 }
@@ -133,10 +120,8 @@ pub(crate) fn sum_up(stamps: &mut [u32])
     ensures { stamps.new ≡ sums 0 stamps.old }
 {
     let mut total: u32 = 0;
-    let mut i: usize = 0;
-    while i < stamps.len() {
-        total = total + stamps[i];
-        stamps[i] = total;
-        i += 1;
+    for stamp in stamps {
+        total = total + *stamp;
+        *stamp = total;
     }
 }

@@ -18,19 +18,19 @@ impl Interval {
     pub fn top(cm: u32) -> Interval
         ensures { result.0 ≡ top_interval cm }
     {
-        Interval(2 * (cm as u64) + 1)
+        Interval(2 * u64::from(cm) + 1)
     }
 
     // The interval that an age lies in, for a cm and D as `grain`.
     pub fn of(age: Age, cm: u32, grain: u32) -> Interval
         ensures { result.0 ≡ interval_of cm grain age.0 }
     {
-        let a = age.0 as u64;
-        let d = grain as u64;
+        let a = u64::from(age.0);
+        let d = u64::from(grain);
         if a == 0 {
             return Interval::ZERO;
         }
-        if (cm as u64) * d < a {
+        if u64::from(cm) * d < a {
             return Interval::top(cm);
         }
         let whole = a / d;

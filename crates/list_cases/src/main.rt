@@ -3,7 +3,7 @@
 
 use lists::next_word;
 use model::{Listed, Size};
-use std::io;
+use std::{fmt, io};
 
 fn size_of(symbols: u32, events: u32, seconds: u32) -> Size {
     Size {
@@ -22,65 +22,74 @@ fn word_of(count: u32, symbol: u16, stamp: u32, symbol2: u16, stamp2: u32) -> Li
     }
 }
 
-// The number of words up to the last; 0 if there are more than `most`, or if one is refused.
-fn count_words(size: Size, most: usize) -> usize {
-    let mut word = word_of(0, 0, 0, 0, 0);
-    for count in 0..most {
-        let next = next_word(size, word);
-        if next.number != 0 {
-            return 0;
-        }
-        if next.last {
-            return count + 1;
-        }
-        word = next.word;
+// A word is shown by its count and its first two events.
+#[derive(Clone, Copy)]
+struct Shown(Listed);
+
+impl fmt::Display for Shown {
+    fn fmt<W: fmt::Write>(&self, f: &mut fmt::Formatter<W>) -> fmt::Result {
+        let Listed {
+            count,
+            symbols,
+            stamps,
+        } = self.0;
+        write!(
+            f,
+            "{count} {} {} {} {}",
+            symbols[0], stamps[0], symbols[1], stamps[1]
+        )
     }
-    0
 }
 
-fn print_count(rt: &impl Print, size: Size) -> io::Result<()> {
-    println!(rt; "{}", count_words(size, 100000))
+// The number of words up to the last; none if there are more than `most`, or if one is refused.
+fn count_words(size: Size, most: usize) -> Option<usize> {
+    let mut word = word_of(0, 0, 0, 0, 0);
+    for count in 1..=most {
+        let Some(next) = next_word(size, word).ok()? else {
+            return Some(count);
+        };
+        word = next;
+    }
+    None
 }
 
-// The number, whether it was the last, then the count and the first two events of the word that comes back.
+// The number of the refusal, whether the word was the last, then the next word, or the one given where there is none.
 fn print_next(rt: &impl Print, size: Size, word: Listed) -> io::Result<()> {
-    let next = next_word(size, word);
-    print!(rt; "{} {} ", next.number, next.last as u8)?;
-    print_word(rt, next.word)
-}
-
-fn print_word(rt: &impl Print, word: Listed) -> io::Result<()> {
-    let Listed {
-        count,
-        symbols,
-        stamps,
-    } = word;
-    println!(rt;
-        "{count} {} {} {} {}",
-        symbols[0], stamps[0], symbols[1], stamps[1]
-    )
+    match next_word(size, word) {
+        Ok(Some(next)) => println!(rt; "0 0 {}", Shown(next)),
+        Ok(None) => println!(rt; "0 1 {}", Shown(word)),
+        Err(refused) => println!(rt; "{} 0 {}", refused.fault.number(), Shown(word)),
+    }
 }
 
 fn main(rt: HostRuntime) -> io::Result<()> {
     // 1, 10, 60 and 280 words of 0 to 3 events: 351 in all
-    print_count(&rt, size_of(2, 0, 2))?;
-    print_count(&rt, size_of(2, 1, 2))?;
-    print_count(&rt, size_of(2, 2, 2))?;
-    print_count(&rt, size_of(2, 3, 2))?;
-    print_count(&rt, size_of(3, 4, 3))?;
-    print_count(&rt, size_of(1, 6, 0))?;
-    print_next(&rt, size_of(2, 2, 1), word_of(2, 0, 0, 1, 2))?;
-    print_next(&rt, size_of(2, 2, 1), word_of(1, 1, 2, 0, 0))?;
-    print_next(&rt, size_of(2, 2, 1), word_of(2, 1, 2, 1, 2))?;
-    print_next(&rt, size_of(0, 2, 1), word_of(0, 0, 0, 0, 0))?;
-    print_next(&rt, size_of(17, 2, 1), word_of(0, 0, 0, 0, 0))?;
-    print_next(&rt, size_of(2, 7, 1), word_of(0, 0, 0, 0, 0))?;
-    print_next(&rt, size_of(2, 2, 31), word_of(1, 2, 0, 0, 0))?;
-    print_next(&rt, size_of(2, 6, 1), word_of(7, 0, 0, 0, 0))?;
-    print_next(&rt, size_of(2, 1, 1), word_of(2, 0, 0, 0, 0))?;
-    print_next(&rt, size_of(2, 2, 1), word_of(1, 2, 0, 0, 0))?;
-    print_next(&rt, size_of(2, 2, 1), word_of(1, 0, 3, 0, 0))?;
-    print_next(&rt, size_of(2, 2, 1), word_of(2, 0, 2, 0, 1))?;
-    print_next(&rt, size_of(2, 2, 1), word_of(1, 0, 0, 0, 1))?;
+    for size in [
+        size_of(2, 0, 2),
+        size_of(2, 1, 2),
+        size_of(2, 2, 2),
+        size_of(2, 3, 2),
+        size_of(3, 4, 3),
+        size_of(1, 6, 0),
+    ] {
+        println!(rt; "{}", count_words(size, 100000).unwrap_or(0))?;
+    }
+    for (size, word) in [
+        (size_of(2, 2, 1), word_of(2, 0, 0, 1, 2)),
+        (size_of(2, 2, 1), word_of(1, 1, 2, 0, 0)),
+        (size_of(2, 2, 1), word_of(2, 1, 2, 1, 2)),
+        (size_of(0, 2, 1), word_of(0, 0, 0, 0, 0)),
+        (size_of(17, 2, 1), word_of(0, 0, 0, 0, 0)),
+        (size_of(2, 7, 1), word_of(0, 0, 0, 0, 0)),
+        (size_of(2, 2, 31), word_of(1, 2, 0, 0, 0)),
+        (size_of(2, 6, 1), word_of(7, 0, 0, 0, 0)),
+        (size_of(2, 1, 1), word_of(2, 0, 0, 0, 0)),
+        (size_of(2, 2, 1), word_of(1, 2, 0, 0, 0)),
+        (size_of(2, 2, 1), word_of(1, 0, 3, 0, 0)),
+        (size_of(2, 2, 1), word_of(2, 0, 2, 0, 1)),
+        (size_of(2, 2, 1), word_of(1, 0, 0, 0, 1)),
+    ] {
+        print_next(&rt, size, word)?;
+    }
     Ok(())
 }

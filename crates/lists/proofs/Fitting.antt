@@ -2,23 +2,22 @@
 use mathlib.Core.Path.{◌≡◌, refl, sym, ◌∙◌, ap, ap₂}
 use mathlib.Core.Bool.{Bool, true, false, ◌&&◌}
 use mathlib.Core.List.{List, [], ◌∷◌, ◌++◌}
-use Prim.Native.Nat.{ℕ, ◌+◌, ◌-◌, ◌≤◌, ◌<◌}
+use Prim.Native.Nat.{ℕ, min, ◌+◌, ◌-◌, ◌≤◌, ◌<◌}
 use native.Mathlib.Omega.{arith}
-use native.Mathlib.Numerals.{add-one}
 use lib.Dec.{eqb, leb}
+use Rattle.std.specs.List.{list_all}
 use lib.ListN.{length, get_or, take, drop, take-append-drop, length-take, length-drop, drop_of_length-le}
-use lib.Seq.{drop-cons, length-take-le}
+use lib.Seq.{length-take-le, get_or-take, take-length}
 use borrow.Author.Tests.{leb-true, eqb-true, lt-ltb, le-ltb, le-leb, lt-leb, eq-eqb, ne_eqb}
 use Rattle.model.specs.declared.Size.{Size}
 use Rattle.model.specs.declared.Listed.{Listed}
 use Rattle.model.specs.Basics.{within, same, zeros, filled}
 use Rattle.model.specs.Words.{events_of}
 use Rattle.model.specs.Rules.{most_symbols}
-use Rattle.model.specs.Lists.{most_listed_events, most_seconds, span_ok, size_ok, top_stamp, fits_from, fits}
+use Rattle.model.specs.Lists.{most_listed_events, most_seconds, size_ok, top_stamp, fits_from, fits}
 use Rattle.model.specs.Lists.{listed_of}
 use Rattle.model.specs.Lists.{events_in, same_listed, in_list}
 use Rattle.model.proofs.Logic.{and_left, and_right, within_least, within_most}
-use Rattle.model.proofs.Events.{event_at}
 use Rattle.numbers.specs.Lent.{all_zero}
 use Rattle.numbers.proofs.Zeros.{same_zeros}
 use Rattle.lists.specs.Odometer.{Six, rest_zero}
@@ -27,6 +26,37 @@ use Rattle.lists.proofs.Places.{events_count, symbols_are, stamps_are, event_at_
 and_no : (a : Bool) → (a && false) ≡ false
 and_no true = refl
 and_no false = refl
+
+-- the event that a turn of the loop sees
+pub record Seen (w : Listed) (i x t : ℕ) : Type 0 where
+  pub below : i < w.count
+  pub symbol_is : x ≡ get_or w.symbols i 0
+  pub stamp_is : t ≡ get_or w.stamps i 0
+
+pub seen :
+    (w : Listed) → Six w → w.count ≤ most_listed_events → {i x t : ℕ}
+    → (i < length (take w.count w.symbols)) × (i < length (take w.count w.stamps))
+    × ((d : ℕ) → x ≡ get_or (take w.count w.symbols) i d) × ((d : ℕ) → t ≡ get_or (take w.count w.stamps) i d)
+    → Seen w i x t
+seen w f h {i} (p, q, x_is, t_is) =
+    let below : i < w.count = omega (arith, p, length-take-le w.count w.symbols (omega (arith, f.symbols_six))) in
+    record {
+      below = below;
+      symbol_is = x_is 0 ∙ get_or-take w.count w.symbols i 0 below;
+      stamp_is = t_is 0 ∙ get_or-take w.count w.stamps i 0 below;
+    }
+
+-- all of them were seen
+pub seen_all :
+    (w : Listed) → Six w → w.count ≤ most_listed_events → {i : ℕ}
+    → i ≡ min (length (take w.count w.symbols)) (length (take w.count w.stamps)) → w.count ≤ i
+seen_all w f h e =
+    omega (
+      arith,
+      e,
+      length-take-le w.count w.symbols (omega (arith, f.symbols_six)),
+      length-take-le w.count w.stamps (omega (arith, f.stamps_six)),
+    )
 
 -- the loop over the events: what is left fits from the last stamp on exactly if all of them fit
 pub record Fit (s top : ℕ) (w : Listed) (last i : ℕ) : Type 0 where
@@ -42,81 +72,42 @@ module _ {s top last i : ℕ} {w : Listed} (inv : Fit s top w last i) (f : Six w
       sym (ap (fits_from s top last) (drop_of_length-le (events_in w) {i = i} (omega (arith, events_count w f h))))
       ∙ inv.rest_is
 
-  module _ (g : i < w.count) where
+  module _ {x t : ℕ} (e : Seen w i x t) where
     now_is :
-        fits_from s top last (event_at w.symbols w.stamps i ∷ drop (i + 1) (events_in w))
+        fits_from s top last (record { symbol = x; stamp = t } ∷ drop (i + 1) (events_in w))
         ≡ fits_from s top 0 (events_in w)
-    now_is = ap (fits_from s top last) (sym (event_at_lem w f h i g)) ∙ inv.rest_is
+    now_is =
+        ap₂ (λ (a b : ℕ). fits_from s top last (record { symbol = a; stamp = b } ∷ drop (i + 1) (events_in w)))
+        e.symbol_is e.stamp_is
+        ∙ ap (fits_from s top last) (sym (event_at_lem w f h i e.below)) ∙ inv.rest_is
 
-    pub fit_symbol : s ≤ get_or w.symbols i 0 → false ≡ fits_from s top 0 (events_in w)
-    fit_symbol p = rw (← now_is, le-ltb (get_or w.symbols i 0) s p)
+    pub fit_symbol : s ≤ x → false ≡ fits_from s top 0 (events_in w)
+    fit_symbol p = rw (← now_is, le-ltb x s p)
 
-    module _ (p : get_or w.symbols i 0 < s) where
-      pub fit_falls : get_or w.stamps i 0 < last → false ≡ fits_from s top 0 (events_in w)
-      fit_falls q = rw (← now_is, lt-ltb (get_or w.symbols i 0) s p, lt-leb last (get_or w.stamps i 0) q)
+    module _ (p : x < s) where
+      pub fit_falls : t < last → false ≡ fits_from s top 0 (events_in w)
+      fit_falls q = rw (← now_is, lt-ltb x s p, lt-leb last t q)
 
-      module _ (q : last ≤ get_or w.stamps i 0) where
-        pub fit_late : top < get_or w.stamps i 0 → false ≡ fits_from s top 0 (events_in w)
-        fit_late r =
-            rw (
-              ← now_is,
-              lt-ltb (get_or w.symbols i 0) s p,
-              le-leb last (get_or w.stamps i 0) q,
-              lt-leb (get_or w.stamps i 0) top r,
-            )
+      module _ (q : last ≤ t) where
+        pub fit_late : top < t → false ≡ fits_from s top 0 (events_in w)
+        fit_late r = rw (← now_is, lt-ltb x s p, le-leb last t q, lt-leb t top r)
 
-        pub fit_turn : get_or w.stamps i 0 ≤ top → Fit s top w (get_or w.stamps i 0) (i + 1)
-        fit_turn r = record {
-          turns = omega arith;
-          rest_is =
-              rw (
-                ← now_is,
-                lt-ltb (get_or w.symbols i 0) s p,
-                le-leb last (get_or w.stamps i 0) q,
-                le-leb (get_or w.stamps i 0) top r,
-              );
+        pub fit_turn : {j : ℕ} → j ≡ i + 1 → t ≤ top → Fit s top w t j
+        fit_turn j r = record {
+          turns = omega (arith, e.below);
+          rest_is = rw (j, ← now_is, lt-ltb x s p, le-leb last t q, le-leb t top r);
         }
 
--- the loop over the unused places
-pub record Zeroed (w : Listed) (i : ℕ) : Type 0 where
-  pub zeros_are : (all_zero (drop i w.symbols) && all_zero (drop i w.stamps)) ≡ rest_zero w
+-- unused places, each asked for
+abbrev pub is_zero : ℕ → Bool
+is_zero x = eqb x 0
 
-pub zeroed_start : (w : Listed) (i : ℕ) → i ≡ w.count → Zeroed w i
-zeroed_start w i h = record { zeros_are = rw h }
+pub rest_whole : (n : ℕ) (xs : List ℕ) → take (length xs - n) (drop n xs) ≡ drop n xs
+rest_whole n xs = let e : length xs - n ≡ length (drop n xs) = sym (length-drop n xs) in rw e (take-length (drop n xs))
 
-module _ {w : Listed} {i : ℕ} (inv : Zeroed w i) (f : Six w) where
-  pub zeroed_end : most_listed_events ≤ i → true ≡ rest_zero w
-  zeroed_end h =
-      let a : drop i w.symbols ≡ [] = drop_of_length-le w.symbols {i = i} (omega (arith, f.symbols_six)) in
-      let b : drop i w.stamps ≡ [] = drop_of_length-le w.stamps {i = i} (omega (arith, f.stamps_six)) in
-      rw (← inv.zeros_are, a, b)
-
-  module _ (h : i < most_listed_events) where
-    symbols_split : drop i w.symbols ≡ get_or w.symbols i 0 ∷ drop (i + 1) w.symbols
-    symbols_split = rw (add-one i) (drop-cons w.symbols i 0 (omega (arith, f.symbols_six)))
-
-    stamps_split : drop i w.stamps ≡ get_or w.stamps i 0 ∷ drop (i + 1) w.stamps
-    stamps_split = rw (add-one i) (drop-cons w.stamps i 0 (omega (arith, f.stamps_six)))
-
-    pub zeroed_symbol : (get_or w.symbols i 0 ≡ 0 → ⊥) → false ≡ rest_zero w
-    zeroed_symbol g = rw (← inv.zeros_are, symbols_split, ne_eqb (get_or w.symbols i 0) 0 g)
-
-    pub zeroed_stamp : (get_or w.stamps i 0 ≡ 0 → ⊥) → false ≡ rest_zero w
-    zeroed_stamp g =
-        rw (← inv.zeros_are, stamps_split, ne_eqb (get_or w.stamps i 0) 0 g)
-        (sym (and_no (all_zero (drop i w.symbols))))
-
-    pub zeroed_turn : get_or w.symbols i 0 ≡ 0 → get_or w.stamps i 0 ≡ 0 → Zeroed w (i + 1)
-    zeroed_turn p q = record {
-      zeros_are =
-          rw (
-            ← inv.zeros_are,
-            symbols_split,
-            stamps_split,
-            eq-eqb (get_or w.symbols i 0) 0 p,
-            eq-eqb (get_or w.stamps i 0) 0 q,
-          );
-    }
+pub each_zero : (xs : List ℕ) → list_all is_zero xs ≡ all_zero xs
+each_zero [] = refl
+each_zero (x ∷ xs) = ap (λ t. is_zero x && t) (each_zero xs)
 
 -- unused places against the word filled up
 same_front : (ys zs xs : List ℕ) → same (ys ++ zs) (ys ++ xs) ≡ same zs xs
@@ -177,44 +168,15 @@ module _ (z : Size) (w : Listed) (f : Six w) where
       not_zero e = rw (same_listed_lem w f h, e) (sym (and_no (fits z.symbols z.seconds z.events (events_in w))))
 
       pub events_decide :
-          (s top : ℕ) → s ≡ z.symbols → top ≡ top_stamp z.seconds → rest_zero w ≡ true → (r : Bool)
-          → r ≡ fits_from s top 0 (events_in w)
+          rest_zero w ≡ true → (r : Bool) → r ≡ fits_from z.symbols (top_stamp z.seconds) 0 (events_in w)
           → r ≡ in_list z w
       unfolding in_list
-      events_decide s top p q e r k =
-          k
-          ∙ ap₂ (λ (a b : ℕ). fits_from a b 0 (events_in w)) p q
-          ∙ go (fits_from z.symbols (top_stamp z.seconds) 0 (events_in w))
+      events_decide e r k = k ∙ go (fits_from z.symbols (top_stamp z.seconds) 0 (events_in w))
         where
           go : (b : Bool) → b ≡ ((leb (length (events_in w)) z.events && b) && same_listed (listed_of (events_in w)) w)
           go true =
               rw (le-leb (length (events_in w)) z.events (omega (arith, events_count w f h)), same_listed_lem w f h, e)
           go false = rw (le-leb (length (events_in w)) z.events (omega (arith, events_count w f h)))
-
--- span_ok: each number as wide as it is compared
-pub span_many_events : (m h : ℕ) → most_listed_events < m → false ≡ span_ok m h
-span_many_events m h r = rw (lt-leb m most_listed_events r)
-
-pub span_seconds : (m h : ℕ) {k : ℕ} → k ≡ h → m ≤ most_listed_events → leb k most_seconds ≡ span_ok m h
-span_seconds m h e r = rw (e, le-leb m most_listed_events r)
-
--- size_ok: each number as wide as it is compared
-module _ (z : Size) where
-  pub no_symbols : z.symbols < 1 → false ≡ size_ok z
-  no_symbols p = rw (lt-leb 1 z.symbols p)
-
-  module _ (p : 1 ≤ z.symbols) where
-    pub many_symbols : most_symbols < z.symbols → false ≡ size_ok z
-    many_symbols q = rw (le-leb 1 z.symbols p, lt-leb z.symbols most_symbols q)
-
-    module _ (q : z.symbols ≤ most_symbols) where
-      pub many_events : most_listed_events < z.events → false ≡ size_ok z
-      many_events r =
-          rw (le-leb 1 z.symbols p, le-leb z.symbols most_symbols q, lt-leb z.events most_listed_events r)
-
-      pub seconds_decide : {h : ℕ} → h ≡ z.seconds → z.events ≤ most_listed_events → leb h most_seconds ≡ size_ok z
-      seconds_decide e r =
-          rw (e, le-leb 1 z.symbols p, le-leb z.symbols most_symbols q, le-leb z.events most_listed_events r)
 
 -- a size in its ranges, and a word of the list
 pub record InRange (z : Size) : Type 0 where

@@ -2,7 +2,7 @@
 use mathlib.Core.Path.{◌≡◌, sym, ◌∙◌, ap, ap₂}
 use mathlib.Core.Bool.{Bool, true, false}
 use mathlib.Core.List.{List, []}
-use Prim.Native.Nat.{ℕ, suc, ◌+◌, ◌-◌, ◌*◌, ◌≤◌, ◌<◌}
+use Prim.Native.Nat.{ℕ, suc, ◌+◌, ◌-◌, ◌≤◌, ◌<◌}
 use native.Mathlib.Omega.{arith}
 use lib.ListN.{length, replicate, length-replicate}
 use borrow.Author.Tests.{lt-ltb, le-ltb}
@@ -10,39 +10,27 @@ use Rattle.model.specs.declared.Size.{Size}
 use Rattle.model.specs.declared.Listed.{Listed}
 use Rattle.model.specs.Basics.{zeros, filled, fine}
 use Rattle.model.specs.Words.{Event}
-use Rattle.model.specs.Lists.{most_listed_events, list_grain, top_stamp, size_ok, After}
+use Rattle.model.specs.Lists.{most_listed_events, top_stamp, size_ok, After}
 use Rattle.model.specs.Lists.{events_in, listed_of, in_list, list_refusal}
 use Rattle.model.specs.Promises.{next_of, next_given}
+use Rattle.model.proofs.Flags.{is_true}
 use Rattle.model.proofs.NextWord.{floor, next_or_longer, next_is}
-use Rattle.lists.specs.Odometer.{word_of, answer_of, Six, up_to_raised, raised_at, least_from, Raising}
+use Rattle.model.specs.declared.Next.{Next}
+use Rattle.lists.specs.Odometer.{Six, up_to_raised, raised_at, least_from, Raising}
 use Rattle.lists.proofs.Places.{events_count}
 use Rattle.lists.proofs.Fitting.{InRange, in_range, Member, member}
 use Rattle.lists.proofs.Raised.{zeros_both, up_to_most, bump_none, bump_raised, floor_is, least_length}
 use Rattle.lists.proofs.Raised.{least_symbols, least_stamps}
-
--- the word's own places, with its count as a wider number
-own_word : (w : Listed) {n : ℕ} → n ≡ w.count → word_of n w.symbols w.stamps ≡ w
-own_word w e = ap (λ (n : ℕ). word_of n w.symbols w.stamps) e
-
-pub own_listed :
-    (z : Size) (w : Listed) {n : ℕ} {r : Bool} → n ≡ w.count → r ≡ in_list z (word_of n w.symbols w.stamps)
-    → r ≡ in_list z w
-own_listed z w e h = h ∙ ap (in_list z) (own_word w e)
-
--- what raisable found, in the size's own numbers
-pub up_to_is :
-    (z : Size) (w : Listed) {s h n r : ℕ} → s ≡ z.symbols → h ≡ z.seconds → n ≡ w.count
-    → r ≡ up_to_raised s (list_grain * h) (events_in (word_of n w.symbols w.stamps))
-    → r ≡ up_to_raised z.symbols (top_stamp z.seconds) (events_in w)
-up_to_is z w {s} {h} p q e k =
-    k ∙ ap (λ (v : Listed). up_to_raised s (list_grain * h) (events_in v)) (own_word w e)
-    ∙ ap₂ (λ (a b : ℕ). up_to_raised a (top_stamp b) (events_in w)) p q
 
 filled_zeros : (k : ℕ) → k ≤ most_listed_events → filled most_listed_events (zeros k) ≡ zeros most_listed_events
 filled_zeros k h =
     let all : k + (most_listed_events - length (zeros k)) ≡ most_listed_events =
     omega (arith, length-replicate {A = ℕ} k 0) in
     zeros_both k (most_listed_events - length (zeros k)) ∙ ap zeros all
+
+-- the record that crosses the call, by its number, whether there is none, and its word
+abbrev answer_of : ℕ → Bool → Listed → Next
+answer_of n last w = record { number = n; place = 0; last = last; word = w }
 
 -- the first word of a length
 abbrev pub zeroed : ℕ → Listed
@@ -84,6 +72,15 @@ pub record Found (z : Size) (w : Listed) (r : ℕ) : Type 0 where
   pub taken : Taken z w
   pub up_to : r ≡ up_to_raised z.symbols (top_stamp z.seconds) (events_in w)
 
+pub is_found :
+    {z : Size} {w : Listed} {r : ℕ} {a b : Bool} → a ≡ size_ok z → a ≡ true → b ≡ in_list z w → b ≡ true → Six w
+    → r ≡ up_to_raised z.symbols (top_stamp z.seconds) (events_in w)
+    → Found z w r
+is_found s p l q f u = record {
+  taken = record { size_ok = is_true s p; in_list = is_true l q; places = f };
+  up_to = u;
+}
+
 module _ {z : Size} {w : Listed} {r : ℕ} (x : Found z w r) where
   abbrev vs : List Event
   vs = events_in w
@@ -107,27 +104,25 @@ module _ {z : Size} {w : Listed} {r : ℕ} (x : Found z w r) where
       (next_is z.symbols z.seconds z.events vs ranges.some_symbols of_list.all_fit ∙ e)
 
   -- the last event that can be raised is
-  module _ (p : 0 < r) where
-    pub next_raising : Raising z w (r - 1)
+  module _ {i : ℕ} (p : r ≡ suc i) where
+    pub next_raising : Raising z w i
     next_raising = record {
       size_ok = x.taken.size_ok;
       in_list = x.taken.in_list;
-      below = omega (arith, x.up_to, up_to_most z.symbols (top_stamp z.seconds) vs, counts);
+      below = omega (arith, p, x.up_to, up_to_most z.symbols (top_stamp z.seconds) vs, counts);
     }
 
-    pub next_raised :
-        {y : Listed} → y ≡ listed_of (raised_at z.symbols (r - 1) vs) → answer_of 0 false y ≡ next_given z w
+    pub next_raised : {y : Listed} → y ≡ listed_of (raised_at z.symbols i vs) → answer_of 0 false y ≡ next_given z w
     next_raised q =
-        let one : up_to_raised z.symbols (top_stamp z.seconds) vs ≡ suc (r - 1) = omega (arith, x.up_to) in
         ap (answer_of 0 false) q
         ∙ sym
-        (said_is (record { some = true; word = raised_at z.symbols (r - 1) vs })
-        (rw (bump_raised z.symbols (top_stamp z.seconds) (r - 1) vs one)))
+        (said_is (record { some = true; word = raised_at z.symbols i vs })
+        (rw (bump_raised z.symbols (top_stamp z.seconds) i vs (sym x.up_to ∙ p))))
 
   -- none can be raised
-  module _ (p : r ≤ 0) where
+  module _ (p : r ≡ 0) where
     none_up : up_to_raised z.symbols (top_stamp z.seconds) vs ≡ 0
-    none_up = omega (arith, x.up_to)
+    none_up = sym x.up_to ∙ p
 
     pub was_last : w.count ≡ z.events → answer_of 0 true w ≡ next_given z w
     was_last n =

@@ -105,26 +105,6 @@ module _ {s top i : ℕ} {w : Listed} (inv : Stuck s top w i) (f : Six w) (h : w
     }
 
 -- Six places, place by place.
-module _ (j i was new : ℕ) where
-  pub symbol_before : j < i → was ≡ symbol_at j i was new
-  symbol_before h = rw (lt-ltb j i h)
-
-  pub symbol_after : i < j → 0 ≡ symbol_at j i was new
-  symbol_after h = rw (le-ltb j i (omega arith), lt-ltb i j h)
-
-  pub symbol_there : i ≤ j → j ≤ i → new ≡ symbol_at j i was new
-  symbol_there g h = rw (le-ltb j i g, le-ltb i j h)
-
-  module _ (n : ℕ) where
-    pub stamp_before : j < i → was ≡ stamp_at j i n was new
-    stamp_before h = rw (lt-ltb j i h)
-
-    pub stamp_there : i ≤ j → j < n → new ≡ stamp_at j i n was new
-    stamp_there g h = rw (le-ltb j i g, lt-ltb j n h)
-
-    pub stamp_unused : i ≤ j → n ≤ j → was ≡ stamp_at j i n was new
-    stamp_unused g h = rw (le-ltb j i g, le-ltb j n h)
-
 symbols_at :
     (k i j : ℕ) (xs : List ℕ) (symbol : ℕ) → i ≤ length xs
     → get_or (take i xs ++ (symbol ∷ zeros k)) j 0 ≡ symbol_at j i (get_or xs j 0) symbol
@@ -202,13 +182,12 @@ module _ (w : Listed) (i symbol stamp : ℕ) (f : Six w) (h : w.count ≤ most_l
       (λ j. stamps_at i w.count j w.stamps stamp (omega arith) (omega (arith, f.stamps_six)))
 
   pub place_is :
-      {xs ts : List ℕ} (n : ℕ) → n ≡ w.count → xs ≡ six_of (λ j. symbol_at j i (get_or w.symbols j 0) symbol)
-      → ts ≡ six_of (λ j. stamp_at j i n (get_or w.stamps j 0) stamp)
+      {xs ts : List ℕ} → xs ≡ six_of (λ j. symbol_at j i (get_or w.symbols j 0) symbol)
+      → ts ≡ six_of (λ j. stamp_at j i w.count (get_or w.stamps j 0) stamp)
       → ◌≡◌ {A = Listed} (record { count = w.count; symbols = xs; stamps = ts }) (placed w i symbol stamp)
-  place_is n e p q =
-      ap₂ (λ (a b : List ℕ). record { count = w.count; symbols = a; stamps = b })
-      (p ∙ placed_symbols)
-      (q ∙ ap (λ (k : ℕ). six_of (λ j. stamp_at j i k (get_or w.stamps j 0) stamp)) e ∙ placed_stamps)
+  place_is p q =
+      ap₂ (λ (a b : List ℕ). record { count = w.count; symbols = a; stamps = b }) (p ∙ placed_symbols)
+      (q ∙ placed_stamps)
 
 -- six numbers, each with its equation
 pub six_equal :

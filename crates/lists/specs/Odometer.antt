@@ -1,19 +1,18 @@
 -- The next word of a list as an odometer finds it: which event is raised, and the word that comes of it.
-use Rattle.std.specs.Prelude.{◌≡◌, Bool, true, ◌&&◌, ◌||◌, List, [], ◌∷◌, ◌++◌, ℕ, zero, suc, ◌-◌, ◌<◌, eqb, ltb}
+use Rattle.std.specs.Prelude.{◌≡◌, Bool, true, false, ◌&&◌, ◌||◌, List, [], ◌∷◌, ◌++◌, ℕ, zero, suc, ◌-◌, ◌<◌, eqb}
+use Rattle.std.specs.Prelude.{ltb, Option, Some, None, Result, Ok, Err}
 use Rattle.std.specs.Prelude.{length, take, drop, replicate}
 use Rattle.model.specs.declared.Size.{Size}
 use Rattle.model.specs.declared.Listed.{Listed}
 use Rattle.model.specs.declared.Next.{Next}
+use Rattle.model.specs.declared.Refused.{Refused}
+use Rattle.model.specs.Faults.{fault_number}
 use Rattle.model.specs.Basics.{pick, one_if, zeros}
 use Rattle.model.specs.Words.{Event}
 use Rattle.numbers.specs.Lent.{all_zero}
 use Rattle.model.specs.Lists.{most_listed_events, event_of, size_ok, in_list}
 
--- a word from its count and its places
-abbrev pub word_of : ℕ → List ℕ → List ℕ → Listed
-word_of n xs ts = record { count = n; symbols = xs; stamps = ts }
-
--- six places of each kind: what a word by value has, for the functions that borrow its places
+-- six places of each kind: what a word by value has
 pub record Six (w : Listed) : Type 0 where
   pub symbols_six : length w.symbols ≡ most_listed_events
   pub stamps_six : length w.stamps ≡ most_listed_events
@@ -34,6 +33,11 @@ abbrev pub up_to_raised : ℕ → ℕ → List Event → ℕ
 up_to_raised s top [] = 0
 up_to_raised s top (v ∷ vs) =
     pick (eqb (up_to_raised s top vs) 0) (one_if (can_raise s top v)) (suc (up_to_raised s top vs))
+
+-- those up to and with an event that was found
+abbrev pub up_to : Option ℕ → ℕ
+up_to None = 0
+up_to (Some i) = suc i
 
 -- n events at their least from stamp t on
 abbrev pub least_from : ℕ → ℕ → List Event
@@ -68,6 +72,8 @@ pub record Raising (size : Size) (word : Listed) (i : ℕ) : Type 0 where
   pub in_list : in_list size word ≡ true
   pub below : i < word.count
 
--- the answer of a number, with a word
-abbrev pub answer_of : ℕ → Bool → Listed → Next
-answer_of n last w = record { number = n; place = 0; last = last; word = w }
+-- the record that crosses the call, by the outcome; the word given stands in it where no other does
+abbrev pub next_in : Listed → Result (Option Listed) Refused → Next
+next_in word (Ok (Some next)) = record { number = 0; place = 0; last = false; word = next }
+next_in word (Ok None) = record { number = 0; place = 0; last = true; word = word }
+next_in word (Err r) = record { number = fault_number r.fault; place = r.place; last = false; word = word }

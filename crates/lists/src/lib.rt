@@ -3,143 +3,79 @@
 #![tactic(auto)]
 
 ghost use Rattle.std.specs.Prelude.{◌≡◌, ◌≤◌, ◌<◌};
-ghost use Rattle.model.specs.Lists.{most_listed_events, span_ok, size_ok, fits_from, events_in, listed_of, in_list};
+ghost use Rattle.model.specs.Lists.{most_listed_events, span_ok, size_ok, top_stamp, fits_from, events_in, listed_of};
+ghost use Rattle.model.specs.Lists.{in_list};
 ghost use Rattle.model.specs.Promises.{GivesNext};
-ghost use Rattle.lists.specs.Odometer.{word_of, Six, rest_zero, up_to_raised, raised_at, symbol_at, stamp_at, placed};
-ghost use Rattle.lists.specs.Odometer.{Raising, answer_of};
+ghost use Rattle.lists.specs.Odometer.{rest_zero, up_to, up_to_raised, raised_at, symbol_at, stamp_at, placed};
+ghost use Rattle.lists.specs.Odometer.{Raising, next_in};
 
-use model::{LIST_GRAIN, Listed, MOST_LISTED_EVENTS, MOST_SECONDS, MOST_SYMBOLS, Next, Size};
-use numbers::{wide16, wide32};
+use model::{
+    Fault, LIST_GRAIN, Listed, MOST_LISTED_EVENTS, MOST_SECONDS, MOST_SYMBOLS, Refused, Size,
+};
 
 // Are m and H in their ranges?
 pub fn span_ok(events: u32, seconds: u32) -> bool
     ensures { result ≡ span_ok events seconds }
 {
-    if MOST_LISTED_EVENTS < wide32(events) {
-        return false;
-    }
-    wide32(seconds) <= MOST_SECONDS
+    events as usize <= MOST_LISTED_EVENTS && seconds as usize <= MOST_SECONDS
 }
 
 // Are S, m and H in their ranges?
 pub(crate) fn size_ok(size: Size) -> bool
     ensures { result ≡ size_ok size }
 {
-    if size.symbols < 1 {
-        return false;
-    }
-    if MOST_SYMBOLS < wide32(size.symbols) {
-        return false;
-    }
-    if MOST_LISTED_EVENTS < wide32(size.events) {
-        return false;
-    }
-    wide32(size.seconds) <= MOST_SECONDS
+    1 <= size.symbols && size.symbols as usize <= MOST_SYMBOLS && span_ok(size.events, size.seconds)
 }
 
 // Do the events have known symbols, and stamps that never fall and end in time?
-pub(crate) fn events_fit(
-    known: usize,
-    top: usize,
-    count: usize,
-    symbols: &[u16; MOST_LISTED_EVENTS],
-    stamps: &[u32; MOST_LISTED_EVENTS],
-) -> bool
-    requires { (count ≤ most_listed_events) × Six (word_of count symbols.now stamps.now) }
-    ensures { result ≡ fits_from known top 0 (events_in (word_of count symbols.now stamps.now)) }
+pub(crate) fn events_fit(size: Size, word: Listed) -> bool
+    requires { word.count ≤ most_listed_events }
+    ensures { result ≡ fits_from size.symbols (top_stamp size.seconds) 0 (events_in word) }
 {
-    let mut last: u32 = 0;
-    let mut i: usize = 0;
-    while i < count {
-        if known <= wide16(symbols[i]) {
+    let top = LIST_GRAIN * size.seconds as usize;
+    let count = word.count as usize;
+    let mut last = 0;
+    for (symbol, stamp) in word.symbols[..count].iter().zip(&word.stamps[..count]) {
+        if size.symbols <= u32::from(*symbol) || *stamp < last || top < *stamp as usize {
             return false;
         }
-        let stamp = stamps[i];
-        if stamp < last {
-            return false;
-        }
-        if top < wide32(stamp) {
-            return false;
-        }
-        last = stamp;
-        i += 1;
+        last = *stamp;
     }
     true
 }
 
 // Are the unused places zero?
-pub(crate) fn rest_zero(
-    count: usize,
-    symbols: &[u16; MOST_LISTED_EVENTS],
-    stamps: &[u32; MOST_LISTED_EVENTS],
-) -> bool
-    requires { Six (word_of count symbols.now stamps.now) }
-    ensures { result ≡ rest_zero (word_of count symbols.now stamps.now) }
+pub(crate) fn rest_zero(word: Listed) -> bool
+    requires { word.count ≤ most_listed_events }
+    ensures { result ≡ rest_zero word }
 {
-    let mut i = count;
-    while i < MOST_LISTED_EVENTS {
-        if symbols[i] != 0 {
-            return false;
-        }
-        if stamps[i] != 0 {
-            return false;
-        }
-        i += 1;
-    }
-    true
+    let count = word.count as usize;
+    word.symbols[count..].iter().all(|symbol| *symbol == 0)
+        && word.stamps[count..].iter().all(|stamp| *stamp == 0)
 }
 
 // Is the word in the list?
-pub(crate) fn in_list(
-    size: Size,
-    count: usize,
-    symbols: &[u16; MOST_LISTED_EVENTS],
-    stamps: &[u32; MOST_LISTED_EVENTS],
-) -> bool
-    requires { Six (word_of count symbols.now stamps.now) }
-    ensures { result ≡ in_list size (word_of count symbols.now stamps.now) }
+pub(crate) fn in_list(size: Size, word: Listed) -> bool
+    ensures { result ≡ in_list size word }
 {
-    if MOST_LISTED_EVENTS < count {
+    if MOST_LISTED_EVENTS < word.count as usize || size.events < word.count {
         return false;
     }
-    if wide32(size.events) < count {
-        return false;
-    }
-    if !rest_zero(count, symbols, stamps) {
-        return false;
-    }
-    events_fit(
-        wide32(size.symbols),
-        LIST_GRAIN * wide32(size.seconds),
-        count,
-        symbols,
-        stamps,
-    )
+    rest_zero(word) && events_fit(size, word)
 }
 
-// The number of events up to and with the last that can be raised; 0 for none.
-pub(crate) fn raisable(
-    known: usize,
-    top: usize,
-    count: usize,
-    symbols: &[u16; MOST_LISTED_EVENTS],
-    stamps: &[u32; MOST_LISTED_EVENTS],
-) -> usize
-    requires { (count ≤ most_listed_events) × Six (word_of count symbols.now stamps.now) }
-    ensures { result ≡ up_to_raised known top (events_in (word_of count symbols.now stamps.now)) }
+// The last event that can be raised.
+pub(crate) fn raisable(size: Size, word: Listed) -> Option<usize>
+    requires { word.count ≤ most_listed_events }
+    ensures { up_to result ≡ up_to_raised size.symbols (top_stamp size.seconds) (events_in word) }
 {
-    let mut i = count;
-    while 0 < i {
-        let at = i - 1;
-        if wide16(symbols[at]) + 1 < known {
-            return i;
+    let top = LIST_GRAIN * size.seconds as usize;
+    for at in (0..word.count as usize).rev() {
+        if u32::from(word.symbols[at]) + 1 < size.symbols || (word.stamps[at] as usize) < top {
+            return Some(at);
         }
-        if wide32(stamps[at]) < top {
-            return i;
-        }
-        i = at;
     }
-    0
+    None
 }
 
 // The symbol at place j once event i has a new one and those after it 0.
@@ -147,34 +83,28 @@ pub(crate) fn symbol_at(j: usize, i: usize, was: u16, symbol: u16) -> u16
     ensures { result ≡ symbol_at j i was symbol }
 {
     if j < i {
-        return was;
+        was
+    } else if i < j {
+        0
+    } else {
+        symbol
     }
-    if i < j {
-        return 0;
-    }
-    symbol
 }
 
 // The stamp at place j once the events from i on have a new one.
 pub(crate) fn stamp_at(j: usize, i: usize, count: usize, was: u32, stamp: u32) -> u32
     ensures { result ≡ stamp_at j i count was stamp }
 {
-    if j < i {
-        return was;
-    }
-    if j < count {
-        return stamp;
-    }
-    was
+    if i <= j && j < count { stamp } else { was }
 }
 
 // The word with a symbol and a stamp put at event i, those after it at symbol 0 and that stamp. Place by place: a loop
-// over the two arrays is slower.
+// over the two arrays is slower, and `from_fn` of the library is one.
 pub(crate) fn place(word: Listed, i: usize, symbol: u16, stamp: u32) -> Listed
     requires { (word.count ≤ most_listed_events) × (i < word.count) }
     ensures { result ≡ placed word i symbol stamp }
 {
-    let count = wide32(word.count);
+    let count = word.count as usize;
     Listed {
         count: word.count,
         symbols: [
@@ -203,50 +133,32 @@ pub(crate) fn raise(size: Size, word: Listed, i: usize) -> Listed
 {
     let symbol = word.symbols[i];
     let stamp = word.stamps[i];
-    if wide16(symbol) + 1 < wide32(size.symbols) {
+    if u32::from(symbol) + 1 < size.symbols {
         return place(word, i, symbol + 1, stamp);
     }
     place(word, i, 0, stamp + 1)
 }
 
-// The answer of this number, with a word.
-pub(crate) fn answer(number: u8, last: bool, word: Listed) -> Next
-    ensures { result ≡ answer_of number last word }
-{
-    Next {
-        number,
-        place: 0,
-        last,
-        word,
-    }
-}
-
-// The word after another in the list. 38, 39; the same word where it was the last, and on a refusal.
-pub fn next_word(size: Size, word: Listed) -> Next
-    ensures { GivesNext size word result }
+// The word after another in the list; none where it was the last. 38, 39.
+pub fn next_word(size: Size, word: Listed) -> Result<Option<Listed>, Refused>
+    ensures { GivesNext size word (next_in word result) }
 {
     if !size_ok(size) {
-        return answer(38, false, word);
+        return Err(Fault::BadSpan.into());
     }
-    let count = wide32(word.count);
-    let symbols = word.symbols;
-    let stamps = word.stamps;
-    if !in_list(size, count, &symbols, &stamps) {
-        return answer(39, false, word);
+    if !in_list(size, word) {
+        return Err(Fault::NotListed.into());
     }
-    let known = wide32(size.symbols);
-    let top = LIST_GRAIN * wide32(size.seconds);
-    let up_to = raisable(known, top, count, &symbols, &stamps);
-    if 0 < up_to {
-        return answer(0, false, raise(size, word, up_to - 1));
+    let found = raisable(size, word);
+    if let Some(at) = found {
+        return Ok(Some(raise(size, word, at)));
     }
     if word.count == size.events {
-        return answer(0, true, word);
+        return Ok(None);
     }
-    let longer = Listed {
+    Ok(Some(Listed {
         count: word.count + 1,
         symbols: [0; MOST_LISTED_EVENTS],
         stamps: [0; MOST_LISTED_EVENTS],
-    };
-    answer(0, false, longer)
+    }))
 }

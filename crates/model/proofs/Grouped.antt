@@ -1,11 +1,11 @@
 -- Groups of atoms, computed: what a guard answers, which texts keep the group rules, an edge's numbers, cm and the pin,
 -- and one rule written both ways.
+use Rattle.std.specs.Prelude.{Some, None}
 use mathlib.Core.Path.{◌≡◌, refl}
 use mathlib.Core.Bool.{true, false}
 use mathlib.Core.List.{List, [], ◌∷◌, ◌++◌}
 use Prim.Native.Nat.{ℕ, zero, suc}
 use lib.ListN.{length}
-use Rattle.model.specs.declared.Guard.TheVariants.{Holds, Fails}
 use Rattle.model.specs.Basics.{zeros, mask_of}
 use Rattle.model.specs.Texts.{levels_past, atoms_past, members_in, groups_past, groups_ok}
 use Rattle.model.specs.Rules.{Edge, Rule, rule, cm, pair_count, integer_reset}
@@ -24,16 +24,16 @@ either =
 
 -- ages 0 to 4: the first member fails, all hold, the second fails, the second fails, all hold
 either_answers :
-    (guard 1 (0 ∷ []) (members_in either) ≡ Fails 0) × (guard 1 (1 ∷ []) (members_in either) ≡ Holds)
-    × (guard 1 (2 ∷ []) (members_in either) ≡ Fails 1) × (guard 1 (3 ∷ []) (members_in either) ≡ Fails 1)
-    × (guard 1 (4 ∷ []) (members_in either) ≡ Holds)
+    (guard 1 (0 ∷ []) (members_in either) ≡ Some 0) × (guard 1 (1 ∷ []) (members_in either) ≡ None)
+    × (guard 1 (2 ∷ []) (members_in either) ≡ Some 1) × (guard 1 (3 ∷ []) (members_in either) ≡ Some 1)
+    × (guard 1 (4 ∷ []) (members_in either) ≡ None)
 unfolding levels_past either
 either_answers = (refl, refl, refl, refl, refl)
 
 -- an empty all-of holds, an empty any-of does not
 empty_groups :
-    (guard 1 [] (members_in []) ≡ Holds) × (guard 1 [] (members_in (2 ∷ 4 ∷ [])) ≡ Fails 0)
-    × (guard 1 [] (members_in (2 ∷ 1 ∷ 4 ∷ 4 ∷ [])) ≡ Holds)
+    (guard 1 [] (members_in []) ≡ None) × (guard 1 [] (members_in (2 ∷ 4 ∷ [])) ≡ Some 0)
+    × (guard 1 [] (members_in (2 ∷ 1 ∷ 4 ∷ 4 ∷ [])) ≡ None)
 unfolding levels_past
 empty_groups = (refl, refl, refl)
 
@@ -126,7 +126,7 @@ same_words :
     × (accepts one_edge 2 (at 1) ≡ false) × (accepts two_edges 2 (at 1) ≡ false)
     × (accepts one_edge 2 (at 2) ≡ false) × (accepts two_edges 2 (at 2) ≡ false)
     × (accepts one_edge 2 (at 3) ≡ true) × (accepts two_edges 2 (at 3) ≡ true)
-    × (held_back one_edge 2 (at 2) ≡ Fails 0) × (held_back two_edges 2 (at 2) ≡ Fails 0)
-    × (held_back (rule 2 1 1 (0 ∷ []) [] (grouped 0 either ∷ [])) 2 (at 5) ≡ Fails 1)
+    × (held_back one_edge 2 (at 2) ≡ Some 0) × (held_back two_edges 2 (at 2) ≡ Some 0)
+    × (held_back (rule 2 1 1 (0 ∷ []) [] (grouped 0 either ∷ [])) 2 (at 5) ≡ Some 1)
 unfolding levels_past accepts_from accepts_from_some accepts held_back either grouped plain one_edge two_edges at
 same_words = (refl, refl, refl, refl, refl, refl, refl, refl, refl, refl, refl)

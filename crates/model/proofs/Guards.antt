@@ -1,12 +1,11 @@
 -- Guards, member by member: tests that agree on a guard's atoms give one answer; a guard holds exactly if its outermost
 -- level does, and then each atom of that level.
+use Rattle.std.specs.Prelude.{Option, Some}
 use mathlib.Core.Path.{◌≡◌, refl, ap, ap₂}
 use mathlib.Core.Bool.{Bool, true, false, ◌&&◌, not}
 use mathlib.Core.List.{List}
 use Prim.Native.Nat.{ℕ, suc, ◌*◌}
 use lib.ListN.{get_or}
-use Rattle.model.specs.declared.Guard.{Guard}
-use Rattle.model.specs.declared.Guard.TheVariants.{Fails}
 use Rattle.model.specs.Basics.{pick}
 use Rattle.model.specs.Texts.{Atom, Members, end, atom, group, outer}
 use Rattle.model.specs.Guards.{related, meets, together, level_holds, first_failing, guard, is_met}
@@ -29,10 +28,10 @@ pub same_tests :
     → first_failing n t m ≡ first_failing n u m
 same_tests n t u end h = refl
 same_tests n t u (atom a m) h =
-    ap₂ (λ (b : Bool) (g : Guard). pick b g (Fails n)) (h a (this refl))
+    ap₂ (λ (b : Bool) (g : Option ℕ). pick b g (Some n)) (h a (this refl))
     (same_tests (suc n) t u m (λ x i. h x (after_atom i)))
 same_tests n t u (group g m) h =
-    ap₂ (λ (b : Bool) (k : Guard). pick b k (Fails n)) (same_level false t u g (λ x i. h x (inside i)))
+    ap₂ (λ (b : Bool) (k : Option ℕ). pick b k (Some n)) (same_level false t u g (λ x i. h x (inside i)))
     (same_tests (suc n) t u m (λ x i. h x (after_group i)))
 
 -- readings that are alike on the clocks of the atoms give one answer
@@ -45,7 +44,7 @@ same_readings unit readings others m h =
     (λ a i. ap (λ (value : ℕ). related a.relation value (a.constant * unit)) (h a i))
 
 -- the answer of one member and the rest
-met_either : (met : Bool) (g : Guard) (n : ℕ) (b : Bool) → is_met g ≡ b → is_met (pick met g (Fails n)) ≡ (met && b)
+met_either : (met : Bool) (g : Option ℕ) (n : ℕ) (b : Bool) → is_met g ≡ b → is_met (pick met g (Some n)) ≡ (met && b)
 met_either true g n b e = e
 met_either false g n b e = refl
 

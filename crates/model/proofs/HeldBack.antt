@@ -1,5 +1,6 @@
 -- A guard that does not hold names its first member that does not. The branch runner names one exactly where no run
 -- accepts, there is an event, and the guard of the lowest edge that leaves an initial location on its symbol names it.
+use Rattle.std.specs.Prelude.{Option, Some, None}
 use mathlib.Core.Path.{◌≡◌, refl, sym, ◌∙◌, ap}
 use mathlib.Core.Bool.{Bool, true, false, ◌&&◌, not}
 use mathlib.Core.List.{List, [], ◌∷◌}
@@ -10,8 +11,6 @@ use lib.ListN.{length, get_or}
 use borrow.Author.Tests.{ltb-true, lt-ltb, eq-eqb}
 use Rattle.model.specs.declared.Head.{Head}
 use Rattle.model.specs.declared.Branch.{Branch}
-use Rattle.model.specs.declared.Guard.{Guard}
-use Rattle.model.specs.declared.Guard.TheVariants.{Holds, Fails}
 use Rattle.model.specs.Basics.{pick, is_in, Refusal, passes}
 use Rattle.model.specs.Texts.{Atom, Members, end, atom, group}
 use Rattle.model.specs.Rules.{Edge, Rule, guard_of}
@@ -35,8 +34,8 @@ record Failing (n : ℕ) (t : Atom → Bool) (m : Members) (k : ℕ) : Type 0 wh
 one_member :
     (n : ℕ) (t : Atom → Bool) (all behind : Members) (k : ℕ) → member_count all ≡ suc (member_count behind)
     → ((j : ℕ) → member_holds true (suc j) t all ≡ member_holds true j t behind)
-    → pick (member_holds true 0 t all) (first_failing (suc n) t behind) (Fails n) ≡ Fails k
-    → (first_failing (suc n) t behind ≡ Fails k → Failing (suc n) t behind k)
+    → pick (member_holds true 0 t all) (first_failing (suc n) t behind) (Some n) ≡ Some k
+    → (first_failing (suc n) t behind ≡ Some k → Failing (suc n) t behind k)
     → Failing n t all k
 one_member n t all behind k count_is behind_are h rest =
     by_test (member_holds true 0 t all) (λ e. later e (rest (rw e at h))) now
@@ -59,7 +58,7 @@ one_member n t all behind k count_is behind_are h rest =
 
     now : member_holds true 0 t all ≡ false → Failing n t all k
     now e =
-        let named : Fails n ≡ Fails k = rw e at h in
+        let named : Some n ≡ Some k = rw e at h in
         let same : n ≡ k = ap failing_position named in
         let j : k - n ≡ 0 = omega (arith, same) in
         record {
@@ -69,7 +68,7 @@ one_member n t all behind k count_is behind_are h rest =
           before_hold = λ m l. absurd (omega (arith, same));
         }
 
-failing : (n : ℕ) (t : Atom → Bool) (m : Members) (k : ℕ) → first_failing n t m ≡ Fails k → Failing n t m k
+failing : (n : ℕ) (t : Atom → Bool) (m : Members) (k : ℕ) → first_failing n t m ≡ Some k → Failing n t m k
 failing n t end k h = no_way (sym (ap is_met h))
 failing n t (atom a m) k h = one_member n t (atom a m) m k refl (λ j. refl) h (failing (suc n) t m k)
 failing n t (group g m) k h = one_member n t (group g m) m k refl (λ j. refl) h (failing (suc n) t m k)
@@ -106,9 +105,9 @@ module _ (initial : List ℕ) (s d : ℕ) (ages : List ℕ) where
     edge : ℕ
     leaves_one : leaves_at es edge ≡ true
     none_lower : (m : ℕ) → ltb m edge ≡ true → leaves_at es m ≡ false
-    answer_is : guard d ages (guard_of (get_or es edge no_edge)) ≡ Fails n
+    answer_is : guard d ages (guard_of (get_or es edge no_edge)) ≡ Some n
 
-  named_first : (es : List Edge) (n : ℕ) → lowest_leaving initial s d ages es ≡ Fails n → First es n
+  named_first : (es : List Edge) (n : ℕ) → lowest_leaving initial s d ages es ≡ Some n → First es n
   named_first [] n h = no_way (sym (ap is_met h))
   named_first (e ∷ es) n h =
       by_test (is_in e.source initial && eqb e.symbol s)
@@ -137,8 +136,8 @@ module _ (initial : List ℕ) (s d : ℕ) (ages : List ℕ) where
 
   first_named :
       (es : List Edge) (k n : ℕ) → leaves_at es k ≡ true → ((m : ℕ) → ltb m k ≡ true → leaves_at es m ≡ false)
-      → guard d ages (guard_of (get_or es k no_edge)) ≡ Fails n
-      → lowest_leaving initial s d ages es ≡ Fails n
+      → guard d ages (guard_of (get_or es k no_edge)) ≡ Some n
+      → lowest_leaving initial s d ages es ≡ Some n
   first_named [] k n l u g =
       let inside : ltb k 0 ≡ true =
       and_left (ltb k 0) (is_in 0 initial) (and_left (ltb k 0 && is_in 0 initial) (eqb 0 s) l) in
@@ -152,7 +151,7 @@ module _ (initial : List ℕ) (s d : ℕ) (ages : List ℕ) where
       (λ m h. sym (leaves_later e es m) ∙ u (suc m) (ltb_suc m k ∙ h)) g)
 
 -- what held a rule back, both ways
-held_of : (r : Rule) (d : ℕ) (vs : List Event) (n : ℕ) → held_back r d vs ≡ Fails n → Held r d vs n
+held_of : (r : Rule) (d : ℕ) (vs : List Event) (n : ℕ) → held_back r d vs ≡ Some n → Held r d vs n
 unfolding held_back
 held_of r d [] n h = no_way (sym (ap is_met h))
 held_of r d (v ∷ vs) n h =
@@ -167,7 +166,7 @@ held_of r d (v ∷ vs) n h =
       answer_is = p.answer_is;
     })
 
-of_held : (r : Rule) (d : ℕ) (vs : List Event) (n : ℕ) → Held r d vs n → held_back r d vs ≡ Fails n
+of_held : (r : Rule) (d : ℕ) (vs : List Event) (n : ℕ) → Held r d vs n → held_back r d vs ≡ Some n
 unfolding held_back
 of_held r d [] n p = absurd (omega (arith, ltb-true 0 0 p.some_event))
 of_held r d (v ∷ vs) n p =
@@ -176,9 +175,9 @@ of_held r d (v ∷ vs) n p =
     p.answer_is)
 
 -- an answer that does not hold names a position
-names_one : (g : Guard) → not (is_met g) ≡ true → g ≡ Fails (failing_position g)
-names_one Holds h = no_way h
-names_one (Fails n) h = refl
+names_one : (g : Option ℕ) → not (is_met g) ≡ true → g ≡ Some (failing_position g)
+names_one None h = no_way h
+names_one (Some n) h = refl
 
 pub held_are : HeldAre
 held_are = record { named = named; names = names }
@@ -190,12 +189,12 @@ held_are = record { named = named; names = names }
         → Held (rule_in head edges) d (events_of symbols stamps) branch.position
     named head edges d symbols stamps branch p h =
         let f : Refusal = input_refusal head edges d most_branch_events symbols stamps in
-        let g : Guard = held_back (rule_in head edges) d (events_of symbols stamps) in
+        let g : Option ℕ = held_back (rule_in head edges) d (events_of symbols stamps) in
         let both : (passes f && not (is_met g)) ≡ true = sym (ap (λ (x : Branch). x.held) p.answer_is) ∙ h in
         let at : branch.position ≡ failing_position g =
         ap (λ (x : Branch). x.position) p.answer_is ∙ rw (and_left (passes f) (not (is_met g)) both) in
         held_of (rule_in head edges) d (events_of symbols stamps) branch.position
-        (names_one g (and_right (passes f) (not (is_met g)) both) ∙ ap (λ (n : ℕ). Fails n) (sym at))
+        (names_one g (and_right (passes f) (not (is_met g)) both) ∙ ap (λ (n : ℕ). Some n) (sym at))
 
     names :
         (head : Head) (edges : List ℕ) (d : ℕ) (symbols stamps : List ℕ) (branch : Branch) (n : ℕ)
@@ -207,7 +206,7 @@ held_are = record { named = named; names = names }
         let f : Refusal = input_refusal head edges d most_branch_events symbols stamps in
         let pass : passes f ≡ true =
         eq-eqb f.number 0 (sym (ap (λ (x : Branch). x.number) p.answer_is) ∙ z) in
-        let g : held_back (rule_in head edges) d (events_of symbols stamps) ≡ Fails n =
+        let g : held_back (rule_in head edges) d (events_of symbols stamps) ≡ Some n =
         of_held (rule_in head edges) d (events_of symbols stamps) n h in (
           ap (λ (x : Branch). x.held) p.answer_is ∙ rw (pass, g),
           ap (λ (x : Branch). x.position) p.answer_is ∙ rw (pass, g),

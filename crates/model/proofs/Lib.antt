@@ -3,6 +3,8 @@
 pub mod Logic
 pub mod Flags
 pub mod Refusals
+-- Refusals as the code hands them on
+pub mod Faults
 pub mod Answers
 pub mod Masks
 pub mod Rising
@@ -24,7 +26,7 @@ pub mod Inputs
 pub mod Examples
 pub mod Cases
 pub mod RefusedFiles
-pub mod Refused
+pub mod RefusedRooms
 pub mod RefusedShapes
 pub mod Moves
 pub mod WholeReads

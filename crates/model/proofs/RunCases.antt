@@ -1,11 +1,10 @@
 -- Runs, the least run, guards and what held a rule back, and the walk over the rows, by computation: what counts as a
 -- run, which run is the least, and which atom is named.
+use Rattle.std.specs.Prelude.{Option, Some, None}
 use mathlib.Core.Path.{◌≡◌, refl}
 use mathlib.Core.Bool.{true, false}
 use mathlib.Core.List.{List, [], ◌∷◌}
 use Prim.Native.Nat.{ℕ}
-use Rattle.model.specs.declared.Guard.{Guard}
-use Rattle.model.specs.declared.Guard.TheVariants.{Holds, Fails}
 use Rattle.model.specs.Texts.{plain_atoms, flat}
 use Rattle.model.specs.Rules.{Edge, Rule, rule, cm, pair_count}
 use Rattle.model.specs.Words.{Event, events_of}
@@ -61,19 +60,19 @@ leasts_are = (refl, refl, refl, refl)
 bounds : List ℕ
 bounds = 0 ∷ 3 ∷ 1 ∷ 1 ∷ 1 ∷ 3 ∷ 0 ∷ 2 ∷ 2 ∷ []
 
-asks : ℕ → List ℕ → List ℕ → Guard
+asks : ℕ → List ℕ → List ℕ → Option ℕ
 asks unit readings text = guard unit readings (flat (plain_atoms text))
 
 guards : Type 0
 guards =
-    (asks 1 (0 ∷ 9 ∷ []) bounds ≡ Fails 0) × (asks 1 (2 ∷ 9 ∷ []) bounds ≡ Fails 1)
-    × (asks 1 (1 ∷ 3 ∷ []) bounds ≡ Fails 2)
-    × (asks 1 (2 ∷ 3 ∷ []) bounds ≡ Holds)
-    × (asks 2 (1 ∷ 6 ∷ []) bounds ≡ Fails 0)
-    × (asks 2 (4 ∷ 7 ∷ []) bounds ≡ Fails 1)
-    × (asks 2 (5 ∷ 6 ∷ []) bounds ≡ Fails 2)
-    × (asks 2 (4 ∷ 6 ∷ []) bounds ≡ Holds)
-    × (asks 1 (4 ∷ []) [] ≡ Holds)
+    (asks 1 (0 ∷ 9 ∷ []) bounds ≡ Some 0) × (asks 1 (2 ∷ 9 ∷ []) bounds ≡ Some 1)
+    × (asks 1 (1 ∷ 3 ∷ []) bounds ≡ Some 2)
+    × (asks 1 (2 ∷ 3 ∷ []) bounds ≡ None)
+    × (asks 2 (1 ∷ 6 ∷ []) bounds ≡ Some 0)
+    × (asks 2 (4 ∷ 7 ∷ []) bounds ≡ Some 1)
+    × (asks 2 (5 ∷ 6 ∷ []) bounds ≡ Some 2)
+    × (asks 2 (4 ∷ 6 ∷ []) bounds ≡ None)
+    × (asks 1 (4 ∷ []) [] ≡ None)
 
 guards_are : guards
 unfolding bounds asks guards
@@ -97,16 +96,16 @@ waits final =
 
 helds : Type 0
 helds =
-    (held_back (waits []) 2 [] ≡ Holds) × (held_back (waits []) 2 (events_of (0 ∷ []) (1 ∷ [])) ≡ Fails 0)
-    × (held_back (waits []) 2 (events_of (0 ∷ []) (3 ∷ [])) ≡ Fails 2)
-    × (held_back (waits []) 2 (events_of (0 ∷ []) (4 ∷ [])) ≡ Holds)
-    × (held_back (waits []) 2 (events_of (0 ∷ []) (7 ∷ [])) ≡ Fails 1)
-    × (held_back (waits []) 2 (events_of (0 ∷ 1 ∷ []) (7 ∷ 8 ∷ [])) ≡ Fails 1)
-    × (held_back (waits []) 2 (events_of (1 ∷ 0 ∷ []) (4 ∷ 7 ∷ [])) ≡ Fails 1)
-    × (held_back (waits []) 2 (events_of (2 ∷ []) (1 ∷ [])) ≡ Holds)
-    × (held_back (waits (0 ∷ [])) 2 (events_of (0 ∷ []) (1 ∷ [])) ≡ Holds)
-    × (held_back (waits (0 ∷ [])) 2 (events_of (1 ∷ []) (1 ∷ [])) ≡ Fails 1)
-    × (held_back (waits (0 ∷ [])) 2 (events_of (0 ∷ 0 ∷ []) (1 ∷ 2 ∷ [])) ≡ Fails 0)
+    (held_back (waits []) 2 [] ≡ None) × (held_back (waits []) 2 (events_of (0 ∷ []) (1 ∷ [])) ≡ Some 0)
+    × (held_back (waits []) 2 (events_of (0 ∷ []) (3 ∷ [])) ≡ Some 2)
+    × (held_back (waits []) 2 (events_of (0 ∷ []) (4 ∷ [])) ≡ None)
+    × (held_back (waits []) 2 (events_of (0 ∷ []) (7 ∷ [])) ≡ Some 1)
+    × (held_back (waits []) 2 (events_of (0 ∷ 1 ∷ []) (7 ∷ 8 ∷ [])) ≡ Some 1)
+    × (held_back (waits []) 2 (events_of (1 ∷ 0 ∷ []) (4 ∷ 7 ∷ [])) ≡ Some 1)
+    × (held_back (waits []) 2 (events_of (2 ∷ []) (1 ∷ [])) ≡ None)
+    × (held_back (waits (0 ∷ [])) 2 (events_of (0 ∷ []) (1 ∷ [])) ≡ None)
+    × (held_back (waits (0 ∷ [])) 2 (events_of (1 ∷ []) (1 ∷ [])) ≡ Some 1)
+    × (held_back (waits (0 ∷ [])) 2 (events_of (0 ∷ 0 ∷ []) (1 ∷ 2 ∷ [])) ≡ Some 0)
 
 helds_are : helds
 unfolding accepts_from accepts_from_some accepts held_back bounds edge_from waits helds

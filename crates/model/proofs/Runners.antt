@@ -1,4 +1,5 @@
 -- The runners agree: each gives the verdict of the runs, so the exact, the branch and the table runner give one.
+use Rattle.std.specs.Prelude.{Option}
 use mathlib.Core.Path.{◌≡◌, refl, sym, ◌∙◌, ap, subst}
 use mathlib.Core.List.{List}
 use Prim.Native.Nat.{ℕ}
@@ -8,7 +9,6 @@ use borrow.Author.Tests.{eq-eqb}
 use Rattle.model.specs.declared.Answer.{Answer}
 use Rattle.model.specs.declared.Building.{Building}
 use Rattle.model.specs.declared.Branch.{Branch}
-use Rattle.model.specs.declared.Guard.{Guard}
 use Rattle.model.specs.Basics.{one_if, Refusal}
 use Rattle.model.specs.Rules.{Rule}
 use Rattle.model.specs.Words.{events_of, most_events, word_refusal}
@@ -47,7 +47,7 @@ table_value r t d symbols stamps answer says e z =
 
 -- the branch runner finds a run exactly if the word is accepted
 branch_found :
-    (f : Refusal) (r : Rule) (d : ℕ) (symbols stamps : List ℕ) (g : Guard) (branch : Branch)
+    (f : Refusal) (r : Rule) (d : ℕ) (symbols stamps : List ℕ) (g : Option ℕ) (branch : Branch)
     → branch ≡ branch_of f (least_run r d (events_of symbols stamps)) g
     → branch.number ≡ 0
     → branch.found ≡ accepts r d (events_of symbols stamps)

@@ -1,5 +1,6 @@
 -- Whole calls of the runners, by computation: the answer, and the scratch of the exact runner after it. Outcomes.antt
 -- has that there is no other outcome.
+use Rattle.std.specs.Prelude.{Some}
 use mathlib.Core.Path.{◌≡◌, refl}
 use mathlib.Core.Bool.{true, false}
 use mathlib.Core.List.{List, [], ◌∷◌, ◌++◌}
@@ -8,7 +9,6 @@ use lib.ListN.{length, replicate}
 use Rattle.model.specs.declared.Head.{Head}
 use Rattle.model.specs.declared.Answer.{Answer}
 use Rattle.model.specs.declared.Branch.{Branch}
-use Rattle.model.specs.declared.Guard.TheVariants.{Fails}
 use Rattle.model.specs.Basics.{pick, one_if, zeros, mask_of, bits_from, Refusal, refusal, fine, passes, ◌⨾◌}
 use Rattle.model.specs.Words.{events_of, most_events, most_branch_events, word_refusal}
 use Rattle.model.specs.Runs.{accepts_from, accepts_from_some, accepts, least_from, least_start, least_run, held_back}
@@ -186,8 +186,8 @@ branches_are = (
 -- a position past 0, and that a refusal has neither run nor position
 told : Type 0
 told =
-    (branch_of fine no_path (Fails 2) ≡ held_at 2)
-    × (branch_of (refusal 21 0) (path true 1 (1 ∷ [])) (Fails 3) ≡ branch 21 0)
+    (branch_of fine no_path (Some 2) ≡ held_at 2)
+    × (branch_of (refusal 21 0) (path true 1 (1 ∷ [])) (Some 3) ≡ branch 21 0)
 
 told_are : told
 unfolding branch held_at told

@@ -32,6 +32,8 @@ pub mod Inclusion
 pub mod JointStates
 -- How much of the list a rule allows; a batch of tables, the greatest share (2.7: 40, 43)
 pub mod Shares
+-- Refusals as the code hands them on, and the records that cross a call by their outcome
+pub mod Faults
 -- What every public entry promises: its answer and every lent buffer at exit
 pub mod Promises
 -- Demands 2 and 3 as claims about the definitions and the promises

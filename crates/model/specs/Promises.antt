@@ -1,5 +1,6 @@
 -- What every public entry promises: one equation for its answer and one for each lent buffer at exit, in every case.
 -- A primed name is the buffer at exit. One part is free, and it is named: which shortest word 2.10 shows.
+use Rattle.std.specs.Prelude.{Option}
 use Rattle.std.specs.Prelude.{◌≡◌, Bool, true, false, ◌&&◌, not, List, [], ℕ, suc, ◌+◌, ◌*◌, ◌/◌, ◌≤◌, ltb, leb, length}
 use Rattle.model.specs.declared.Stamp.{Stamp}
 use Rattle.model.specs.declared.Head.{Head}
@@ -7,7 +8,6 @@ use Rattle.model.specs.declared.Built.{Built}
 use Rattle.model.specs.declared.Answer.{Answer}
 use Rattle.model.specs.declared.Reading.{Reading}
 use Rattle.model.specs.declared.Building.{Building}
-use Rattle.model.specs.declared.Guard.{Guard}
 use Rattle.model.specs.declared.Branch.{Branch}
 use Rattle.model.specs.declared.Follower.{Follower}
 use Rattle.model.specs.declared.Started.{Started}
@@ -142,7 +142,7 @@ pub record RunsExact
 
 -- run_branches: 20, 21, 30 to 33 with at most 12 events. The run is all zero where none accepts, and on a refusal. What
 -- held the rule back is a flag and a position; both are zero where it is nothing, and on a refusal.
-abbrev pub branch_of : Refusal → Path → Guard → Branch
+abbrev pub branch_of : Refusal → Path → Option ℕ → Branch
 branch_of f p g = record {
   number = f.number;
   place = f.place;

@@ -1,4 +1,5 @@
 -- Runs over a word, ages exact in D-ths of a second (document 000, section 2).
+use Rattle.std.specs.Prelude.{Option, None}
 use Rattle.std.specs.Prelude.{Bool, true, false, ◌&&◌, ◌||◌, List, [], ◌∷◌, ◌++◌, ℕ, suc, ◌-◌, ◌+◌, eqb, ltb, length}
 use Rattle.std.specs.Prelude.{get_or}
 use Rattle.model.specs.Basics.{pick, is_in, same, zeros, bit, Refusal, refusal, refuse}
@@ -6,8 +7,6 @@ use Rattle.model.specs.Texts.{Members}
 use Rattle.model.specs.Rules.{Edge, Rule, guard_of}
 use Rattle.model.specs.Words.{Event}
 use Rattle.model.specs.Guards.{guard, is_met}
-use Rattle.model.specs.declared.Guard.{Guard}
-use Rattle.model.specs.declared.Guard.TheVariants.{Holds}
 
 -- a guard over ages, each age compared with constant · D
 abbrev pub holds : ℕ → List ℕ → Members → Bool
@@ -104,15 +103,15 @@ least_run r d vs = least_start r d vs r.initial
 
 -- What held the rule back (2.1): with at least one event and no accepting run, the guard of the lowest edge that leaves
 -- an initial location on the first symbol, by the first event's ages; nothing where there is no such edge.
-abbrev pub lowest_leaving : List ℕ → ℕ → ℕ → List ℕ → List Edge → Guard
-lowest_leaving initial s d ages [] = Holds
+abbrev pub lowest_leaving : List ℕ → ℕ → ℕ → List ℕ → List Edge → Option ℕ
+lowest_leaving initial s d ages [] = None
 lowest_leaving initial s d ages (e ∷ es) =
     pick (is_in e.source initial && eqb e.symbol s) (guard d ages (guard_of e)) (lowest_leaving initial s d ages es)
 
-unfoldable pub held_back : Rule → ℕ → List Event → Guard
-held_back r d [] = Holds
+unfoldable pub held_back : Rule → ℕ → List Event → Option ℕ
+held_back r d [] = None
 held_back r d (v ∷ vs) =
-    pick (accepts r d (v ∷ vs)) Holds
+    pick (accepts r d (v ∷ vs)) None
     (lowest_leaving r.initial v.symbol d (older v.stamp (start_ages r)) r.edges)
 
 -- All distinct configurations (location, ages) after each event, in the order in which they are found.

@@ -2,6 +2,7 @@
 #![tactic(auto)]
 
 ghost use Rattle.std.specs.Prelude.{◌≡◌, ◌-◌};
+ghost use Rattle.model.specs.Faults.{fault_number, at_once, answer_in, reading_in, building_in, started_in};
 
 // The limits of document 01 and the layouts of file and tables. Each has its name in specs/, as `edge_width` for
 // EDGE_WIDTH; what is a place inside an edge or a row has none.
@@ -139,12 +140,12 @@ pub const MOST_SCRATCH: usize = 2048;
 
 // A time since the start of the word, in D-ths of a second.
 #[repr(C)]
-#[derive(Clone, Copy)]
+#[derive(Clone, Copy, PartialEq, Eq, PartialOrd, Ord)]
 pub struct Stamp(pub u32);
 
 // A time since a reset, in D-ths of a second.
 #[repr(C)]
-#[derive(Clone, Copy)]
+#[derive(Clone, Copy, PartialEq, Eq, PartialOrd, Ord)]
 pub struct Age(pub u32);
 
 impl Stamp {
@@ -152,12 +153,65 @@ impl Stamp {
     pub fn since(self, earlier: Stamp) -> Age
         ensures { result.0 ≡ self.0 - earlier.0 }
     {
-        let now = self.0;
-        let then = earlier.0;
-        if now < then {
-            return Age(0);
-        }
-        Age(now - then)
+        Age(self.0.saturating_sub(earlier.0))
+    }
+}
+
+// Why a call is refused. Each has its number in the documents, and `number` gives it.
+#[derive(Clone, Copy, PartialEq, Eq)]
+pub enum Fault {
+    CutShort = 1,
+    BadBody = 2,
+    OutOfOrder = 3,
+    EdgeTooMany = 4,
+    BadSizes = 5,
+    OutOfRange = 6,
+    NotPinned = 7,
+    TooManyPairs = 8,
+    ShortEdges = 20,
+    NotReadable = 21,
+    ShortScratch = 22,
+    NoRoomForRow = 23,
+    NoRoomForCodes = 24,
+    OutOfShape = 25,
+    NoRoomForConfiguration = 26,
+    NoRoomForFile = 27,
+    BadGrain = 30,
+    BadCount = 31,
+    UnknownSymbol = 32,
+    FallingStamp = 33,
+    Strayed = 34,
+    OtherSymbols = 35,
+    NoRoomForStates = 36,
+    NoRoomForWord = 37,
+    BadSpan = 38,
+    NotListed = 39,
+    BadBatch = 40,
+    LongList = 43,
+}
+
+impl Fault {
+    // The documents' number.
+    pub fn number(self) -> u8
+        ensures { result ≡ fault_number self }
+    {
+        self as u8
+    }
+}
+
+// A refusal: why, and at which place.
+#[derive(Clone, Copy, PartialEq, Eq)]
+pub struct Refused {
+    pub fault: Fault,
+    pub place: usize,
+}
+
+// A refusal of the call as a whole has place 0.
+impl From<Fault> for Refused {
+    ghost from_gives = { λ fault refused. refused ≡ at_once fault };
+
+    fn from(fault: Fault) -> Refused {
+        Refused { fault, place: 0 }
     }
 }
 
@@ -173,6 +227,18 @@ pub struct Head {
     pub count: u32,
 }
 
+impl Head {
+    // No rule.
+    pub const NONE: Head = Head {
+        locations: 0,
+        symbols: 0,
+        clocks: 0,
+        starts: 0,
+        ends: 0,
+        count: 0,
+    };
+}
+
 // The built record of a table: sizes, cm as `top`, final locations as a mask, the row count R, the pool total P.
 #[repr(C)]
 #[derive(Clone, Copy)]
@@ -186,6 +252,20 @@ pub struct Built {
     pub total: u32,
 }
 
+impl Built {
+    // No table.
+    pub const NONE: Built = Built {
+        locations: 0,
+        symbols: 0,
+        clocks: 0,
+        top: 0,
+        ends: 0,
+        rows: 0,
+        total: 0,
+    };
+}
+
+// The records that cross a call to C. Their numbers and flags are the C interface; inside, outcomes are Results.
 // In every answer: the number of the refusal, 0 for none, and its place.
 // The value is the bytes written, or 1 for yes and 0 for no; 0 on a refusal.
 #[repr(C)]
@@ -212,13 +292,6 @@ pub struct Building {
     pub built: Built,
 }
 
-// A guard's answer: it holds, or the first member of its outermost level, by position from 0, that does not.
-#[derive(Clone, Copy)]
-pub enum Guard {
-    Holds,
-    Fails(usize),
-}
-
 // A run that accepts: its start and its edges, by number. All zero where there is none.
 // `held`: a guard held the rule back at the first event; its member at `position`, from 0, is the first that does not
 // hold. Both are zero where a run accepts, and wherever no guard is to be named.
@@ -243,6 +316,17 @@ pub struct Follower {
     pub reset: Stamp,
     pub last: Stamp,
     pub count: u32,
+}
+
+impl Follower {
+    // No follower: all zero, D too.
+    pub const NONE: Follower = Follower {
+        grain: 0,
+        row: 0,
+        reset: Stamp(0),
+        last: Stamp(0),
+        count: 0,
+    };
 }
 
 #[repr(C)]
@@ -327,4 +411,81 @@ pub struct Shares {
     pub place: usize,
     pub greatest: u32,
     pub lines: [u32; LINES_WIDTH],
+}
+
+// The outcomes of calls as the records that cross them.
+impl From<Result<usize, Refused>> for Answer {
+    ghost from_gives = { λ outcome given. given ≡ answer_in (λ n. n) outcome };
+
+    fn from(outcome: Result<usize, Refused>) -> Answer {
+        match outcome {
+            Ok(value) => Answer {
+                number: 0,
+                place: 0,
+                value,
+            },
+            Err(refused) => Answer {
+                number: refused.fault.number(),
+                place: refused.place,
+                value: 0,
+            },
+        }
+    }
+}
+
+impl From<Result<Head, Refused>> for Reading {
+    ghost from_gives = { λ outcome given. given ≡ reading_in outcome };
+
+    fn from(outcome: Result<Head, Refused>) -> Reading {
+        match outcome {
+            Ok(head) => Reading {
+                number: 0,
+                place: 0,
+                head,
+            },
+            Err(refused) => Reading {
+                number: refused.fault.number(),
+                place: refused.place,
+                head: Head::NONE,
+            },
+        }
+    }
+}
+
+impl From<Result<Built, Refused>> for Building {
+    ghost from_gives = { λ outcome given. given ≡ building_in outcome };
+
+    fn from(outcome: Result<Built, Refused>) -> Building {
+        match outcome {
+            Ok(built) => Building {
+                number: 0,
+                place: 0,
+                built,
+            },
+            Err(refused) => Building {
+                number: refused.fault.number(),
+                place: refused.place,
+                built: Built::NONE,
+            },
+        }
+    }
+}
+
+impl From<Result<Follower, Refused>> for Started {
+    ghost from_gives = { λ outcome given. given ≡ started_in outcome };
+
+    fn from(outcome: Result<Follower, Refused>) -> Started {
+        match outcome {
+            Ok(follower) => Started {
+                number: 0,
+                place: 0,
+                follower,
+            },
+            Err(refused) => Started {
+                number: refused.fault.number(),
+                place: refused.place,
+                follower: Follower::NONE,
+            },
+        }
+    }
 }

@@ -1,5 +1,4 @@
 pub mod Answers
-pub mod TwoNumbers
 pub mod Masks
 pub mod Parts
 pub mod Laid

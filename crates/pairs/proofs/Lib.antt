@@ -1,3 +1,2 @@
 pub mod Bases
-pub mod EdgeTests
 pub mod Agreement

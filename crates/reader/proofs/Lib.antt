@@ -1,7 +1,10 @@
-pub mod Stored
-pub mod FaultLaws
-pub mod Taken
+pub mod Lengths
+pub mod FileOrder
+pub mod Cut
 pub mod Tables
-pub mod Allowed
+pub mod Stored
+pub mod Faults
+pub mod Taken
 pub mod Steps
 pub mod Ends
+pub mod Whole

@@ -12,8 +12,15 @@ use Rattle.model.specs.Rules.{Edge, Rule, sized}
 use Rattle.model.specs.Files.{with_edge}
 use Rattle.model.specs.Layout.{edge_width, edge_numbers, edges_numbers, edge_table}
 use Rattle.model.proofs.EdgesWritten.{edge_numbers_length, edges_numbers_last}
-use Rattle.reader.specs.State.{table_with}
-use Rattle.reader.proofs.Stored.{drop_zeros}
+
+pub drop_zeros : (k n : ℕ) → drop k (zeros n) ≡ zeros (n - k)
+drop_zeros zero n = let e : n - 0 ≡ n = omega arith in rw e
+drop_zeros (suc k) zero = let e : 0 - suc k ≡ 0 = omega arith in rw e
+drop_zeros (suc k) (suc n) = let e : suc n - suc k ≡ n - k = omega arith in rw e (drop_zeros k n)
+
+-- the table with one edge more, where n edges stand
+abbrev pub table_with : ℕ → Edge → List ℕ → List ℕ
+table_with n e t = take (edge_width * n) t ++ (edge_numbers e ++ drop edge_width (drop (edge_width * n) t))
 
 take_zeros : (k n : ℕ) → k ≤ n → take k (zeros n) ≡ zeros k
 take_zeros zero n h = refl

@@ -20,6 +20,10 @@ abbrev pub count_ok : ℕ → ℕ → Bool
 count_ok kind count =
     pick (eqb kind plain_edge) (leb count most_atoms) (eqb kind grouped_edge && leb count most_text)
 
+-- the same of the edge at the front of a table
+abbrev pub front_counted : List ℕ → Bool
+front_counted t = count_ok (get_or t 0 0) (get_or t 5 0)
+
 -- where the unused places of the edge at the front of a table begin
 abbrev pub past_text : List ℕ → ℕ
 past_text t = edge_fields + text_length (get_or t 0 0) (get_or t 5 0)
@@ -30,7 +34,7 @@ unused_zero t = all_zero (take (edge_width - past_text t) (drop (past_text t) t)
 
 -- the edge at the front of a table: kind and count, no number that refuses it, and its unused places zero
 unfoldable pub edge_good : Head → List ℕ → Bool
-edge_good h t = count_ok (get_or t 0 0) (get_or t 5 0) && eqb (edge_fault h t) 0 && unused_zero t
+edge_good h t = front_counted t && eqb (edge_fault h t) 0 && unused_zero t
 
 -- the first n edges, of a kind from `least` on that never falls, and zeros up to the end of the table
 unfoldable pub edges_good : Head → ℕ → ℕ → List ℕ → Bool

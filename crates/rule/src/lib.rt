@@ -2,141 +2,111 @@
 // A direct test in one pass; no file is built.
 #![tactic(auto)]
 
-ghost use Rattle.std.specs.Prelude.{◌≡◌, ◌≤◌, length};
+ghost use Rattle.std.specs.Prelude.{◌≡◌, ◌≤◌, IsTrue, length};
+ghost use Rattle.model.specs.Faults.{answer_in};
 ghost use Rattle.model.specs.Rules.{plain_edge, most_edges};
 ghost use Rattle.model.specs.Layout.{edge_need, edge_width, is_readable};
 ghost use Rattle.model.specs.Promises.{ChecksRule};
 ghost use Rattle.numbers.specs.Lent.{all_zero};
-ghost use Rattle.rule.specs.Checks.{head_good, count_ok, edge_good, edges_good};
+ghost use Rattle.rule.specs.Checks.{head_good, count_ok, front_counted, unused_zero, edge_good, edges_good};
 
-use checks::edge_fault;
-use edges::fields::{count_of, kind_of, text_of};
-use edges::{mask_ok, pairs_of, sizes_ok};
+use checks::check_edge;
+use edges::{StoredEdge, StoredRule, mask_ok, sizes_ok};
 use model::{
-    Answer, EDGE_FIELDS, EDGE_NEED, EDGE_WIDTH, GROUPED_EDGE, Head, MOST_ATOMS, MOST_EDGES,
-    MOST_PAIRS, MOST_TEXT, PLAIN_EDGE,
+    EDGE_FIELDS, EDGE_NEED, EDGE_WIDTH, Fault, GROUPED_EDGE, Head, MOST_ATOMS, MOST_EDGES,
+    MOST_PAIRS, MOST_TEXT, PLAIN_EDGE, Refused,
 };
-use numbers::wide32;
 
-// Refusal 20 or 21, or none.
-pub fn check_rule(head: Head, edges: &[u16]) -> Answer
-    ensures { ChecksRule head edges.now result }
+// Refused with 20 or 21.
+pub fn check_rule(rule: StoredRule<'_>) -> Result<(), Refused>
+    ensures { ChecksRule rule.entry.head rule.entry.edges.now (answer_in (λ u. 0) result) }
 {
-    if edges.len() < EDGE_NEED {
-        return Answer {
-            number: 20,
-            place: 0,
-            value: 0,
-        };
+    if rule.edges.len() < EDGE_NEED {
+        return Err(Fault::ShortEdges.into());
     }
-    if readable(head, edges) {
-        return Answer {
-            number: 0,
-            place: 0,
-            value: 0,
-        };
+    if !readable(rule) {
+        return Err(Fault::NotReadable.into());
     }
-    Answer {
-        number: 21,
-        place: 0,
-        value: 0,
-    }
+    Ok(())
 }
 
-pub(crate) fn readable(head: Head, edges: &[u16]) -> bool
-    requires { edge_need ≤ length edges.now }
-    ensures { result ≡ is_readable head edges.now }
+pub(crate) fn readable(rule: StoredRule<'_>) -> bool
+    requires { edge_need ≤ length rule.edges.now }
+    ensures { result ≡ is_readable rule.entry.head rule.entry.edges.now }
 {
-    if !head_ok(head) {
+    if !head_ok(rule.head) {
         return false;
     }
-    if !edges_ok(head, edges) {
-        return false;
-    }
-    pairs_of(head, edges) <= MOST_PAIRS
+    edges_ok(rule) && rule.pairs() <= MOST_PAIRS
 }
 
+#[tactic(auto, unfolding(crate::specs::Checks::head_good))]
 pub(crate) fn head_ok(head: Head) -> bool
     ensures { result ≡ head_good head }
 {
-    let locations = wide32(head.locations);
-    if !sizes_ok(locations, wide32(head.symbols), wide32(head.clocks)) {
-        return false;
-    }
-    if !mask_ok(wide32(head.starts), locations) {
-        return false;
-    }
-    if !mask_ok(wide32(head.ends), locations) {
-        return false;
-    }
-    wide32(head.count) <= MOST_EDGES
+    let locations = head.locations as usize;
+    sizes_ok(locations, head.symbols as usize, head.clocks as usize)
+        && mask_ok(head.starts as usize, locations)
+        && mask_ok(head.ends as usize, locations)
+        && head.count as usize <= MOST_EDGES
 }
 
 // Every edge, of a kind not below the one before, then zeros up to the end of the table. An edge is handed on at its
 // fixed length.
-pub(crate) fn edges_ok(head: Head, edges: &[u16]) -> bool
-    requires { (head.count ≤ most_edges) × (edge_need ≤ length edges.now) }
-    ensures { result ≡ edges_good head plain_edge head.count edges.now }
+pub(crate) fn edges_ok(rule: StoredRule<'_>) -> bool
+    requires { (rule.head.count ≤ most_edges) × (edge_need ≤ length rule.edges.now) }
+    ensures { result ≡ edges_good rule.entry.head plain_edge rule.entry.head.count rule.entry.edges.now }
 {
-    let count = wide32(head.count);
+    let past = EDGE_WIDTH * rule.head.count as usize;
     let mut last = PLAIN_EDGE;
-    let mut e: usize = 0;
-    while e < count {
-        let at = EDGE_WIDTH * e;
-        let end = at + EDGE_WIDTH;
-        let edge = &edges[at..end];
-        let kind = kind_of(edge, 0);
-        if kind < last {
-            return false;
+    for edge in rule.edges[..past].chunks_exact(EDGE_WIDTH) {
+        let kind = StoredEdge {
+            table: edge,
+            number: 0,
         }
-        if !edge_ok(head, edge) {
+        .kind();
+        if kind < last || !edge_ok(rule.head, edge) {
             return false;
         }
         last = kind;
-        e += 1;
     }
-    let past = EDGE_WIDTH * count;
-    all_zero(&edges[past..])
+    all_zero(&rule.edges[past..])
 }
 
 // A kind that edges have, and a count that the kind has.
 pub(crate) fn count_ok(kind: usize, count: usize) -> bool
     ensures { result ≡ count_ok kind count }
 {
-    if kind == PLAIN_EDGE {
-        return count <= MOST_ATOMS;
+    match kind {
+        PLAIN_EDGE => count <= MOST_ATOMS,
+        GROUPED_EDGE => count <= MOST_TEXT,
+        _ => false,
     }
-    if kind != GROUPED_EDGE {
-        return false;
-    }
-    count <= MOST_TEXT
 }
 
 // The edge at the front of a table.
-pub(crate) fn edge_ok(head: Head, edge: &[u16]) -> bool
-    requires { edge_width ≤ length edge.now }
-    ensures { result ≡ edge_good head edge.now }
+#[tactic(auto, unfolding(crate::specs::Checks::edge_good))]
+pub(crate) fn edge_ok(head: Head, table: &[u16]) -> bool
+    requires { edge_width ≤ length table.now }
+    ensures { result ≡ edge_good head table.now }
 {
-    if !count_ok(kind_of(edge, 0), count_of(edge, 0)) {
-        return false;
-    }
-    if edge_fault(head, edge) != 0 {
-        return false;
-    }
-    let text = text_of(edge, 0);
-    let past = EDGE_FIELDS + text.len();
-    all_zero(&edge[past..EDGE_WIDTH])
+    let edge = StoredEdge { table, number: 0 };
+    count_ok(edge.kind(), edge.count()) && check_edge(head, edge).is_ok() && unused_zero(table)
+}
+
+// The places of text that the edge at the front of a table does not have.
+pub(crate) fn unused_zero(table: &[u16]) -> bool
+    requires { (edge_width ≤ length table.now) × IsTrue (front_counted table.now) }
+    ensures { result ≡ unused_zero table.now }
+{
+    let past = EDGE_FIELDS + StoredEdge { table, number: 0 }.text().len();
+    all_zero(&table[past..EDGE_WIDTH])
 }
 
 // No way out of the loop: many places are then looked at in one step.
+#[tactic(auto, using(crate::proofs::Laws::none_seen))]
 pub(crate) fn all_zero(places: &[u16]) -> bool
     ensures { result ≡ all_zero places.now }
 {
-    let mut seen: u16 = 0;
-    let mut i: usize = 0;
-    while i < places.len() {
-        seen = seen | places[i];
-        i += 1;
-    }
-    seen == 0
+    places.iter().fold(0, |seen, place| seen | *place) == 0
 }

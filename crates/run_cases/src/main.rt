@@ -3,96 +3,140 @@
 // whether the branch runner says that the word was held back, and by which member.
 #![tactic(auto)]
 
-use branch::run_branches;
+use branch::{Outcome, run_branches};
 use construct::build_table;
+use edges::StoredRule;
 use exact::run_exact;
 use follower::{follow_event, start_follower};
-use model::{Built, EDGE_NEED, Follower, Head, Stamp};
+use model::{Built, EDGE_NEED, Follower, Head, Refused, Stamp};
 use reader::read_rule;
-use std::io;
+use std::{fmt, io};
+use tables::Table;
 use walk::{run_table, verdict};
 
-fn print_refusal(rt: &impl Print, number: u8, place: usize) -> io::Result<()> {
-    println!(rt; "{number} {place}")
+// A word: D, and the symbol and the stamp of each event.
+#[derive(Clone, Copy)]
+struct Word<'a> {
+    grain: u32,
+    symbols: &'a [u16],
+    stamps: &'a [u32],
+}
+
+// A rule and its table.
+#[derive(Clone, Copy)]
+struct Runners<'a> {
+    rule: StoredRule<'a>,
+    table: Table<'a>,
+}
+
+// Number and place of a refusal, both 0 where there is none. Each program has its own: programs share no crate.
+#[derive(Clone, Copy)]
+struct Shown(Option<Refused>);
+
+impl fmt::Display for Shown {
+    fn fmt<W: fmt::Write>(&self, f: &mut fmt::Formatter<W>) -> fmt::Result {
+        match self.0 {
+            Some(refused) => write!(f, "{} {}", refused.fault.number(), refused.place),
+            None => write!(f, "0 0"),
+        }
+    }
 }
 
 // The follower's verdict after all events, from the start.
-fn follow_all(
-    built: Built,
-    cells: &[u32],
-    rows: &[u32],
-    pool: &[u32],
-    grain: u32,
-    symbols: &[u16],
-    stamps: &[u32],
-) -> bool {
-    let started = start_follower(grain);
-    let mut follower = started.follower;
-    for (symbol, stamp) in symbols.iter().zip(stamps) {
-        let followed = follow_event(follower, built, cells, rows, pool, *symbol, Stamp(*stamp));
-        follower = followed.follower;
+fn follow_all(table: Table<'_>, word: Word<'_>) -> Result<bool, Refused> {
+    let mut follower = start_follower(word.grain)?;
+    for (symbol, stamp) in word.symbols.iter().zip(word.stamps) {
+        let (next, _) = follow_event(follower, table, *symbol, Stamp(*stamp))?;
+        follower = next;
     }
-    verdict(rows, follower.row)
+    Ok(verdict(table, follower.row))
+}
+
+fn accepts(outcome: Outcome) -> bool {
+    match outcome {
+        Outcome::Accepts(_) => true,
+        Outcome::Blank { .. } => false,
+    }
 }
 
 // A word's verdict by each runner.
-fn print_word(
-    rt: &impl Print,
-    head: Head,
-    edges: &[u16],
-    built: Built,
-    cells: &[u32],
-    rows: &[u32],
-    pool: &[u32],
-    grain: u32,
-    symbols: &[u16],
-    stamps: &[u32],
-) -> io::Result<()> {
-    let mut scratch = [7u32; 64];
-    let exact = run_exact(head, edges, grain, symbols, stamps, &mut scratch).value;
-    let branch = run_branches(head, edges, grain, symbols, stamps).found as u8;
-    let table = run_table(built, cells, rows, pool, grain, symbols, stamps).value;
-    let followed = follow_all(built, cells, rows, pool, grain, symbols, stamps) as u8;
-    println!(rt; "{exact}{branch}{table}{followed}")
+fn print_word(rt: &impl Print, runners: Runners<'_>, word: Word<'_>) -> io::Result<()> {
+    let Runners { rule, table } = runners;
+    let Word {
+        grain,
+        symbols,
+        stamps,
+    } = word;
+    let verdicts = [
+        run_exact(rule, grain, symbols, stamps, &mut [7u32; 64]),
+        run_branches(rule, grain, symbols, stamps).map(accepts),
+        run_table(table, grain, symbols, stamps),
+        follow_all(table, word),
+    ];
+    for verdict in verdicts {
+        print!(rt; "{}", verdict.unwrap_or(false) as u8)?;
+    }
+    println!(rt)
+}
+
+// Low and good return in turn at 1, 2, 2 and 3 s: no event, the first, the first two, ..
+fn print_starts(rt: &impl Print, runners: Runners<'_>) -> io::Result<()> {
+    let symbols = [0u16, 1, 0, 1];
+    let stamps = [2u32, 4, 4, 6];
+    for n in 0..5 {
+        let word = Word {
+            grain: 2,
+            symbols: &symbols[..n],
+            stamps: &stamps[..n],
+        };
+        print_word(rt, runners, word)?;
+    }
+    Ok(())
+}
+
+// At 1 and 1.5 s; at 0.5 s; at 1 and 2 1/3 s, in thirds of a second.
+fn print_times(rt: &impl Print, runners: Runners<'_>) -> io::Result<()> {
+    let half = Word {
+        grain: 2,
+        symbols: &[0u16, 1],
+        stamps: &[2u32, 3],
+    };
+    let once = Word {
+        grain: 2,
+        symbols: &[0u16],
+        stamps: &[1u32],
+    };
+    let thirds = Word {
+        grain: 3,
+        symbols: &[0u16, 1],
+        stamps: &[3u32, 7],
+    };
+    for word in [half, once, thirds] {
+        print_word(rt, runners, word)?;
+    }
+    Ok(())
 }
 
 // What the exact runner answers in a room, over one file and one event.
-fn print_exact(
-    rt: &impl Print,
-    file: &[u8],
-    scratch: &mut [u32],
-    symbols: &[u16],
-    stamps: &[u32],
-) -> io::Result<()> {
+fn print_exact(rt: &impl Print, file: &[u8], scratch: &mut [u32]) -> io::Result<()> {
     let mut edges = [7u16; EDGE_NEED];
-    let reading = read_rule(file, &mut edges);
-    let head = reading.head;
-    let answer = run_exact(head, &edges, 2, symbols, stamps, scratch);
-    print_refusal(rt, answer.number, answer.place)
+    let head = read_rule(file, &mut edges).unwrap_or(Head::NONE);
+    let rule = StoredRule {
+        head,
+        edges: &edges,
+    };
+    let outcome = run_exact(rule, 2, &[0u16], &[2u32], scratch);
+    println!(rt; "{}", Shown(outcome.err()))
 }
 
 // What the table runner answers to a word.
-fn print_table(
-    rt: &impl Print,
-    built: Built,
-    cells: &[u32],
-    rows: &[u32],
-    pool: &[u32],
-    grain: u32,
-    symbols: &[u16],
-    stamps: &[u32],
-) -> io::Result<()> {
-    let answer = run_table(built, cells, rows, pool, grain, symbols, stamps);
-    print_refusal(rt, answer.number, answer.place)
+fn print_table(rt: &impl Print, table: Table<'_>, word: Word<'_>) -> io::Result<()> {
+    let outcome = run_table(table, word.grain, word.symbols, word.stamps);
+    println!(rt; "{}", Shown(outcome.err()))
 }
 
-fn print_stray(
-    rt: &impl Print,
-    built: Built,
-    cells: &[u32],
-    rows: &[u32],
-    pool: &[u32],
-) -> io::Result<()> {
+// A follower that is in no row of the table.
+fn print_stray(rt: &impl Print, table: Table<'_>) -> io::Result<()> {
     let stray = Follower {
         grain: 2,
         row: 3,
@@ -100,202 +144,128 @@ fn print_stray(
         last: Stamp(0),
         count: 0,
     };
-    let followed = follow_event(stray, built, cells, rows, pool, 0, Stamp(2));
-    print_refusal(rt, followed.number, followed.place)
+    let outcome = follow_event(stray, table, 0, Stamp(2));
+    println!(rt; "{}", Shown(outcome.err()))
 }
 
-// Low and good return in turn at 1, 2, 2 and 3 s: no event, the first, the first two, ..
-fn print_starts(
-    rt: &impl Print,
-    head: Head,
-    edges: &[u16],
-    built: Built,
-    cells: &[u32],
-    rows: &[u32],
-    pool: &[u32],
-) -> io::Result<()> {
-    let symbols = [0u16, 1, 0, 1];
-    let stamps = [2u32, 4, 4, 6];
-    for n in 0..5 {
-        let events = &symbols[..n];
-        let at = &stamps[..n];
-        print_word(rt, head, edges, built, cells, rows, pool, 2, events, at)?;
+// D of 0; a stamp too few; an unknown symbol; a stamp that falls.
+fn print_table_refusals(rt: &impl Print, table: Table<'_>) -> io::Result<()> {
+    let no_grain = Word {
+        grain: 0,
+        symbols: &[0u16],
+        stamps: &[2u32],
+    };
+    let short = Word {
+        grain: 2,
+        symbols: &[0u16, 1],
+        stamps: &[2u32],
+    };
+    let unknown = Word {
+        grain: 2,
+        symbols: &[0u16, 2],
+        stamps: &[2u32, 1],
+    };
+    let falling = Word {
+        grain: 2,
+        symbols: &[0u16, 1],
+        stamps: &[2u32, 1],
+    };
+    for word in [no_grain, short, unknown, falling] {
+        print_table(rt, table, word)?;
     }
     Ok(())
 }
 
-// At 1 and 1.5 s; at 0.5 s; at 1 and 2 1/3 s, in thirds of a second.
-fn print_times(
-    rt: &impl Print,
-    head: Head,
-    edges: &[u16],
-    built: Built,
-    cells: &[u32],
-    rows: &[u32],
-    pool: &[u32],
-) -> io::Result<()> {
-    let both = [0u16, 1];
-    print_word(
-        rt,
-        head,
-        edges,
-        built,
-        cells,
-        rows,
-        pool,
-        2,
-        &both,
-        &[2u32, 3],
-    )?;
-    print_word(
-        rt,
-        head,
-        edges,
-        built,
-        cells,
-        rows,
-        pool,
-        2,
-        &[0u16],
-        &[1u32],
-    )?;
-    print_word(
-        rt,
-        head,
-        edges,
-        built,
-        cells,
-        rows,
-        pool,
-        3,
-        &both,
-        &[3u32, 7],
-    )
-}
-
-fn print_refusals(
-    rt: &impl Print,
-    file: &[u8],
-    built: Built,
-    cells: &[u32],
-    rows: &[u32],
-    pool: &[u32],
-) -> io::Result<()> {
+fn print_refusals(rt: &impl Print, file: &[u8], table: Table<'_>) -> io::Result<()> {
     let either =
         b"\x06\0\x01\0\x02\0\x01\0\x01\0\x02\0\x02\0\0\0\x08\0\x05\0\0\0\0\0\0\0\0\0\x08\0\x05\0\0\0\x01\0\0\0\0\0";
-    print_exact(rt, file, &mut [7u32; 3], &[0u16], &[2u32])?;
-    print_exact(rt, either, &mut [7u32; 4], &[0u16], &[2u32])?;
-    print_table(rt, built, cells, rows, pool, 0, &[0u16], &[2u32])?;
-    print_table(rt, built, cells, rows, pool, 2, &[0u16, 1], &[2u32])?;
-    print_table(rt, built, cells, rows, pool, 2, &[0u16, 2], &[2u32, 1])?;
-    print_table(rt, built, cells, rows, pool, 2, &[0u16, 1], &[2u32, 1])?;
-    print_stray(rt, built, cells, rows, pool)
+    print_exact(rt, file, &mut [7u32; 3])?;
+    print_exact(rt, either, &mut [7u32; 4])?;
+    print_table_refusals(rt, table)?;
+    print_stray(rt, table)
 }
 
 // Whether a word is held back, and the member of the outermost level that does not hold.
-fn print_held(
-    rt: &impl Print,
-    head: Head,
-    edges: &[u16],
-    symbols: &[u16],
-    stamps: &[u32],
-) -> io::Result<()> {
-    let branch = run_branches(head, edges, 2, symbols, stamps);
-    println!(rt; "{} {}", branch.held as u8, branch.position)
+fn print_held(rt: &impl Print, rule: StoredRule<'_>, word: Word<'_>) -> io::Result<()> {
+    match run_branches(rule, word.grain, word.symbols, word.stamps) {
+        Ok(
+            Outcome::Blank {
+                held: Some(position),
+            },
+        ) => println!(rt; "1 {position}"),
+        _ => println!(rt; "0 0"),
+    }
 }
 
-// A word of one event, on symbol 0 at so many half seconds.
-fn print_once(
-    rt: &impl Print,
-    head: Head,
-    edges: &[u16],
-    built: Built,
-    cells: &[u32],
-    rows: &[u32],
-    pool: &[u32],
-    stamp: u32,
-) -> io::Result<()> {
-    print_word(
-        rt,
-        head,
-        edges,
-        built,
-        cells,
-        rows,
-        pool,
-        2,
-        &[0u16],
-        &[stamp],
-    )?;
-    print_held(rt, head, edges, &[0u16], &[stamp])
-}
-
-// Above 0, and below 2 or both at least 3 and not 4: at 0, 1, 2, 2.5, 3, 4 and 4.5 s.
-fn print_either(
-    rt: &impl Print,
-    head: Head,
-    edges: &[u16],
-    built: Built,
-    cells: &[u32],
-    rows: &[u32],
-    pool: &[u32],
-) -> io::Result<()> {
-    print_once(rt, head, edges, built, cells, rows, pool, 0)?;
-    print_once(rt, head, edges, built, cells, rows, pool, 2)?;
-    print_once(rt, head, edges, built, cells, rows, pool, 4)?;
-    print_once(rt, head, edges, built, cells, rows, pool, 5)?;
-    print_once(rt, head, edges, built, cells, rows, pool, 6)?;
-    print_once(rt, head, edges, built, cells, rows, pool, 8)?;
-    print_once(rt, head, edges, built, cells, rows, pool, 9)
+// Above 0, and below 2 or both at least 3 and not 4: one event on symbol 0 at 0, 1, 2, 2.5, 3, 4 and 4.5 s.
+fn print_either(rt: &impl Print, runners: Runners<'_>) -> io::Result<()> {
+    for stamp in [0u32, 2, 4, 5, 6, 8, 9] {
+        let word = Word {
+            grain: 2,
+            symbols: &[0u16],
+            stamps: &[stamp],
+        };
+        print_word(rt, runners, word)?;
+        print_held(rt, runners.rule, word)?;
+    }
+    Ok(())
 }
 
 // Forth at 1 s, reset at 4 s, back at 5 s, and forth again, at 7 s or too early at 6 s. Back at 4 s: stuck.
-fn print_again(
-    rt: &impl Print,
-    head: Head,
-    edges: &[u16],
-    built: Built,
-    cells: &[u32],
-    rows: &[u32],
-    pool: &[u32],
-) -> io::Result<()> {
-    let forth = [0u16, 0, 1, 0];
-    print_word(
-        rt,
+fn print_again(rt: &impl Print, runners: Runners<'_>) -> io::Result<()> {
+    let again = Word {
+        grain: 2,
+        symbols: &[0u16, 0, 1, 0],
+        stamps: &[2u32, 8, 10, 14],
+    };
+    let early = Word {
+        stamps: &[2u32, 8, 10, 12],
+        ..again
+    };
+    let stuck = Word {
+        grain: 2,
+        symbols: &[0u16, 1, 0],
+        stamps: &[2u32, 8, 8],
+    };
+    for word in [again, early, stuck] {
+        print_word(rt, runners, word)?;
+    }
+    Ok(())
+}
+
+// What a file's rule and its table show, in room that they fill.
+fn with_rule<F>(file: &[u8], scratch: &mut [u32], cells: &mut [u32], show: F) -> io::Result<()>
+where
+    F: FnOnce(Runners<'_>) -> io::Result<()>,
+    requires { (runners : _) → F.pre show runners }
+{
+    let mut edges = [7u16; EDGE_NEED];
+    let head = read_rule(file, &mut edges).unwrap_or(Head::NONE);
+    let rule = StoredRule {
         head,
-        edges,
+        edges: &edges,
+    };
+    let mut rows = [7u32; 9];
+    let mut pool = [7u32; 2];
+    let built = build_table(rule, scratch, cells, &mut rows, &mut pool).unwrap_or(Built::NONE);
+    let table = Table {
         built,
         cells,
-        rows,
-        pool,
-        2,
-        &forth,
-        &[2u32, 8, 10, 14],
-    )?;
-    print_word(
-        rt,
-        head,
-        edges,
-        built,
-        cells,
-        rows,
-        pool,
-        2,
-        &forth,
-        &[2u32, 8, 10, 12],
-    )?;
-    print_word(
-        rt,
-        head,
-        edges,
-        built,
-        cells,
-        rows,
-        pool,
-        2,
-        &[0u16, 1, 0],
-        &[2u32, 8, 8],
-    )
+        rows: &rows,
+        pool: &pool,
+    };
+    show(Runners { rule, table })
+}
+
+// Edges forth and back; what one runner alone is asked.
+fn print_plain(rt: &impl Print) -> io::Result<()> {
+    let worked = b"\x06\0\x01\0\x02\0\x02\0\x01\0\x02\0\x02\0\0\0\x02\0\x03\0\0\0\
+        \x0e\0\x05\0\0\0\x01\0\0\0\x01\0\0\0\x02\0\x01\0\x0e\0\x05\0\x01\0\0\0\x01\0\0\0\0\0\x03\0\x01\0";
+    with_rule(worked, &mut [7u32; 6], &mut [7u32; 24], |runners| {
+        print_starts(rt, runners)?;
+        print_times(rt, runners)?;
+        print_refusals(rt, worked, runners.table)
+    })
 }
 
 // A plain edge back, not equal 4; forth with groups; and one that resets at 4, pinned outside its group.
@@ -305,33 +275,13 @@ fn print_groups(rt: &impl Print) -> io::Result<()> {
         \x30\0\x06\0\0\0\x01\0\0\0\0\0\x03\0\0\0\x04\0\0\0\x02\0\x03\0\0\0\0\0\x02\0\x01\0\x03\0\0\0\x03\0\x03\0\
         \x03\0\0\0\x05\0\x04\0\x04\0\x04\0\
         \x1c\0\x06\0\x01\0\x01\0\0\0\x01\0\x03\0\0\0\x02\0\x04\0\x02\0\x03\0\0\0\x05\0\x03\0\x04\0";
-    let mut edges = [7u16; EDGE_NEED];
-    let reading = read_rule(file, &mut edges);
-    let head = reading.head;
-    let mut scratch = [7u32; 12];
-    let mut cells = [7u32; 60];
-    let mut rows = [7u32; 9];
-    let mut pool = [7u32; 2];
-    let building = build_table(head, &edges, &mut scratch, &mut cells, &mut rows, &mut pool);
-    let built = building.built;
-    print_either(rt, head, &edges, built, &cells, &rows, &pool)?;
-    print_again(rt, head, &edges, built, &cells, &rows, &pool)
+    with_rule(file, &mut [7u32; 12], &mut [7u32; 60], |runners| {
+        print_either(rt, runners)?;
+        print_again(rt, runners)
+    })
 }
 
 fn main(rt: HostRuntime) -> io::Result<()> {
-    let worked = b"\x06\0\x01\0\x02\0\x02\0\x01\0\x02\0\x02\0\0\0\x02\0\x03\0\0\0\
-        \x0e\0\x05\0\0\0\x01\0\0\0\x01\0\0\0\x02\0\x01\0\x0e\0\x05\0\x01\0\0\0\x01\0\0\0\0\0\x03\0\x01\0";
-    let mut edges = [7u16; EDGE_NEED];
-    let reading = read_rule(worked, &mut edges);
-    let head = reading.head;
-    let mut scratch = [7u32; 6];
-    let mut cells = [7u32; 24];
-    let mut rows = [7u32; 9];
-    let mut pool = [7u32; 2];
-    let building = build_table(head, &edges, &mut scratch, &mut cells, &mut rows, &mut pool);
-    let built = building.built;
-    print_starts(&rt, head, &edges, built, &cells, &rows, &pool)?;
-    print_times(&rt, head, &edges, built, &cells, &rows, &pool)?;
-    print_refusals(&rt, worked, built, &cells, &rows, &pool)?;
+    print_plain(&rt)?;
     print_groups(&rt)
 }

@@ -1,4 +1,5 @@
-pub mod Sizes
+pub mod Ranging
+pub mod Rows
 pub mod Loops
 pub mod Reciprocal
 pub mod Saying

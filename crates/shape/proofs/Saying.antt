@@ -6,6 +6,7 @@ use Prim.Native.Nat.{ℕ, zero, suc, ◌+◌, ◌-◌, ◌*◌, ◌/◌, ◌≤�
 use native.Mathlib.Omega.{arith}
 use native.Mathlib.Numerals.{add-one}
 use native.Mathlib.Nat.{one-le-pow, mul-le-mul_right}
+use mir.Val.{bool_byte}
 use lib.Dec.{eqb, ltb, leb}
 use lib.ListN.{length, get_or, take, drop, length-drop, drop_of_length-le}
 use lib.Seq.{drop-cons, get_or-take, get_or-drop, length-take-le}
@@ -24,44 +25,29 @@ use Rattle.shape.specs.Verdicts.{whole, reciprocal, final_by, ProductsFit, Settl
 use Rattle.shape.proofs.Reciprocal.{by_reciprocal, product_fits}
 
 -- Codes: what was found so far or is found among those to come is what is found in all.
-pub record Said (m ends : ℕ) (xs : List ℕ) (says i : ℕ) : Type 0 where
+pub record Said (m ends : ℕ) (xs : List ℕ) (says : Bool) (i : ℕ) : Type 0 where
   pub turns : i ≤ length xs
-  pub found : Bool
-  pub says_is : says ≡ one_if found
-  pub rest_is : (found || final_by m ends (drop i xs)) ≡ final_by m ends xs
+  pub rest_is : (says || final_by m ends (drop i xs)) ≡ final_by m ends xs
 
-pub said_start : (m ends : ℕ) (xs : List ℕ) → Said m ends xs 0 0
-said_start m ends xs = record { turns = omega arith; found = false; says_is = refl; rest_is = refl }
+pub said_start : (m ends : ℕ) (xs : List ℕ) → Said m ends xs false 0
+said_start m ends xs = record { turns = omega arith; rest_is = refl }
 
-module _ {m ends : ℕ} {xs : List ℕ} {says i : ℕ} (inv : Said m ends xs says i) where
-  pub said_end : length xs ≤ i → says ≡ one_if (final_by m ends xs)
+module _ {m ends : ℕ} {xs : List ℕ} {says : Bool} {i : ℕ} (inv : Said m ends xs says i) where
+  pub said_end : length xs ≤ i → says ≡ final_by m ends xs
   said_end h =
-      inv.says_is
-      ∙ ap one_if
-      (sym (or_none inv.found)
-      ∙ (ap (λ (l : List ℕ). inv.found || final_by m ends l) (sym (drop_of_length-le xs h)) ∙ inv.rest_is))
+      sym (or_none says)
+      ∙ (ap (λ (l : List ℕ). says || final_by m ends l) (sym (drop_of_length-le xs h)) ∙ inv.rest_is)
 
-  -- a turn of it: `x` is the code as read, `set` the final locations
-  module _ (x set : ℕ) (h : i < length xs) (code_is : x ≡ get_or xs i 0) (set_is : set ≡ ends) where
-    said_rest :
-        final_by m ends xs ≡ (inv.found || (bit (x * m / whole) set || final_by m ends (drop (i + 1) xs)))
-    said_rest = sym inv.rest_is ∙ rw (drop-cons xs i 0 h, ← code_is, set_is, add-one i)
+  said_rest :
+      i < length xs
+      → final_by m ends xs ≡ (says || (bit (get_or xs i 0 * m / whole) ends || final_by m ends (drop (i + 1) xs)))
+  said_rest h = sym inv.rest_is ∙ rw (drop-cons xs i 0 h, add-one i)
 
-    pub said_no : bit (x * m / whole) set ≡ false → Said m ends xs says (i + 1)
-    said_no e = record {
-      turns = omega arith;
-      found = inv.found;
-      says_is = inv.says_is;
-      rest_is = sym (said_rest ∙ rw e);
-    }
+  pub said_no : i < length xs → bit (get_or xs i 0 * m / whole) ends ≡ false → Said m ends xs says (i + 1)
+  said_no h e = record { turns = omega arith; rest_is = sym (said_rest h ∙ rw e) }
 
-    pub said_yes : bit (x * m / whole) set ≡ true → Said m ends xs 1 (i + 1)
-    said_yes e = record {
-      turns = omega arith;
-      found = true;
-      says_is = refl;
-      rest_is = sym (said_rest ∙ rw e (or_right inv.found true refl));
-    }
+  pub said_yes : i < length xs → bit (get_or xs i 0 * m / whole) ends ≡ true → Said m ends xs true (i + 1)
+  said_yes h e = record { turns = omega arith; rest_is = sym (said_rest h ∙ rw e (or_right says true refl)) }
 
 -- Where all codes are below 65,536, the multiplication finds their locations.
 abbrev pub Under : ℕ → List ℕ → Type 0
@@ -105,14 +91,7 @@ module _ {b : Built} {rows pool : List ℕ} (s : Settled b rows pool) where
       (and_left (sizes_in_range b && pairs) (within 1 most_rows b.rows) s.sizes))) in
       omega (arith, pairs_most, mul-le-mul_right (location_weight b) some.locations_least)
 
-  -- a row lies in the row table; its codes lie in the first P numbers of the pool, and are below 65,536
-  pub row_inside : {i n : ℕ} → i < b.rows → n ≡ i → row_width * n + row_width ≤ length rows
-  row_inside {i} h e =
-      let long =
-      leb-true (row_width * b.rows) (length rows)
-      (and_left (leb (row_width * b.rows) (length rows)) (rows_chain b.rows 0 rows b.total) s.chain) in
-      omega (arith, long)
-
+  -- a row's codes lie in the first P numbers of the pool, and are below 65,536
   pub row_in_pool : (i : ℕ) → i < b.rows → row_start rows i + row_length rows i ≤ b.total
   row_in_pool i h =
       row_ends b.rows 0 rows b.total i
@@ -150,23 +129,23 @@ module _ {b : Built} {rows pool : List ℕ} (s : Settled b rows pool) where
 
         -- what is found in it is what the row's codes say
         pub part_said :
-            {r : ℕ} → r ≡ one_if (final_by m b.ends (take (start + n - start) (drop start pool)))
-            → r ≡ one_if (codes_say b (codes_at rows pool i))
+            {r : Bool} → r ≡ final_by m b.ends (take (start + n - start) (drop start pool))
+            → r ≡ codes_say b (codes_at rows pool i)
         part_said e =
             let codes = codes_at rows pool i in
             let said : final_by (reciprocal (location_weight b)) b.ends codes ≡ codes_say b codes =
             final_by_lem (location_weight b) weight_some weight_most b.ends codes (row_under i h) in
             e ∙ rw (part_is, reciprocal_is, weight_is, said)
 
+-- a flag as the number that is stored for it
+pub flag_number : (b : Bool) → bool_byte b ≡ one_if b
+flag_number true = refl
+flag_number false = refl
+
 -- Rows: what holds of those to come is what holds of all.
 pub record Checked (b : Built) (rows pool : List ℕ) (i : ℕ) : Type 0 where
   pub turns : i ≤ b.rows
   pub rest_is : verdicts_ok (b.rows - i) i b rows pool ≡ verdicts_ok b.rows 0 b rows pool
-
-pub checked_start : (b : Built) (rows pool : List ℕ) → Checked b rows pool 0
-checked_start b rows pool =
-    let z : b.rows - 0 ≡ b.rows = omega arith in
-    record { turns = omega arith; rest_is = rw z }
 
 module _ {b : Built} {rows pool : List ℕ} {i : ℕ} (inv : Checked b rows pool i) where
   pub checked_end : b.rows ≤ i → true ≡ verdicts_ok b.rows 0 b rows pool

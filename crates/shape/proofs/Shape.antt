@@ -5,48 +5,31 @@ use mathlib.Core.List.{List}
 use Prim.Native.Nat.{ℕ, ◌*◌, ◌≤◌}
 use lib.Dec.{leb}
 use lib.ListN.{length, take}
-use lib.Seq.{length-take-le}
 use borrow.Author.Tests.{leb-true}
 use Rattle.model.specs.declared.Built.{Built}
-use Rattle.model.specs.Basics.{within, all_below}
-use Rattle.model.specs.Rules.{most_pairs}
-use Rattle.model.specs.Construction.{most_rows}
+use Rattle.model.specs.Basics.{all_below}
 use Rattle.model.specs.Tables.{Tables, tables, row_width}
 use Rattle.model.specs.Walks.{built_pairs, built_sizes_ok, built_width, cell_need, long_enough}
-use Rattle.model.specs.Walks.{rows_chain, cells_ok, verdicts_ok, in_shape, shape_refusal}
-use Rattle.model.specs.Promises.{answer_of}
-use Rattle.model.proofs.Logic.{no_way, and_left, and_right, within_most}
-use Rattle.shape.specs.Ranges.{sizes_in_range, InRange, counts_ok, long_ok, rows_ok}
+use Rattle.model.specs.Walks.{rows_chain, cells_ok, verdicts_ok, in_shape}
+use Rattle.model.proofs.Logic.{no_way, and_left, and_right}
+use Rattle.shape.specs.Ranges.{sizes_in_range, counts_ok, long_ok, rows_ok}
 use Rattle.shape.specs.Verdicts.{Settled}
-use Rattle.shape.proofs.Sizes.{in_range}
 
--- 25 or no refusal
-pub shape_passes :
-    (t : Tables) → in_shape t ≡ true → record { number = 0; place = 0; value = 0 } ≡ answer_of (shape_refusal t) 0
-unfolding shape_refusal
-shape_passes t h = rw h
-
-pub shape_refused :
-    (t : Tables) → in_shape t ≡ false → record { number = 25; place = 0; value = 0 } ≡ answer_of (shape_refusal t) 0
-unfolding shape_refusal
-shape_refused t h = rw h
-
--- What is settled before the rows `ns`: sizes and lengths; `p` is P as read.
-pub record Sized (b : Built) (cs ns ps : List ℕ) (p : ℕ) : Type 0 where
+-- What is settled before the rows `ns`: sizes and lengths.
+pub record Sized (b : Built) (cs ns ps : List ℕ) : Type 0 where
   pub sizes : built_sizes_ok b ≡ true
   pub long : long_ok b cs ps ≡ true
-  pub total_is : p ≡ b.total
 
 -- And before the codes: there are R rows, in a chain; `m` is N.
-pub record Linked (b : Built) (cs ns ps : List ℕ) (p m : ℕ) : Type 0 where
-  pub sized : Sized b cs ns ps p
-  pub rows : rows_ok b.rows ns p ≡ true
+pub record Linked (b : Built) (cs ns ps : List ℕ) (m : ℕ) : Type 0 where
+  pub sized : Sized b cs ns ps
+  pub rows : rows_ok b.rows ns b.total ≡ true
   pub pairs_are : m ≡ built_pairs b
 
 -- And before the cells: the codes are below N; `k` is the number of cells.
-pub record Coded (b : Built) (cs ns ps : List ℕ) (p m k : ℕ) : Type 0 where
-  pub linked : Linked b cs ns ps p m
-  pub codes : all_below m (take p ps) ≡ true
+pub record Coded (b : Built) (cs ns ps : List ℕ) (m k : ℕ) : Type 0 where
+  pub linked : Linked b cs ns ps m
+  pub codes : all_below m (take b.total ps) ≡ true
   pub need_is : k ≡ cell_need b
 
 -- sizes and counts together, as plain bounds
@@ -56,12 +39,6 @@ module _ (b : Built) (m : ℕ) (r : sizes_in_range b ≡ true) (e : m ≡ built_
 
   sizes_fail : counts_ok m b.rows ≡ false → built_sizes_ok b ≡ false
   sizes_fail h = rw r (rw e at h)
-
-pub ranges : (b : Built) → built_sizes_ok b ≡ true → InRange b
-ranges b h =
-    let pairs = leb (built_pairs b) most_pairs in
-    let rows = within 1 most_rows b.rows in
-    in_range b (and_left (sizes_in_range b) pairs (and_left (sizes_in_range b && pairs) rows h))
 
 record Long (b : Built) (cs ps : List ℕ) : Type 0 where
   cells_long : cell_need b ≤ length cs
@@ -111,39 +88,26 @@ too_short t s h =
     rw (s, long)
 
 module _ {b : Built} {cs ns ps : List ℕ} where
-  module _ {p : ℕ} (s : Sized b cs ns ps p) where
-    pub pool_part : p ≡ length (take p ps)
-    pool_part = sym (length-take-le p ps (rw s.total_is (long_of b cs ps s.long).pool_long))
-
+  module _ (s : Sized b cs ns ps) where
     -- lengths and chain together are what is asked of the rows
-    rows_are : (long_enough (tables b cs ns ps) && rows_chain b.rows 0 ns b.total) ≡ rows_ok b.rows ns p
+    rows_are : (long_enough (tables b cs ns ps) && rows_chain b.rows 0 ns b.total) ≡ rows_ok b.rows ns b.total
     rows_are =
         let cells = leb (cell_need b) (length cs) in
         let pool = leb b.total (length ps) in
-        rw s.total_is (chain_by cells (leb (row_width * b.rows) (length ns)) pool _ s.long)
+        chain_by cells (leb (row_width * b.rows) (length ns)) pool _ s.long
 
-    pub rows_out : rows_ok b.rows ns p ≡ false → false ≡ in_shape (tables b cs ns ps)
+    pub rows_out : rows_ok b.rows ns b.total ≡ false → false ≡ in_shape (tables b cs ns ps)
     unfolding in_shape
     rows_out h = rw (s.sizes, rows_are, h)
 
-  module _ {p m : ℕ} (l : Linked b cs ns ps p m) where
-    pub code_out : all_below m (take p ps) ≡ false → false ≡ in_shape (tables b cs ns ps)
+  module _ {m : ℕ} (l : Linked b cs ns ps m) where
+    pub code_out : all_below m (take b.total ps) ≡ false → false ≡ in_shape (tables b cs ns ps)
     unfolding in_shape
-    code_out h = rw (l.sized.sizes, rows_are l.sized, l.rows, rw (l.pairs_are, l.sized.total_is) at h)
+    code_out h = rw (l.sized.sizes, rows_are l.sized, l.rows, rw l.pairs_are at h)
 
-  module _ {p m k : ℕ} (d : Coded b cs ns ps p m k) where
-    pub rows_most : b.rows ≤ most_rows
-    rows_most =
-        let first = sizes_in_range b && leb (built_pairs b) most_pairs in
-        let rows = within 1 most_rows b.rows in
-        within_most 1 most_rows b.rows (and_right first rows d.linked.sized.sizes)
-
-    pub cells_part : k ≡ length (take k cs)
-    cells_part =
-        sym (length-take-le k cs (rw d.need_is (long_of b cs ps d.linked.sized.long).cells_long))
-
+  module _ {m k : ℕ} (d : Coded b cs ns ps m k) where
     codes_are : all_below (built_pairs b) (take b.total ps) ≡ true
-    codes_are = rw (d.linked.pairs_are, d.linked.sized.total_is) at d.codes
+    codes_are = rw d.linked.pairs_are at d.codes
 
     -- cells and stored verdicts are what is left
     last_two :
@@ -160,7 +124,7 @@ module _ {b : Built} {cs ns ps : List ℕ} where
     pub settled : Settled b ns ps
     settled = record {
       sizes = d.linked.sized.sizes;
-      chain = rw d.linked.sized.total_is at d.linked.rows;
+      chain = d.linked.rows;
       pool_long = (long_of b cs ps d.linked.sized.long).pool_long;
       codes = codes_are;
     }

@@ -1,38 +1,25 @@
 -- Numbers cut just above 1,000,000: sums and products of cut numbers are cut where those of the numbers are; the sum of
 -- a list, number by number.
 use mathlib.Core.Path.{◌≡◌, refl, sym, ◌∙◌, ap}
-use mathlib.Core.List.{List, [], ◌∷◌, ◌++◌}
-use Prim.Native.Nat.{ℕ, zero, suc, ◌+◌, ◌*◌, ◌^◌, ◌≤◌, ◌<◌}
+use mathlib.Core.List.{List}
+use Prim.Native.Nat.{ℕ, zero, suc, ◌+◌, ◌*◌, ◌≤◌, ◌<◌}
 use native.Mathlib.Numerals.{add-one}
 use native.Mathlib.Nat.{zero-mul, one-mul}
 use native.Mathlib.Omega.{arith}
-use lib.Dec.{ltb, leb}
+use lib.Dec.{ltb}
 use lib.ListN.{length, take, get_or}
-use lib.Seq.{take-suc, take_all}
-use borrow.Author.Tests.{ltb-true, ltb-false, lt-ltb, le-ltb, le-leb, leb-true}
-use Rattle.model.specs.Basics.{lesser}
+use borrow.Author.Tests.{ltb-true, ltb-false, lt-ltb, le-ltb}
 use Rattle.model.specs.Shares.{most_words}
 use Rattle.model.proofs.Logic.{by_test}
-use Rattle.shares.specs.Lengths.{cut, sum}
+use Rattle.shares.specs.Lengths.{cut}
+use Rattle.std.specs.Prelude.{sum}
+use Rattle.std.proofs.lemmas.List.Sums.{sum_by_more}
 
 pub cut_over : (x : ℕ) → most_words < x → cut x ≡ suc most_words
 cut_over x h = rw (lt-ltb most_words x h)
 
 pub cut_under : (x : ℕ) → x ≤ most_words → cut x ≡ x
 cut_under x h = rw (le-ltb most_words x h)
-
-lesser_top : (a b : ℕ) → b ≤ a → lesser a b ≡ b
-lesser_top a b h = by_test (leb a b) (λ e. rw e (omega (arith, leb-true a b e))) (λ e. rw e)
-
--- the lesser of a number and 1,000,001
-pub lesser_cut : (x : ℕ) → lesser x (most_words + 1) ≡ cut x
-lesser_cut x = by_test (ltb most_words x) (λ e. over (ltb-true most_words x e)) (λ e. under (ltb-false most_words x e))
-  where
-    over : most_words < x → lesser x (most_words + 1) ≡ cut x
-    over h = lesser_top x (most_words + 1) (omega arith) ∙ sym (cut_over x h)
-
-    under : x ≤ most_words → lesser x (most_words + 1) ≡ cut x
-    under h = rw (le-leb x (most_words + 1) (omega arith)) (sym (cut_under x h))
 
 -- Two numbers that are the same once cut: the same, or both over 1,000,000.
 data SameCut (a b : ℕ) : Type 0 where
@@ -90,32 +77,6 @@ same_long a b e = go (same_cut a b e)
     go (same f) = rw f
     go (both_over h k) = lt-ltb most_words a h ∙ sym (lt-ltb most_words b k)
 
--- The sum of a list.
-sum_more : (xs : List ℕ) (y : ℕ) → sum (xs ++ (y ∷ [])) ≡ sum xs + y
-sum_more [] y = omega arith
-sum_more (x ∷ xs) y = omega (arith, sum_more xs y)
-
+-- The sum of a list, number by number.
 pub sum_next : (xs : List ℕ) (n : ℕ) → n < length xs → sum (take (suc n) xs) ≡ sum (take n xs) + get_or xs n 0
-sum_next xs n h = ap sum (take-suc xs n 0 h) ∙ sum_more (take n xs) (get_or xs n 0)
-
--- the sum of the numbers passed
-pub record Summing (xs : List ℕ) (total n : ℕ) : Type 0 where
-  pub place_most : n ≤ length xs
-  pub total_is : total ≡ sum (take n xs)
-  pub small : total ≤ n * 2 ^ 32
-
-pub summing_start : (xs : List ℕ) → Summing xs 0 0
-summing_start xs = record { place_most = omega arith; total_is = refl; small = omega arith }
-
-pub summing_turn :
-    {xs : List ℕ} {total n x : ℕ} → Summing xs total n → x ≡ get_or xs n 0 → x < 2 ^ 32 → n < length xs
-    → Summing xs (total + x) (n + 1)
-summing_turn {xs} {total} {n} {x} w e h l =
-    record {
-      place_most = omega arith;
-      total_is = rw (add-one n) (omega (arith, sum_next xs n l, w.total_is, e));
-      small = omega (arith, w.small);
-    }
-
-pub summing_end : {xs : List ℕ} {total n : ℕ} → Summing xs total n → length xs ≤ n → total ≡ sum xs
-summing_end {xs} {total} {n} w h = w.total_is ∙ ap sum (take_all n xs h)
+sum_next xs n h = rw add-one at (sum_by_more (λ (x : ℕ). x) xs n 0 h)

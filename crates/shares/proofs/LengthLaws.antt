@@ -14,7 +14,8 @@ use Rattle.model.specs.Shares.{most_words, out_of, out_of_all}
 use Rattle.model.proofs.Logic.{Cmp, cmp, is_lt, is_eq, is_gt, zeros_at}
 use Rattle.model.proofs.Lists.{grown, words_empty, words_counted}
 use Rattle.model.proofs.ShareCounts.{words_add_up_0, words_add_up}
-use Rattle.shares.specs.Lengths.{cut, LengthsOf, Lengths, sum}
+use Rattle.shares.specs.Lengths.{cut, LengthsOf, Lengths}
+use Rattle.std.specs.Prelude.{sum}
 use Rattle.shares.proofs.CutNumbers.{cut_cut, cut_together, cut_both, same_long, sum_next}
 
 -- The first stamp does not tell on the number of words.

@@ -21,7 +21,8 @@ use Rattle.model.proofs.Logic.{less, least, two, zeros_at}
 use Rattle.model.proofs.ShareCounts.{adds_up_0, adds_up, words_add_up_0, words_add_up, some_words}
 use Rattle.numbers.proofs.Parts.{part_rest}
 use Rattle.shares.specs.Tree.{Countable, Counted}
-use Rattle.shares.specs.Lengths.{sum, Lengths}
+use Rattle.shares.specs.Lengths.{Lengths}
+use Rattle.std.specs.Prelude.{sum}
 use Rattle.shares.proofs.CutNumbers.{cut_under, sum_next}
 
 -- Zeros with something done at their front: the next part is zeros, and is replaced.

@@ -7,23 +7,29 @@ use native.Mathlib.Omega.{arith}
 use lib.Dec.{ltb, leb}
 use lib.ListN.{length, take, drop}
 use lib.Seq.{length-take-le}
-use borrow.Author.Tests.{leb-true, le-leb, lt-leb, ne_eqb}
+use borrow.Author.Tests.{eqb-false, leb-true, le-leb, lt-leb, ne_eqb}
 use Rattle.model.specs.declared.Built.{Built}
 use Rattle.model.specs.declared.Answer.{Answer}
 use Rattle.model.specs.declared.Batch.{Batch}
-use Rattle.model.specs.declared.Shares.{Shares}
-use Rattle.model.specs.Basics.{zeros, filled, Refusal, refusal, fine, refuse, ◌⨾◌}
+use Rattle.model.specs.Basics.{filled, Refusal, fine, refuse, ◌⨾◌}
 use Rattle.model.specs.Tables.{Tables, row_width}
 use Rattle.model.specs.Walks.{cell_need, in_shape}
 use Rattle.model.specs.Lists.{most_listed_events, most_seconds, span_ok}
 use Rattle.model.specs.Shares.{most_tables, line_width, lines_of, laid_out, batch_of, tables_refusal, shares_refusal}
 use Rattle.model.specs.Shares.{most_words, words_for, greatest_of}
 use Rattle.model.specs.Promises.{answer_of, CountsShares}
-use Rattle.model.proofs.Logic.{and_left, and_right, in_within}
+use Rattle.model.proofs.Logic.{and_left, in_within}
 use Rattle.model.proofs.Answers.{number_is}
 use Rattle.model.proofs.Refusals.{Settled, refuse_settled, then_settled}
-use Rattle.shares.specs.Batches.{Asked, Passed, greatest_in, shares_by}
-use Rattle.shares.proofs.LaidLines.{lines_bare}
+use Rattle.std.specs.Prelude.{Err, ◌⊎◌}
+use Rattle.std.proofs.Common.{inl, inr}
+use Rattle.model.specs.declared.Fault.TheVariants.{BadBatch, BadSpan}
+use Rattle.model.specs.declared.Refused.{Refused}
+use Rattle.model.specs.Faults.{at_once, fault_number}
+use Rattle.model.specs.declared.Fault.{Fault}
+use Rattle.model.proofs.Faults.{refuses}
+use Rattle.shares.specs.Batches.{Passed, greatest_in}
+use Rattle.shares.specs.Outcome.{shares_in}
 use Rattle.shares.proofs.GreatestLaws.{greatest_is}
 
 -- no number, no place
@@ -42,106 +48,67 @@ tables_many [] cells rows pool = refl
 tables_many (b ∷ bs) cells rows pool =
     ap suc (tables_many bs (drop (cell_need b) cells) (drop (row_width * b.rows) rows) (drop b.total pool))
 
--- what passes 40 and 38, and that both then pass
-pub asked_of : (x : Batch) (m h : ℕ) → 1 ≤ x.count → x.count ≤ most_tables → span_ok m h ≡ true → Asked x m h
-asked_of x m h some most e = record {
-  count_some = some;
-  count_most = most;
-  events_most = leb-true m most_listed_events (and_left (leb m most_listed_events) (leb h most_seconds) e);
-  seconds_most = leb-true h most_seconds (and_right (leb m most_listed_events) (leb h most_seconds) e);
-}
+-- a fault has a number
+not_none : (f : Fault) → fault_number f ≡ 0 → ⊥
+not_none f = eqb-false (fault_number f) 0 (refuses f 0)
 
-by_tables :
-    (x : Batch) (cells rows pool : List ℕ) (m h : ℕ) → Asked x m h
-    → shares_refusal x cells rows pool m h ≡ tables_refusal 1 (batch_of x cells rows pool) m h
+-- 40 or 38, its lines zero
+pub bad_batch :
+    {x : Batch} {cells rows pool : List ℕ} {m h : ℕ} → (x.count < 1) ⊎ (most_tables < x.count)
+    → CountsShares x cells rows pool m h (shares_in (Err (at_once BadBatch)))
 unfolding shares_refusal
-by_tables x cells rows pool m h k =
-    rw (
-      in_within 1 most_tables x.count k.count_some k.count_most,
-      le-leb m most_listed_events k.events_most,
-      le-leb h most_seconds k.seconds_most,
-    )
+bad_batch {x} (inl l) = record { answer_is = rw (lt-leb 1 x.count l) }
+bad_batch {x} (inr l) = record { answer_is = rw (le-leb 1 x.count (omega arith), lt-leb x.count most_tables l) }
 
--- any refusal, its lines zero
-refused_by :
-    {x : Batch} {cells rows pool : List ℕ} {m h : ℕ} {answer : Shares} (f : Refusal)
-    → shares_refusal x cells rows pool m h ≡ f
-    → (f.number ≡ 0 → ⊥)
-    → answer ≡ shares_by f.number f.place 0 (zeros (line_width * most_tables))
-    → CountsShares x cells rows pool m h answer
-refused_by f e n a = record { answer_is = a ∙ rw (e, ne_eqb f.number 0 n) }
-
-module _ {x : Batch} {cells rows pool : List ℕ} {m h : ℕ} {answer : Shares} where
-  pub too_few :
-      x.count < 1 → answer ≡ shares_by 40 0 0 (zeros (line_width * most_tables))
-      → CountsShares x cells rows pool m h answer
+module _
+    (x : Batch) (cells rows pool : List ℕ) (m h : ℕ) (some : 1 ≤ x.count) (most : x.count ≤ most_tables) where
+  pub bad_span : span_ok m h ≡ false → CountsShares x cells rows pool m h (shares_in (Err (at_once BadSpan)))
   unfolding shares_refusal
-  too_few l a = refused_by (refusal 40 0) (rw (lt-leb 1 x.count l)) (λ z. omega (arith, z)) a
+  bad_span s = record { answer_is = rw (in_within 1 most_tables x.count some most, s) }
 
-  pub too_many :
-      1 ≤ x.count → most_tables < x.count → answer ≡ shares_by 40 0 0 (zeros (line_width * most_tables))
-      → CountsShares x cells rows pool m h answer
-  unfolding shares_refusal
-  too_many some l a =
-      refused_by (refusal 40 0) (rw (le-leb 1 x.count some, lt-leb x.count most_tables l))
-      (λ z. omega (arith, z)) a
+  module _ (span : span_ok m h ≡ true) where
+    by_tables : shares_refusal x cells rows pool m h ≡ tables_refusal 1 (batch_of x cells rows pool) m h
+    unfolding shares_refusal
+    by_tables = rw (in_within 1 most_tables x.count some most, span)
 
-  pub span_wrong :
-      1 ≤ x.count → x.count ≤ most_tables → span_ok m h ≡ false
-      → answer ≡ shares_by 38 0 0 (zeros (line_width * most_tables))
-      → CountsShares x cells rows pool m h answer
-  unfolding shares_refusal
-  span_wrong some most s a =
-      refused_by (refusal 38 0) (rw (in_within 1 most_tables x.count some most, s)) (λ z. omega (arith, z)) a
+    pub bad_table :
+        (r : Refused)
+        → record { number = fault_number r.fault; place = r.place; value = 0 }
+        ≡ answer_of (tables_refusal 1 (batch_of x cells rows pool) m h) 0
+        → CountsShares x cells rows pool m h (shares_in (Err r))
+    bad_table r c =
+        let f : Refusal = tables_refusal 1 (batch_of x cells rows pool) m h in
+        let number : fault_number r.fault ≡ f.number = ap (λ (y : Answer). y.number) c in
+        let place : r.place ≡ f.place = ap (λ (y : Answer). y.place) c in
+        let some_number : f.number ≡ 0 → ⊥ = λ z. not_none r.fault (number ∙ z) in
+        record { answer_is = rw (by_tables, ne_eqb f.number 0 some_number, number, place) }
 
-  pub tables_wrong :
-      {checked : Answer} → Asked x m h
-      → checked ≡ answer_of (tables_refusal 1 (batch_of x cells rows pool) m h) 0
-      → (checked.number ≡ 0 → ⊥)
-      → answer ≡ shares_by checked.number checked.place 0 (zeros (line_width * most_tables))
-      → CountsShares x cells rows pool m h answer
-  tables_wrong k c n a =
-      refused_by (tables_refusal 1 (batch_of x cells rows pool) m h) (by_tables x cells rows pool m h k)
-      (λ z. n (number_is (tables_refusal 1 (batch_of x cells rows pool) m h) 0 c ∙ z))
-      (a ∙ ap (λ (y : Answer). shares_by y.number y.place 0 (zeros (line_width * most_tables))) c)
+    -- no table is refused
+    module _ (c :
+        record { number = 0; place = 0; value = 0 }
+        ≡ answer_of (tables_refusal 1 (batch_of x cells rows pool) m h) 0) where
+      none_refused : tables_refusal 1 (batch_of x cells rows pool) m h ≡ fine
+      none_refused =
+          tables_settled 1 (batch_of x cells rows pool) m h
+          (sym (number_is (tables_refusal 1 (batch_of x cells rows pool) m h) 0 c))
 
--- no table is refused
-none_refused :
-    {checked : Answer} (ts : List Tables) (m h : ℕ) → checked ≡ answer_of (tables_refusal 1 ts m h) 0
-    → checked.number ≡ 0
-    → tables_refusal 1 ts m h ≡ fine
-none_refused ts m h c z = tables_settled 1 ts m h (sym (number_is (tables_refusal 1 ts m h) 0 c) ∙ z)
+      pub passed : length x.tables ≡ most_tables → Passed (take x.count x.tables) cells rows pool m h
+      passed long = record {
+        count_most = omega (arith, length-take-le x.count x.tables (omega arith));
+        tables_fine = none_refused;
+      }
 
-pub passed :
-    {x : Batch} {cells rows : List ℕ} {m h : ℕ} (pool : List ℕ) {checked : Answer} → Asked x m h
-    → checked ≡ answer_of (tables_refusal 1 (batch_of x cells rows pool) m h) 0
-    → checked.number ≡ 0
-    → Passed x cells rows m h
-passed {x} {cells} {rows} {m} {h} pool k c z = record {
-  asked = k;
-  pool = pool;
-  tables_fine = none_refused (batch_of x cells rows pool) m h c z;
-}
-
-pub counted :
-    {x : Batch} {cells rows pool : List ℕ} {m h count greatest : ℕ} {checked : Answer} {lines : List ℕ} → Asked x m h
-    → checked ≡ answer_of (tables_refusal 1 (batch_of x cells rows pool) m h) 0
-    → checked.number ≡ 0
-    → length x.tables ≡ most_tables
-    → count ≡ x.count
-    → lines ≡ filled (line_width * most_tables) (lines_of (batch_of x cells rows []) m h)
-    → greatest ≡ greatest_in count lines
-    → CountsShares x cells rows pool m h (shares_by 0 0 greatest lines)
-counted {x} {cells} {rows} {pool} {m} {h} {count} {greatest} {lines = lines} k c z long e l g =
-    let bs : List Built = take x.count x.tables in
-    let ts : List Tables = batch_of x cells rows pool in
-    let lines_are : lines ≡ filled (line_width * most_tables) (lines_of (batch_of x cells rows pool) m h) =
-    l ∙ ap (filled (line_width * most_tables)) (sym (lines_bare bs cells rows pool m h)) in
-    let many : length (batch_of x cells rows pool) ≡ count =
-    tables_many bs cells rows pool
-    ∙ (length-take-le x.count x.tables (omega (arith, k.count_most)) ∙ sym e) in
-    let best : greatest ≡ greatest_of (batch_of x cells rows pool) m h =
-    g
-    ∙ (ap (greatest_in count) lines_are
-    ∙ greatest_is ts m h count k.events_most many (omega (arith, k.count_some))) in
-    record { answer_is = rw (by_tables x cells rows pool m h k, none_refused ts m h c z, best, lines_are) }
+      pub counted :
+          {greatest : ℕ} {lines : List ℕ} → length x.tables ≡ most_tables
+          → lines ≡ filled (line_width * most_tables) (lines_of (batch_of x cells rows pool) m h)
+          → greatest ≡ greatest_in x.count lines
+          → CountsShares x cells rows pool m h (record { number = 0; place = 0; greatest = greatest; lines = lines })
+      counted {greatest} {lines} long l g =
+          let ts : List Tables = batch_of x cells rows pool in
+          let many : length (batch_of x cells rows pool) ≡ x.count =
+          tables_many (take x.count x.tables) cells rows pool ∙ length-take-le x.count x.tables (omega arith) in
+          let few : m ≤ most_listed_events =
+          leb-true m most_listed_events (and_left (leb m most_listed_events) (leb h most_seconds) span) in
+          let best : greatest ≡ greatest_of (batch_of x cells rows pool) m h =
+          g ∙ (ap (greatest_in x.count) l ∙ greatest_is ts m h x.count few many some) in
+          record { answer_is = rw (by_tables, none_refused, best, l) }

@@ -1,5 +1,5 @@
 -- How many words a list has, by length, every number cut just above 1,000,000.
-use Rattle.std.specs.Prelude.{◌≡◌, List, [], ◌∷◌, ℕ, suc, ◌+◌, ◌<◌, ltb, length, get_or}
+use Rattle.std.specs.Prelude.{◌≡◌, List, ℕ, suc, ◌<◌, ltb, length, get_or}
 use Rattle.model.specs.Basics.{pick}
 use Rattle.model.specs.Lists.{words_from}
 use Rattle.model.specs.Shares.{most_words, out_of}
@@ -16,8 +16,3 @@ pub record LengthsOf (s k : ℕ) (lengths : List ℕ) : Type 0 where
 pub record Lengths (s h : ℕ) (lengths lengths' : List ℕ) : Type 0 where
   pub same_length : length lengths' ≡ length lengths
   pub length_is : (n : ℕ) → n < length lengths → get_or lengths' n 0 ≡ cut (out_of s h n)
-
--- all numbers of a list together
-abbrev pub sum : List ℕ → ℕ
-sum [] = 0
-sum (x ∷ xs) = x + sum xs

@@ -5,3 +5,5 @@ pub mod Tree
 pub mod Lengths
 -- A batch of tables: where parts begin, what the checks let pass, the greatest share off the lines
 pub mod Batches
+-- The outcome as the record that crosses the call
+pub mod Outcome

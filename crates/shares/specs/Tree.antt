@@ -1,11 +1,11 @@
 -- The tree of a table's list: a node for each word, its children one event longer. A node is the row after its word,
 -- the stamp of the last timer reset, and the stamps that are left from its last one on.
-use Rattle.std.specs.Prelude.{◌≡◌, List, [], ℕ, suc, ◌+◌, ◌-◌, ◌*◌, ◌/◌, ◌≤◌, ◌<◌, length, get_or}
+use Rattle.std.specs.Prelude.{◌≡◌, List, ℕ, suc, ◌+◌, ◌-◌, ◌*◌, ◌/◌, ◌≤◌, ◌<◌, length, get_or}
 use Rattle.model.specs.declared.Built.{Built}
 use Rattle.model.specs.declared.Follower.{Follower}
 use Rattle.model.specs.Rules.{most_symbols, most_constant}
 use Rattle.model.specs.Construction.{most_rows}
-use Rattle.model.specs.Tables.{Tables, tables, row_width, row_verdict}
+use Rattle.model.specs.Tables.{Tables, row_width, row_verdict}
 use Rattle.model.specs.Walks.{built_width, cell_need, cell_place, stamp, verdict, step_all}
 use Rattle.model.specs.Lists.{most_seconds, list_grain, stamp_count, words_from, count_if}
 use Rattle.model.specs.Shares.{most_words, out_of, accepted_of, table_says}
@@ -26,10 +26,6 @@ pub record Celled (b : Built) (cells : List ℕ) : Type 0 where
 pub record Rowed (b : Built) (rows : List ℕ) : Type 0 where
   pub rows_long : row_width * b.rows ≤ length rows
   pub stored : (n : ℕ) → n < b.rows → row_verdict rows n ≤ 1
-
--- a table less its pool, of which nothing is counted
-abbrev pub bare : Built → List ℕ → List ℕ → Tables
-bare b cells rows = tables b cells rows []
 
 -- a walk at D = 2, as a follower that has counted nothing
 abbrev pub standing : ℕ → ℕ → Follower

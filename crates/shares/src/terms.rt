@@ -2,8 +2,6 @@
 ghost use Rattle.std.specs.Prelude.{◌≡◌, ◌≤◌, length};
 ghost use Rattle.model.specs.Shares.{common, share_width, share, smaller};
 
-use numbers::wide32;
-
 // The greatest number that divides both.
 pub(crate) fn greatest_common(a: u32, b: u32) -> u32
     requires { 1 ≤ b }
@@ -11,6 +9,7 @@ pub(crate) fn greatest_common(a: u32, b: u32) -> u32
 {
     let mut x = a;
     let mut y = b;
+    // A `while`: the turns end where a remainder does, nothing is counted or gone over.
     while y != 0 {
         let rest = x % y;
         x = y;
@@ -25,15 +24,14 @@ pub(crate) fn lay_share(accepted: u32, words: u32, place: &mut [u32])
     ensures { place.new ≡ share accepted words }
 {
     let by = greatest_common(accepted, words);
-    place[0] = accepted;
-    place[1] = words;
-    place[2] = accepted / by;
-    place[3] = words / by;
+    let numerator = accepted / by;
+    let denominator = words / by;
+    place.copy_from_slice(&[accepted, words, numerator, denominator]);
 }
 
 // Is a of b a smaller share than c of d? Products of 64 bits.
 pub(crate) fn is_smaller(a: u32, b: u32, c: u32, d: u32) -> bool
     ensures { result ≡ smaller a b c d }
 {
-    wide32(a) * wide32(d) < wide32(c) * wide32(b)
+    u64::from(a) * u64::from(d) < u64::from(c) * u64::from(b)
 }

@@ -3,13 +3,21 @@ use mathlib.Core.Path.{◌≡◌, refl, sym, ◌∙◌, ap, ap₂}
 use mathlib.Core.List.{List, [], ◌∷◌}
 use Prim.Native.Nat.{ℕ, zero, suc, ◌+◌, ◌-◌, ◌≤◌, ◌<◌}
 use native.Mathlib.Omega.{arith}
-use lib.ListN.{length, get_or, drop, drop_of_length-le, length-drop}
-use lib.Seq.{drop-drop}
-use borrow.Author.Tests.{eq-eqb, ne_eqb}
+use lib.Dec.{eqb}
+use lib.ListN.{length, get_or, drop, length-drop}
+use lib.Seq.{drop-drop, get_or-drop, drop-length}
+use borrow.Author.Tests.{eqb-true}
+use Rattle.std.specs.Prelude.{Some, None, position}
+use Rattle.std.specs.List.{position_or_len}
+use Rattle.std.proofs.lemmas.Grind.{common_steps}
+use Rattle.std.proofs.lemmas.Bool.{not-true}
+use Rattle.std.proofs.lemmas.List.Quantifiers.{position-Some}
+use Rattle.std.proofs.lemmas.List.Sums.{prefix_len_passes}
+use mathlib.Core.Bool.{false, not}
 use Rattle.model.specs.Texts.{Atom, atom_at, plain_atoms, atoms_past}
 use Rattle.model.proofs.Texts.{atoms_mark}
 use Rattle.texts.specs.Atoms.{NextAtom}
-use Rattle.texts.proofs.Marks.{mark_left, atom_left, past_atom}
+use Rattle.texts.proofs.Marks.{mark_left, atom_left}
 
 -- by what the atoms from a place on are
 pub none_left :
@@ -51,42 +59,47 @@ plain_front text from k =
     plain_one (drop from text) (omega (arith, length-drop from text))
     ∙ ap₂ (λ (a : Atom) (t : List ℕ). a ∷ plain_atoms t) (atom_left text from) (drop-drop 3 from text)
 
--- The numbers from a place up to another one are marks of no atoms.
-pub record Passed (text : List ℕ) (from at : ℕ) : Type 0 where
-  pub forward : from ≤ at
-  pub rest_is : atoms_past 0 (drop at text) ≡ atoms_past 0 (drop from text)
-
-pub passed_start : (text : List ℕ) (from : ℕ) → Passed text from from
-passed_start text from = record { forward = omega arith; rest_is = refl }
-
+-- kind 6: the numbers before the first mark of an atom pass
 atoms_past_lem : (n : ℕ) (t : List ℕ) → atoms_past n t ≡ atoms_past 0 (drop n t)
 unfolding atoms_past
 atoms_past_lem zero t = refl
 atoms_past_lem (suc n) [] = refl
 atoms_past_lem (suc n) (x ∷ t) = atoms_past_lem n t
 
-module _ {text : List ℕ} {from at : ℕ} (inv : Passed text from at) where
-  module _ (mark : ℕ) (h : at < length text) (e : mark ≡ get_or text at 0) where
-    pub passed_mark : (mark ≡ 3 → ⊥) → Passed text from (at + 1)
-    passed_mark n = record {
-      forward = omega (arith, inv.forward);
-      rest_is =
-          sym
-          (ap (atoms_past 0) (mark_left text at mark h e)
-          ∙ (atoms_mark mark (drop (at + 1) text) ∙ rw (ne_eqb mark 3 n)))
-          ∙ inv.rest_is;
-    }
+passed_over :
+    (k : ℕ) (t : List ℕ) → k ≤ length t → ((j : ℕ) → j < k → eqb (get_or t j 0) 3 ≡ false)
+    → atoms_past 0 t ≡ atoms_past 0 (drop k t)
+passed_over zero t h f = refl
+passed_over (suc k) [] h f = refl
+passed_over (suc k) (x ∷ t) h f =
+    atoms_mark x t ∙ rw (f 0 (omega arith)) (passed_over k t (omega arith) (λ j l. f (suc j) (omega arith)))
 
-    pub passed_atom : mark ≡ 3 → NextAtom (atoms_past 0) text from (at + 1)
-    passed_atom m =
-        let k : at + 1 + 3 ≡ at + 4 = omega arith in
-        let past = atoms_past_lem 3 (drop (at + 1) text) ∙ ap (atoms_past 0) (past_atom text at) in
-        one_left (atoms_past 0) text from (at + 1) (omega arith) (omega (arith, inv.forward))
-        (sym inv.rest_is
-        ∙ (ap (atoms_past 0) (mark_left text at mark h e)
-        ∙ (atoms_mark mark (drop (at + 1) text)
-        ∙ rw (eq-eqb mark 3 m, past, atom_left text (at + 1), k))))
+no_atoms_in : (t : List ℕ) → ((j : ℕ) → j < length t → eqb (get_or t j 0) 3 ≡ false) → atoms_past 0 t ≡ []
+unfolding atoms_past
+no_atoms_in t f = passed_over (length t) t (omega arith) f ∙ ap (atoms_past 0) (drop-length t)
 
-  pub passed_end : length text ≤ at → NextAtom (atoms_past 0) text from (length text + 1)
-  unfolding atoms_past
-  passed_end h = none_left (atoms_past 0) text from (sym inv.rest_is ∙ ap (atoms_past 0) (drop_of_length-le text h))
+module _ (text : List ℕ) (from : ℕ) where
+  pub atom_passed :
+      (k : ℕ) → position (λ (n : ℕ). eqb n 3) (drop from text) ≡ Some k
+      → NextAtom (atoms_past 0) text from (from + k + 1)
+  atom_passed k e =
+      let some = position-Some (λ (n : ℕ). eqb n 3) (drop from text) k 0 e in
+      let inside : from + k < length text = omega (arith, some.0, length-drop from text) in
+      let mark : 3 ≡ get_or text (from + k) 0 = sym (sym (get_or-drop from text k 0) ∙ eqb-true _ 3 some.1) in
+      let past : from + k + 1 + 3 ≡ from + k + (1 + 3) = omega arith in
+      one_left (atoms_past 0) text from (from + k + 1) (omega arith) (omega arith)
+      (passed_over k (drop from text) (omega (arith, some.0)) some.2
+      ∙ (ap (atoms_past 0) (drop-drop k from text ∙ mark_left text (from + k) 3 inside mark)
+      ∙ (atoms_mark 3 (drop (from + k + 1) text)
+      ∙ ap₂ (λ (a : Atom) (as_are : List Atom). a ∷ as_are) (atom_left text (from + k + 1))
+      (atoms_past_lem 3 (drop (from + k + 1) text)
+      ∙ ap (atoms_past 0) (drop-drop 3 (from + k + 1) text)))))
+
+  pub all_passed :
+      position (λ (n : ℕ). eqb n 3) (drop from text) ≡ None → NextAtom (atoms_past 0) text from (length text + 1)
+  all_passed e =
+      let long : length (drop from text) ≤ position_or_len (λ (n : ℕ). eqb n 3) (drop from text) =
+      grind (arith, common_steps) in
+      none_left (atoms_past 0) text from
+      (no_atoms_in (drop from text)
+      (λ j l. not-true _ (prefix_len_passes (λ (n : ℕ). not (eqb n 3)) (drop from text) j 0 (omega arith))))

@@ -2,5 +2,3 @@ pub mod Marks
 pub mod GroupRules
 pub mod Found
 pub mod Outermost
-pub mod AtomLoop
-pub mod PlainLoop

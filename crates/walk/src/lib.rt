@@ -2,20 +2,21 @@
 // The step and the verdict are total: a place past a table's end holds 0, as in the definitions.
 #![tactic(auto)]
 
-ghost use Rattle.std.specs.Prelude.{◌≡◌, ◌≤◌, eqb, length, get_or};
-ghost use Rattle.model.specs.Words.{events_of};
-ghost use Rattle.model.specs.Construction.{top_interval};
-ghost use Rattle.model.specs.Tables.{row_verdict};
-ghost use Rattle.model.specs.Walks.{cell_place};
+ghost use Rattle.std.specs.Prelude.{◌≡◌};
+ghost use Rattle.model.specs.Basics.{one_if};
+ghost use Rattle.model.specs.Faults.{answer_in};
 ghost use Rattle.model.specs.Promises.{RunsTable};
+ghost use Rattle.model.specs.Walks.{cell_at, verdict};
+ghost use Rattle.model.specs.Words.{events_of};
+ghost use Rattle.tables.specs.Views.{table_in};
 ghost use Rattle.walk.specs.Steps.{Steps, row_after};
 
 use interval::Interval;
-use model::{Answer, Built, MOST_EVENTS, Stamp};
-use numbers::{entry_at, wide16, wide32};
+use model::{MOST_EVENTS, Refused, Stamp};
+use numbers::at_or;
 use shape::check_table;
-use tables::row_verdict;
-use word::check_word;
+use tables::Table;
+use word::{Events, check_word};
 
 // Where a walk stands: its row, and the stamp of the last timer reset.
 #[derive(Clone, Copy)]
@@ -24,99 +25,83 @@ pub struct Walk {
     pub reset: Stamp,
 }
 
-// The cell of a row at a symbol and an interval. A row has a line of W cells for each symbol.
-pub(crate) fn cell_at(built: Built, cells: &[u32], row: u32, symbol: u16, interval: Interval) -> u32
-    requires { interval.0 ≤ top_interval built.top }
-    ensures { result ≡ get_or cells.now (cell_place built row symbol interval.0) 0 }
+// The cell of a row at a symbol and an interval. A row has a line of W cells for each symbol. A place that fits no
+// number is past the end of any table; to ask that of the product takes no division.
+pub(crate) fn cell_at(table: Table<'_>, row: u32, symbol: u16, interval: Interval) -> u32
+    ensures { result ≡ cell_at (table_in table.entry) row symbol interval.0 }
 {
-    let width = 2 * wide32(built.top) + 2;
-    let line = wide32(row) * wide32(built.symbols) + wide16(symbol);
-    if cells.len() / width < line {
+    let width = table.width();
+    let line = row as usize * table.built.symbols as usize + usize::from(symbol);
+    let Some(start) = line.checked_mul(width) else {
         return 0;
-    }
-    entry_at(cells, line * width + interval.0 as usize)
+    };
+    let Some(place) = start.checked_add(interval.0 as usize) else {
+        return 0;
+    };
+    at_or(table.cells, place, 0)
 }
 
 impl Walk {
+    pub const START: Walk = Walk {
+        row: 0,
+        reset: Stamp(0),
+    };
+
     // One event: the cell at the timer's interval gives the next row, and moves the timer's stamp if it says so.
-    pub fn step(self, built: Built, cells: &[u32], grain: u32, symbol: u16, stamp: Stamp) -> Walk
-        ensures { Steps built cells.now grain self symbol stamp result }
+    #[tactic(auto, unfolding(model::specs::Walks::step))]
+    pub fn step(self, table: Table<'_>, grain: u32, symbol: u16, stamp: Stamp) -> Walk
+        ensures { Steps (table_in table.entry) grain self symbol stamp result }
     {
         let age = stamp.since(self.reset);
-        let interval = Interval::of(age, built.top, grain);
-        let cell = cell_at(built, cells, self.row, symbol, interval);
+        let interval = Interval::of(age, table.built.top, grain);
+        let cell = cell_at(table, self.row, symbol, interval);
         let row = cell / 2;
-        let mut reset = self.reset;
-        if cell % 2 == 1 {
-            reset = stamp;
-        }
+        let reset = if cell % 2 == 1 { stamp } else { self.reset };
         Walk { row, reset }
     }
 }
 
 // A row's verdict is the one that it stores.
-pub fn verdict(rows: &[u32], row: u32) -> bool
-    ensures { result ≡ eqb (row_verdict rows.now row) 1 }
+#[tactic(auto, unfolding(model::specs::Walks::verdict))]
+pub fn verdict(table: Table<'_>, row: u32) -> bool
+    ensures { result ≡ verdict (table_in table.entry) row }
 {
-    row_verdict(rows, row) == 1
+    table.row_verdict(row) == 1
 }
 
 // The row after all events.
-pub(crate) fn walk_all(
-    built: Built,
-    cells: &[u32],
-    grain: u32,
-    symbols: &[u16],
-    stamps: &[u32],
-) -> u32
-    requires { length symbols.now ≡ length stamps.now }
-    ensures { result ≡ row_after built cells.now grain
-        (events_of symbols.now stamps.now) }
+#[tactic(auto, unfolding(model::specs::Walks::step, model::specs::Walks::step_all))]
+pub(crate) fn walk_all(table: Table<'_>, grain: u32, events: Events<'_>) -> u32
+    ensures { result ≡ row_after (table_in table.entry) grain
+        (events_of events.entry.symbols.now events.entry.stamps.now) }
 {
-    let mut walk = Walk {
-        row: 0,
-        reset: Stamp(0),
-    };
-    let mut event: usize = 0;
-    while event < symbols.len() {
-        walk = walk.step(built, cells, grain, symbols[event], Stamp(stamps[event]));
-        event += 1;
+    let mut walk = Walk::START;
+    for (i, symbol) in events.symbols.iter().enumerate() {
+        walk = walk.step(table, grain, *symbol, Stamp(events.stamps[i]));
     }
     walk.row
 }
 
-// 25, then 30 to 33, then the verdict of the row after all events, 1 for yes.
+// 25, then 30 to 33, then the verdict of the row after all events.
+#[tactic(auto, unfolding(model::specs::Promises::run_refusal, model::specs::Walks::table_accepts))]
 pub fn run_table(
-    built: Built,
-    cells: &[u32],
-    rows: &[u32],
-    pool: &[u32],
+    table: Table<'_>,
     grain: u32,
     symbols: &[u16],
     stamps: &[u32],
-) -> Answer
-    ensures { RunsTable built cells.now rows.now pool.now grain
-        symbols.now stamps.now result }
+) -> Result<bool, Refused>
+    ensures { RunsTable table.entry.built table.entry.cells.now table.entry.rows.now table.entry.pool.now grain
+        symbols.now stamps.now (answer_in one_if result) }
 {
-    let shape = check_table(built, cells, rows, pool);
-    if shape.number != 0 {
-        return shape;
-    }
-    let word = check_word(built.symbols, grain, MOST_EVENTS as u32, symbols, stamps);
-    if word.number != 0 {
-        return word;
-    }
-    let row = walk_all(built, cells, grain, symbols, stamps);
-    if verdict(rows, row) {
-        return Answer {
-            number: 0,
-            place: 0,
-            value: 1,
-        };
-    }
-    Answer {
-        number: 0,
-        place: 0,
-        value: 0,
-    }
+    check_table(table)?;
+    let events = check_word(
+        table.built.symbols,
+        grain,
+        MOST_EVENTS as u32,
+        symbols,
+        stamps,
+    )?;
+    let row = walk_all(table, grain, events);
+    let yes = verdict(table, row);
+    Ok(yes)
 }

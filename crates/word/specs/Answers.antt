@@ -1,5 +1,5 @@
 -- The answer about the events of a word, D and their number aside.
-use Rattle.std.specs.Prelude.{◌≡◌, List, ℕ, ◌+◌, ◌≤◌, ◌<◌, length, get_or, drop}
+use Rattle.std.specs.Prelude.{◌≡◌, List, ℕ, ◌+◌, ◌≤◌, length, drop}
 use Rattle.model.specs.declared.Answer.{Answer}
 use Rattle.model.specs.Words.{events_of, events_refusal}
 use Rattle.model.specs.Promises.{answer_of}
@@ -13,9 +13,3 @@ pub record Passed (s : ℕ) (xs ts : List ℕ) (i last : ℕ) : Type 0 where
   pub turns : i ≤ length xs
   pub rest_is : events_refusal s (i + 1) last (events_of (drop i xs) (drop i ts)) ≡ events_refusal s 1 0
       (events_of xs ts)
-
--- The event after these, if there is one, is bad.
-pub record StopsAt (s : ℕ) (xs ts : List ℕ) (i : ℕ) : Type 0 where
-  pub last : ℕ
-  pub passed : Passed s xs ts i last
-  pub stamp_falls : i < length xs → get_or xs i 0 < s → get_or ts i 0 < last

@@ -1,95 +1,73 @@
 // The check of a word: D, the number of events, then each event's symbol and stamp.
 #![tactic(auto)]
 
-ghost use Rattle.std.specs.Prelude.{◌≡◌, length};
+ghost use Rattle.std.specs.Prelude.{◌≡◌, length, IfOk};
+ghost use Rattle.model.specs.Faults.{answer_in};
 ghost use Rattle.model.specs.Words.{grain_ok};
 ghost use Rattle.model.specs.Promises.{ChecksWord};
-ghost use Rattle.word.specs.Answers.{events_answer, StopsAt};
+ghost use Rattle.word.specs.Answers.{events_answer};
 
-use model::{Answer, MOST_GRAIN, Stamp};
-use numbers::{wide16, wide32};
+use model::{Fault, MOST_GRAIN, Refused, Stamp};
+
+// A word's events, as lent: each has its symbol and its stamp.
+#[derive(Clone, Copy)]
+pub struct Events<'a> {
+    pub symbols: &'a [u16],
+    pub stamps: &'a [u32],
+    pub ghost equal: { length symbols.now ≡ length stamps.now },
+}
 
 // Is D from 1 to 1,000?
 pub fn grain_ok(grain: u32) -> bool
     ensures { result ≡ grain_ok grain }
 {
-    1 <= grain && grain <= MOST_GRAIN as u32
-}
-
-// The number of events before the first bad one: its symbol is unknown, or its stamp falls.
-pub(crate) fn good_events(symbol_count: u32, symbols: &[u16], stamps: &[u32]) -> usize
-    requires { length symbols.now ≡ length stamps.now }
-    ensures { StopsAt symbol_count symbols.now stamps.now result }
-{
-    let known = wide32(symbol_count);
-    let mut last = Stamp(0);
-    let mut i: usize = 0;
-    while i < symbols.len() {
-        if known <= wide16(symbols[i]) {
-            return i;
-        }
-        let stamp = Stamp(stamps[i]);
-        if stamp.0 < last.0 {
-            return i;
-        }
-        last = stamp;
-        i += 1;
-    }
-    i
+    (1..=MOST_GRAIN as u32).contains(&grain)
 }
 
 // 32 and 33: the earliest bad event, from 1; its symbol before its stamp.
-pub(crate) fn check_events(symbol_count: u32, symbols: &[u16], stamps: &[u32]) -> Answer
-    requires { length symbols.now ≡ length stamps.now }
-    ensures { result ≡ events_answer symbol_count symbols.now stamps.now }
+pub(crate) fn check_events(symbol_count: u32, events: Events<'_>) -> Result<(), Refused>
+    ensures { answer_in (λ u. 0) result ≡ events_answer symbol_count events.entry.symbols.now events.entry.stamps.now }
 {
-    let good = good_events(symbol_count, symbols, stamps);
-    if symbols.len() <= good {
-        return Answer {
-            number: 0,
-            place: 0,
-            value: 0,
-        };
+    let mut last = Stamp(0);
+    for (i, symbol) in events.symbols.iter().enumerate() {
+        let place = i + 1;
+        if symbol_count <= u32::from(*symbol) {
+            return Err(Refused {
+                fault: Fault::UnknownSymbol,
+                place,
+            });
+        }
+        let stamp = Stamp(events.stamps[i]);
+        if stamp < last {
+            return Err(Refused {
+                fault: Fault::FallingStamp,
+                place,
+            });
+        }
+        last = stamp;
     }
-    let event = good + 1;
-    if wide32(symbol_count) <= wide16(symbols[good]) {
-        return Answer {
-            number: 32,
-            place: event,
-            value: 0,
-        };
-    }
-    Answer {
-        number: 33,
-        place: event,
-        value: 0,
-    }
+    Ok(())
 }
 
 // 30 to 33, with at most `most` events.
-pub fn check_word(
+#[tactic(auto, unfolding(model::specs::Words::word_refusal))]
+pub fn check_word<'a>(
     symbol_count: u32,
     grain: u32,
     most: u32,
-    symbols: &[u16],
-    stamps: &[u32],
-) -> Answer
-    ensures { ChecksWord symbol_count grain most symbols.now stamps.now result }
+    symbols: &'a [u16],
+    stamps: &'a [u32],
+) -> Result<Events<'a>, Refused>
+    ensures checks { ChecksWord symbol_count grain most symbols.now stamps.now (answer_in (λ e. 0) result) }
+    ensures lends { IfOk result (λ e. (e.symbols.now ≡ symbols.now) × (e.stamps.now ≡ stamps.now)) }
 {
     if !grain_ok(grain) {
-        return Answer {
-            number: 30,
-            place: 0,
-            value: 0,
-        };
+        return Err(Fault::BadGrain.into());
     }
-    let count = symbols.len();
-    if count != stamps.len() || wide32(most) < count {
-        return Answer {
-            number: 31,
-            place: 0,
-            value: 0,
-        };
+    if symbols.len() != stamps.len() || (most as usize) < symbols.len() {
+        return Err(Fault::BadCount.into());
     }
-    check_events(symbol_count, symbols, stamps)
+    let events = Events { symbols, stamps };
+    check_events(symbol_count, events)?;
+    Ok(events)
 }

@@ -1,63 +1,54 @@
--- The length of the file as the code adds it up: locations counted bit by bit, edges one by one.
-use mathlib.Core.Path.{◌≡◌, sym, ◌∙◌, ap}
+-- The length of the file as the code adds it up: the bits of a mask, edges one by one.
+use mathlib.Core.Path.{◌≡◌, sym, ap}
 use mathlib.Core.List.{List, [], ◌∷◌}
-use Prim.Native.Nat.{ℕ, ◌+◌, ◌-◌, ◌*◌, ◌/◌, ◌%◌, ◌^◌, ◌≤◌, ◌<◌}
+use Prim.Native.Nat.{ℕ, zero, suc, ◌+◌, ◌*◌, ◌/◌, ◌%◌, ◌^◌, ◌≤◌, ◌<◌}
 use native.Mathlib.Omega.{arith}
-use lib.ListN.{length, drop, length-append}
+use native.Mathlib.Nat.{pow-suc, div-div-eq-div-mul}
+use lib.Count.{ones, ones_step, ones-le}
+use lib.ListN.{length, length-append}
 use borrow.Author.Tests.{eqb-true, eqb-false}
 use Rattle.model.specs.declared.Head.{Head}
 use Rattle.model.specs.Basics.{pick, bit, bits_from}
-use Rattle.model.specs.Rules.{most_locations, most_text}
-use Rattle.model.specs.Files.{edge_record, edge_records, rule_bytes}
-use Rattle.model.specs.Layout.{edge_width, edge_at, edges_in, locations_in, rule_in}
+use Rattle.model.specs.Rules.{most_text}
+use Rattle.model.specs.Files.{number_bytes, edge_record, edge_records, rule_bytes}
+use Rattle.model.specs.Layout.{edge_at, edges_in, locations_in, rule_in}
 use Rattle.model.proofs.Logic.{by_test}
 use Rattle.model.proofs.FileLengths.{file_length}
 use Rattle.model.proofs.FileRead.{edge_record_length}
-use Rattle.model.specs.Files.{number_bytes}
-use Rattle.writer.specs.Writing.{sizes_length, single_length, edge_length, Table}
-use Rattle.writer.proofs.Records.{bits_rest, bits_none, edge_records_rest, edge_records_none}
+use Rattle.writer.specs.Writing.{sizes_length, single_length, edge_length}
+use Rattle.writer.proofs.Records.{edges_from, edges_from_rest, edges_from_none}
 
--- the locations counted so far, and those still to come
-pub record Counted (mask i count : ℕ) : Type 0 where
-  pub turns : i ≤ most_locations
-  pub few : count ≤ i
-  pub rest_is : count + length (bits_from (most_locations - i) i mask) ≡ length (locations_in mask)
-
-pub counted_start : (mask : ℕ) → Counted mask 0 0
-counted_start mask = record { turns = omega arith; few = omega arith; rest_is = omega arith }
-
+-- as many locations as a mask has bits
 bit_length : (i mask : ℕ) → length (pick (bit i mask) (i ∷ []) []) ≡ mask / 2 ^ i % 2
 bit_length i mask =
     by_test (bit i mask) (λ e. rw e (sym (eqb-true (mask / 2 ^ i % 2) 1 e)))
     (λ e. rw e (omega (arith, eqb-false (mask / 2 ^ i % 2) 1 e)))
 
-module _ {mask i count : ℕ} (inv : Counted mask i count) where
-  pub counted_next : i < most_locations → Counted mask (i + 1) (count + mask / 2 ^ i % 2)
-  counted_next h =
-      let xs : List ℕ = pick (bit i mask) (i ∷ []) [] in
-      let later : List ℕ = bits_from (most_locations - (i + 1)) (i + 1) mask in
-      record {
-        turns = omega arith;
-        few = omega (arith, inv.few);
-        rest_is =
-            omega (arith, inv.rest_is, ap length (bits_rest i mask h), length-append xs later, bit_length i mask);
-      }
+bits_count : (n i mask : ℕ) → mask / 2 ^ i < 2 ^ n → ones (mask / 2 ^ i) ≡ length (bits_from n i mask)
+unfolding bits_from
+bits_count zero i mask h = omega (arith, ones-le 0 (mask / 2 ^ i) h)
+bits_count (suc n) i mask h =
+    let half : mask / 2 ^ i / 2 ≡ mask / 2 ^ suc i = rw (pow-suc 2 i) (div-div-eq-div-mul mask (2 ^ i) 2) in
+    let few : mask / 2 ^ suc i < 2 ^ n = omega (arith, half, pow-suc 2 n) in
+    let first : List ℕ = pick (bit i mask) (i ∷ []) [] in
+    omega (
+      arith,
+      ones_step (mask / 2 ^ i),
+      ap ones half,
+      bits_count n (suc i) mask few,
+      bit_length i mask,
+      length-append first (bits_from n (suc i) mask),
+    )
 
-  pub counted_end : most_locations ≤ i → count ≡ length (locations_in mask)
-  counted_end h = omega (arith, inv.rest_is, ap length (bits_none i mask h))
+pub locations_count : (mask : ℕ) → mask < 2 ^ 32 → ones mask ≡ length (locations_in mask)
+locations_count mask h =
+    let whole : mask / 2 ^ 0 ≡ mask = omega arith in
+    rw whole at (bits_count 32 0 mask (omega (arith, whole)))
 
 -- the lengths of the edges so far, and of those still to come
 pub record Summed (count : ℕ) (t : List ℕ) (e sum : ℕ) : Type 0 where
-  pub turns : e ≤ count
   pub few : sum ≤ (edge_length + number_bytes * most_text) * e
-  pub rest_is :
-      sum + length (edge_records (edges_in (count - e) (drop (edge_width * e) t)))
-      ≡ length (edge_records (edges_in count t))
-
-pub summed_start : (count : ℕ) (t : List ℕ) → Summed count t 0 0
-summed_start count t =
-    let z : count - 0 ≡ count = omega arith in
-    record { turns = omega arith; few = omega arith; rest_is = rw z (omega arith) }
+  pub rest_is : sum + length (edges_from e count t) ≡ length (edge_records (edges_in count t))
 
 module _ {count e sum : ℕ} {t : List ℕ} (inv : Summed count t e sum) where
   pub summed_next :
@@ -65,37 +56,28 @@ module _ {count e sum : ℕ} {t : List ℕ} (inv : Summed count t e sum) where
       → Summed count t (e + 1) (sum + (edge_length + number_bytes * length text))
   summed_next {text} h few is =
       let long : length text ≡ length (edge_at e t).text = ap length is in
-      let one : List ℕ = edge_record (edge_at e t) in
-      let later : List ℕ = edge_records (edges_in (count - (e + 1)) (drop (edge_width * (e + 1)) t)) in
       record {
-        turns = omega arith;
         few = omega (arith, inv.few);
         rest_is =
             omega (
               arith,
               inv.rest_is,
-              ap length (edge_records_rest count e t h),
-              length-append one later,
+              ap length (edges_from_rest count e t h),
+              length-append (edge_record (edge_at e t)) (edges_from (e + 1) count t),
               edge_record_length (edge_at e t),
             );
       }
 
   pub summed_end : count ≤ e → sum ≡ length (edge_records (edges_in count t))
-  summed_end h = omega (arith, inv.rest_is, ap length (edge_records_none count e t h))
-
--- the edge count as it was read
-pub table_known : {n m : ℕ} {t : List ℕ} → m ≡ n → Table n t → Table m t
-table_known e table = rw e table
+  summed_end h = omega (arith, inv.rest_is, ap length (edges_from_none count e t h))
 
 -- the whole file
 pub whole_length :
-    (h : Head) (t : List ℕ) {starts ends i f es : ℕ} → starts ≡ h.starts → ends ≡ h.ends
-    → i ≡ length (locations_in starts)
-    → f ≡ length (locations_in ends)
+    (h : Head) (t : List ℕ) {starts ends es : ℕ} → starts ≡ ones h.starts → ends ≡ ones h.ends
+    → h.starts < 2 ^ 32
+    → h.ends < 2 ^ 32
     → es ≡ length (edge_records (edges_in h.count t))
-    → sizes_length + single_length * (i + f) + es ≡ length (rule_bytes (rule_in h t))
+    → sizes_length + single_length * (starts + ends) + es ≡ length (rule_bytes (rule_in h t))
 unfolding rule_in
-whole_length h t {starts} {ends} {i} {f} {es} s_is e_is a b g =
-    let a' : i ≡ length (locations_in h.starts) = a ∙ ap (λ (m : ℕ). length (locations_in m)) s_is in
-    let b' : f ≡ length (locations_in h.ends) = b ∙ ap (λ (m : ℕ). length (locations_in m)) e_is in
-    omega (arith, file_length (rule_in h t))
+whole_length h t a b p q g =
+    omega (arith, locations_count h.starts p, locations_count h.ends q, file_length (rule_in h t))

@@ -1,14 +1,14 @@
 -- Bytes put one after another: what two writes in a row leave, and a loop that puts a list of bytes part by part.
 use mathlib.Core.Path.{◌≡◌, refl, sym, ◌∙◌, ap, ap₂}
 use mathlib.Core.List.{List, [], ◌∷◌, ◌++◌, append-nil, append_assoc}
-use Prim.Native.Nat.{ℕ, suc, ◌+◌, ◌/◌, ◌%◌, ◌≤◌}
+use Prim.Native.Nat.{ℕ, suc, ◌+◌, ◌*◌, ◌≤◌}
 use native.Mathlib.Omega.{arith}
-use native.Mathlib.Numerals.{add-one}
 use lib.ListN.{length, set, length-append}
 use lib.Seq.{sets, length-sets}
-use Rattle.model.specs.Files.{two}
-use Rattle.model.specs.Files.{number_bytes}
-use Rattle.writer.specs.Writing.{Puts}
+use Rattle.model.specs.Rules.{Edge, most_text}
+use Rattle.model.specs.Files.{number_bytes, fields_body, numbers, edge_record}
+use Rattle.writer.specs.declared.output.Output.{Output}
+use Rattle.writer.specs.Writing.{Puts, Put}
 
 sets_append : (xs ys l : List ℕ) (i : ℕ) → sets l i (xs ++ ys) ≡ sets (sets l i xs) (i + length xs) ys
 sets_append [] ys l i = let e : i + 0 ≡ i = omega arith in rw e
@@ -18,11 +18,6 @@ sets_append (x ∷ xs) ys l i =
 
 pub none_put : (out : List ℕ) (at : ℕ) → Puts [] out at out at
 none_put out at = record { next_is = omega arith; out_is = refl }
-
-pub number_put :
-    (out : List ℕ) (at v low high : ℕ) → low ≡ v % 256 → high ≡ v / 256
-    → Puts (two v) out at (set (set out at low) (at + 1) high) (at + number_bytes)
-number_put out at v low high l h = record { next_is = refl; out_is = rw (l, h, add-one at) }
 
 module _ {xs out out₁ : List ℕ} {at n₁ : ℕ} (p : Puts xs out at out₁ n₁) where
   pub put_wide : length out₁ ≡ length out
@@ -36,48 +31,75 @@ module _ {xs out out₁ : List ℕ} {at n₁ : ℕ} (p : Puts xs out at out₁ n
         ∙ (ap₂ (λ (l : List ℕ) (n : ℕ). sets l n ys) p.out_is p.next_is ∙ sym (sets_append xs ys out at));
   }
 
--- the same bytes, as a definition names them
-pub put_as :
-    {xs ys out out' : List ℕ} {at next : ℕ} → ys ≡ xs → Puts xs out at out' next → Puts ys out at out' next
-put_as e p = rw e p
-
-pub none_put_as : {ys : List ℕ} (out : List ℕ) (at : ℕ) → ys ≡ [] → Puts ys out at out at
-none_put_as out at e = rw e (none_put out at)
+pub then_puts :
+    {xs ys : List ℕ} {was now then : Output} → Put xs was now → Put ys now then → Put (xs ++ ys) was then
+then_puts p q = record { same = q.same ∙ p.same; puts = then_put p.puts q.puts }
 
 -- some of all the bytes are put, the rest is still to be put and has room
-pub record Putting (all rest was : List ℕ) (at : ℕ) (out : List ℕ) (next : ℕ) : Type 0 where
+pub record Putting (all rest : List ℕ) (was now : Output) : Type 0 where
   pub done : List ℕ
-  pub puts : Puts done was at out next
+  pub put : Put done was now
   pub rest_is : done ++ rest ≡ all
-  pub wide : length out ≡ length was
-  pub room : next + length rest ≤ length out
+  pub room : now.at + length rest ≤ length now.bytes.now
 
-pub putting_start : (all out : List ℕ) (at : ℕ) → at + length all ≤ length out → Putting all all out at out at
-putting_start all out at h = record {
+pub putting_start :
+    {all rest : List ℕ} {out : Output} → rest ≡ all → out.at + length all ≤ length out.bytes.now
+    → Putting all rest out out
+putting_start {all} {rest} {out} e h = record {
   done = [];
-  puts = none_put out at;
-  rest_is = refl;
-  wide = refl;
-  room = h;
+  put = record { same = refl; puts = none_put out.bytes.now out.at };
+  rest_is = e;
+  room = rw e h;
 }
 
-module _ {all rest was out : List ℕ} {at next : ℕ} (inv : Putting all rest was at out next) where
-  pub putting_room : (xs later : List ℕ) → rest ≡ xs ++ later → next + length xs ≤ length out
+module _ {all rest : List ℕ} {was now : Output} (inv : Putting all rest was now) where
+  pub putting_room : (xs later : List ℕ) → rest ≡ xs ++ later → now.at + length xs ≤ length now.bytes.now
   putting_room xs later e = omega (arith, inv.room, ap length e, length-append xs later)
 
   pub putting_next :
-      {xs later out' : List ℕ} {next' : ℕ} → rest ≡ xs ++ later → Puts xs out next out' next'
-      → Putting all later was at out' next'
-  putting_next {xs} {later} {out'} e p = record {
+      (xs later : List ℕ) {then : Output} → rest ≡ xs ++ later → Put xs now then → Putting all later was then
+  putting_next xs later {then} e p = record {
     done = inv.done ++ xs;
-    puts = then_put inv.puts p;
+    put = then_puts inv.put p;
     rest_is = append_assoc inv.done xs later ∙ (ap (λ (l : List ℕ). inv.done ++ l) (sym e) ∙ inv.rest_is);
-    wide = put_wide p ∙ inv.wide;
-    room = omega (arith, inv.room, ap length e, length-append xs later, p.next_is, put_wide p);
+    room = omega (arith, inv.room, ap length e, length-append xs later, p.puts.next_is, put_wide p.puts);
   }
 
-  pub putting_end : rest ≡ [] → Puts all was at out next
+  pub putting_end : rest ≡ [] → Put all was now
   putting_end e =
       let whole : inv.done ≡ all =
       sym (append-nil inv.done) ∙ (ap (λ (l : List ℕ). inv.done ++ l) (sym e) ∙ inv.rest_is) in
-      rw (← whole) inv.puts
+      rw (← whole) inv.put
+
+pub putting_as :
+    {all xs ys : List ℕ} {was now : Output} → Putting all xs was now → xs ≡ ys → Putting all ys was now
+putting_as inv e = rw e at inv
+
+-- an edge, by its first six numbers and its text
+pub edge_put :
+    (e : Edge) {text : List ℕ} {kind source target symbol resets : ℕ} {was now then : Output}
+    → kind ≡ e.kind
+    → source ≡ e.source
+    → target ≡ e.target
+    → symbol ≡ e.symbol
+    → resets ≡ e.resets
+    → text ≡ e.text
+    → Put
+    (numbers
+    ((fields_body + number_bytes * length text) ∷ kind ∷ source ∷ target ∷ symbol ∷ resets ∷ []))
+    was now
+    → Put (numbers text) now then
+    → Put (edge_record e) was then
+edge_put e a b c d f g p q = rw (← a, ← b, ← c, ← d, ← f, ← g) (then_puts p q)
+
+-- the same of an edge and of one that is equal to it
+module _ {e f : Edge} (same : e ≡ f) where
+  pub few_as : length f.text ≤ most_text → length e.text ≤ most_text
+  few_as h = rw same h
+
+  pub edge_room :
+      (at : ℕ) (out : List ℕ) → at + length (edge_record f) ≤ length out → at + length (edge_record e) ≤ length out
+  edge_room at out h = rw same h
+
+  pub record_put : {was now : Output} → Put (edge_record e) was now → Put (edge_record f) was now
+  record_put p = rw same at p

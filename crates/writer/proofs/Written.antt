@@ -7,9 +7,14 @@ use native.Mathlib.Omega.{arith}
 use lib.Dec.{eqb, ltb}
 use lib.ListN.{length, get_or}
 use lib.Seq.{sets-eq}
-use borrow.Author.Tests.{ltb-false, lt-ltb, le-ltb, ne_eqb}
+use borrow.Author.Tests.{eqb-false, ltb-false, lt-ltb, le-ltb, ne_eqb}
 use Rattle.model.specs.declared.Head.{Head}
-use Rattle.model.specs.declared.Answer.{Answer}
+use Rattle.std.specs.Prelude.{Result, Ok, Err}
+use Rattle.std.specs.Result.{IsErrAnd}
+use Rattle.model.specs.declared.Fault.TheVariants.{NoRoomForFile}
+use Rattle.model.specs.declared.Refused.{Refused}
+use Rattle.model.specs.Faults.{fault_number, at_once, answer_in}
+use Rattle.model.proofs.Faults.{refuses}
 use Rattle.model.specs.Basics.{Refusal, refusal, fine, refuse, ◌⨾◌}
 use Rattle.model.specs.Rules.{Edge, most_text}
 use Rattle.model.specs.Runs.{no_edge}
@@ -57,42 +62,48 @@ module _ (h : Head) (t : List ℕ) where
     };
   }
 
-  -- what passes 20 and 21 can be written
-  pub is_writable : {a : Answer} → ChecksRule h t a → a.number ≡ 0 → Writable h t
-  is_writable {a} checked z =
-      let zero : (rule_refusal h t).number ≡ 0 = sym (number_is (rule_refusal h t) 0 checked.answer_is) ∙ z in
-      writable_of (passed_valid h t zero) (long_table zero)
+  -- what passes 20 and 21
+  module _ (checked : ChecksRule h t (record { number = 0; place = 0; value = 0 })) where
+    passed : (rule_refusal h t).number ≡ 0
+    passed = sym (number_is (rule_refusal h t) 0 checked.answer_is)
+
+    pub is_writable : Writable h t
+    is_writable = writable_of (passed_valid h t passed) (long_table passed)
 
   module _ (out : List ℕ) where
     abbrev short : Refusal
     short = refuse (ltb (length out) (length (rule_bytes (rule_in h t)))) 27 0
 
     -- 20 or 21
-    pub writes_refused : {a : Answer} → ChecksRule h t a → (a.number ≡ 0 → ⊥) → WritesRule h t out out a
+    pub writes_refused :
+        (r : Result ℕ Refused) (e : Refused) → IsErrAnd r (λ y. y ≡ e)
+        → ChecksRule h t (record { number = fault_number e.fault; place = e.place; value = 0 })
+        → WritesRule h t out out (answer_in (λ n. n) r)
     unfolding write_refusal
-    writes_refused {a} checked n =
+    writes_refused (Ok n) e never checked = elim never [ ]
+    writes_refused (Err y) e is checked =
         let f : Refusal = rule_refusal h t in
-        let met : eqb f.number 0 ≡ false = ne_eqb f.number 0 (λ z. n (number_is f 0 checked.answer_is ∙ z)) in
-        record {
-          answer_is = first_refuses f short 0 (length (rule_bytes (rule_in h t))) checked.answer_is n;
+        let some : fault_number e.fault ≡ 0 → ⊥ = eqb-false (fault_number e.fault) 0 (refuses e.fault e.place) in
+        let met : eqb f.number 0 ≡ false = ne_eqb f.number 0 (λ z. some (number_is f 0 checked.answer_is ∙ z)) in
+        rw is
+        (record {
+          answer_is = first_refuses f short 0 (length (rule_bytes (rule_in h t))) checked.answer_is some;
           out_is = rw (met, met);
-        }
+        })
 
-    module _ {a : Answer} (checked : ChecksRule h t a) (z : a.number ≡ 0) where
-      passed : (rule_refusal h t).number ≡ 0
-      passed = sym (number_is (rule_refusal h t) 0 checked.answer_is) ∙ z
-
+    module _ (checked : ChecksRule h t (record { number = 0; place = 0; value = 0 })) where
       -- 27
-      pub writes_short : length out < length (rule_bytes (rule_in h t))
-          → WritesRule h t out out (record { number = 27; place = 0; value = 0 })
+      pub writes_short :
+          {e : Refused} → length out < length (rule_bytes (rule_in h t)) → e ≡ at_once NoRoomForFile
+          → WritesRule h t out out (record { number = fault_number e.fault; place = e.place; value = 0 })
       unfolding write_refusal
-      writes_short q =
+      writes_short q is =
           let f : Refusal = rule_refusal h t in
           let is_27 : (f ⨾ short) ≡ refusal 27 0 =
-          on_pass f short passed
+          on_pass f short (passed checked)
           ∙ refuse_met (ltb (length out) (length (rule_bytes (rule_in h t)))) 27 0
           (lt-ltb (length out) (length (rule_bytes (rule_in h t))) q) in
-          record { answer_is = rw is_27; out_is = rw is_27 }
+          rw is (record { answer_is = rw is_27; out_is = rw is_27 })
 
       -- the file, and what stood past it
       pub writes_file :
@@ -104,7 +115,7 @@ module _ (h : Head) (t : List ℕ) where
           let f : Refusal = rule_refusal h t in
           let file : List ℕ = rule_bytes (rule_in h t) in
           let fits : (f ⨾ short) ≡ fine =
-          both_fine f short passed
+          both_fine f short (passed checked)
           (refuse_fine (ltb (length out) (length file)) 27 0 (le-ltb (length out) (length file) room)) in
           let size : next ≡ length file = omega (arith, puts.next_is) in
           let from_start : 0 + length file ≡ length file = omega arith in

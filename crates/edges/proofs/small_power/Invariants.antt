@@ -1,10 +1,6 @@
--- `edges::small_power` meets its contract: after k turns the product is the k-th power, which fits.
-use mathlib.Core.Path.{◌≡◌}
-use Prim.Native.Nat.{◌≤◌, ◌-◌, ◌^◌}
+-- `edges::small_power`: after k turns the product is the k-th power.
+use Rattle.std.proofs.Common.{◌≡◌, ◌^◌}
 use Rattle.edges.proofs.small_power.Given as goal
 
-abbrev pub invariant-loop-k : goal.invariant-loop-k
-invariant-loop-k l = (l.k ≤ l.exponent) × (l.power ≡ l.base ^ l.k)
-
-abbrev pub decreases-loop-k : goal.decreases-loop-k
-decreases-loop-k l = l.exponent - l.k
+abbrev pub invariant-loop : goal.invariant-loop
+invariant-loop l = l.power ≡ l.base ^ l.counter

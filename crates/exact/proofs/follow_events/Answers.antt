@@ -1,89 +1,58 @@
 -- `exact::follow_events` meets its contract: refusal and verdict over the events left are those of the word.
-use native.Mathlib.Omega.{arith}
-use Rattle.exact.proofs.Running.{other_known, to_known, final_known, running, from_most, next_known}
-use Rattle.exact.proofs.Running.{step_ready, running_full, running_next, final_fits, running_end}
+use Rattle.std.proofs.Common.{◌<◌, ◌^◌, rules, inl, inr}
+use Rattle.exact.proofs.Running.{running, step_ready, running_full, running_next, running_end, full_is, handed_on}
 use Rattle.exact.proofs.follow_events.Goals as goal
 
-pub overflow_mul-other : goal.overflow_mul-other
-overflow_mul-other c =
-    omega (arith, other_known c.args.room c.wide32-clocks.result _ c.wide32-clocks.ensures.0, c.requires.banks_fit)
-
 pub loop-i-init : goal.loop-i-init
-loop-i-init c = (
-  c.wide32-clocks.ensures.0,
-  other_known _ _ _ c.wide32-clocks.ensures.0,
-  running _ _ _ _ _ _ _ _
-      c.requires,
-)
-
-pub overflow_sub-to : goal.overflow_sub-to
-overflow_sub-to c =
+loop-i-init g c =
     let a = c.args in
-    omega (
-      arith,
-      c.loop-i.invariant.1,
-      from_most a.head a.edges.now a.grain a.symbols.now a.stamps.now
-          a.room c.loop-i.invariant.2,
-    )
+    let it = c.into_iter-i-iterator.ensures.into_iter_gives in
+    let zipped = c.enumerate-i-items.ensures.source in
+    running a.rule.head a.rule.edges.now a.grain a.events.symbols.now a.events.stamps.now g.room _ _ _ _ _ c.requires
+    a.events.equal (rw it c.enumerate-i-items.ensures.count)
+    (rw (it, zipped, c.zip.ensures.first) c.iter.ensures.rest)
+    (rw (it, zipped) c.zip.ensures.second.0)
 
-pub by_configs-added-requires : goal.by_configs-added-requires
-by_configs-added-requires c =
+pub by_configs-requires : goal.by_configs-requires
+by_configs-requires g c =
     let a = c.args in
-    let next_at =
-    next_known a.head a.edges.now a.grain a.symbols.now a.stamps.now a.room c.loop-i-test.true
-    (to_known _ _ _ c.loop-i.from c.loop-i.invariant.0) c.since-delay.ensures (c.type_inv.stamps c.loop-i.i).fits in
-    step_ready a.head a.edges.now a.grain a.symbols.now a.stamps.now a.room c.loop-i.invariant.2
-    next_at
+    let h = c.in-Some.ensures.steps in
+    let small : c.in-Some.stamp.now < 2 ^ 32 = search rules in
+    step_ready a.rule.head a.rule.edges.now a.grain a.events.symbols.now a.events.stamps.now g.room c.loop-i.invariant
+    c.in-Some.symbol.now c.in-Some.stamp.now _ _ _ h.0.0 h.0.1
+    c.since.ensures small
 
-pub returns-in_default : goal.returns-in_default
-returns-in_default c =
+pub returns-in_err-ok_or : goal.returns-in_err-ok_or
+returns-in_err-ok_or g c =
     let a = c.args in
-    let next_at =
-    next_known a.head a.edges.now a.grain a.symbols.now a.stamps.now a.room c.loop-i-test.true
-    (to_known _ _ _ c.loop-i.from c.loop-i.invariant.0) c.since-delay.ensures (c.type_inv.stamps c.loop-i.i).fits in
-    running_full a.head a.edges.now a.grain a.symbols.now a.stamps.now a.room c.loop-i.invariant.2
-    next_at
+    let h = c.in-Some.ensures.steps in
+    full_is a.rule.head a.rule.edges.now a.grain a.events.symbols.now a.events.stamps.now g.room _
+    c.full.result
     _
-    c.by_configs-added.result
-    c.by_configs-added.ensures
-    _
-    c.in_default.is
-    c.full.ensures
+    (handed_on c.from_residual.result c.in_err-ok_or.field-0.0 c.full.result c.from_residual.ensures.1
+    (rw c.in_err-ok_or.ensures.ok_part at c.in_err-ok_or.ensures.value))
+    c.full.ensures.0
+    (rw h.1 at c.full.ensures.1)
+    (running_full a.rule.head a.rule.edges.now a.grain a.events.symbols.now a.events.stamps.now g.room
+    c.loop-i.invariant
+    c.in-Some.symbol.now c.in-Some.stamp.now _ _ _ h.0.0 h.0.1
+    c.since.ensures
+    (rw c.in_err-ok_or.ensures.ok_part at c.by_configs.ensures))
 
 pub loop-i-preserved : goal.loop-i-preserved
-loop-i-preserved c =
+loop-i-preserved g c =
     let a = c.args in
-    let next_at =
-    next_known a.head a.edges.now a.grain a.symbols.now a.stamps.now a.room c.loop-i-test.true
-    (to_known _ _ _ c.loop-i.from c.loop-i.invariant.0) c.since-delay.ensures (c.type_inv.stamps c.loop-i.i).fits in
-    let next =
-    running_next a.head a.edges.now a.grain a.symbols.now a.stamps.now a.room c.loop-i.invariant.2
-    next_at
-    _
-    c.by_configs-added.result
-    c.by_configs-added.ensures
-    _
-    c.in-Count.is
-    c.by_configs-added.auto.scratch in
-    (c.loop-i.invariant.0, c.loop-i.invariant.1, next)
-
-pub some_final-requires : goal.some_final-requires
-some_final-requires c =
-    let a = c.args in (
-      omega (arith, c.loop-i.invariant.0, c.loop-i.invariant.2.begins.clocks_most),
-      omega (
-        arith,
-        other_known c.loop-i.n _ _ c.loop-i.invariant.0,
-        final_fits a.head a.edges.now a.grain
-            a.symbols.now a.stamps.now a.room c.loop-i.invariant.2,
-      ),
-    )
+    let h = c.in-Some.ensures.steps in
+    rw (h.2, c.swap.ensures.x_after, c.swap.ensures.y_after)
+    (running_next a.rule.head a.rule.edges.now a.grain a.events.symbols.now a.events.stamps.now g.room
+    c.loop-i.invariant
+    c.in-Some.symbol.now c.in-Some.stamp.now _ _ _ h.0.0 h.0.1
+    c.since.ensures _
+    (rw c.in_ok-ok_or.ensures.ok_part at c.by_configs.ensures))
 
 pub returns : goal.returns
-returns c =
+returns g c =
     let a = c.args in
-    running_end a.head a.edges.now a.grain a.symbols.now a.stamps.now a.room c.loop-i.invariant.2 _
-    c.some_final.result c.loop-i-test.false
-    (final_known _ a.head.clocks a.head.ends c.loop-i.n c.loop-i.from c.loop-i.scratch _ c.loop-i.invariant.0
-    c.some_final.ensures)
-    c.decided.ensures
+    let h = c.in-None.ensures.steps in
+    running_end a.rule.head a.rule.edges.now a.grain a.events.symbols.now a.events.stamps.now g.room c.loop-i.invariant
+    c.some_at.result (elim h.0 [ inl w ↦ inl w.1.0 | inr w ↦ inr w.1.0 ]) c.some_at.ensures

@@ -1,30 +1,21 @@
--- `follower::take_event` meets its contract: the event's own checks, then the step and its row's verdict.
-use mathlib.Core.Path.{◌≡◌, sym, ◌∙◌}
-use Rattle.model.specs.Promises.{event}
-use Rattle.model.proofs.Answers.{number_is}
+-- `follower::take_event` meets its contract: by the table lent, and so whatever its pool is.
+use Rattle.std.proofs.Common.{rules, ◌≡◌, ◌∙◌}
+use Rattle.model.specs.declared.Followed.{Followed}
+use Rattle.model.specs.Tables.{tables}
+use Rattle.model.specs.Promises.{event, followed_by}
 use Rattle.follower.specs.Checks.{event_checks}
-use Rattle.follower.proofs.Checks.{count_below}
-use Rattle.follower.proofs.Moves.{checks_leave, goes_on}
+use Rattle.follower.proofs.AnyPool.{any_pool}
 use Rattle.follower.proofs.take_event.Goals as goal
-
-pub returns-then-checked-ne0 : goal.returns-then-checked-ne0
-returns-then-checked-ne0 c pool =
-    let a = c.args in
-    c.kept.ensures
-    ∙ checks_leave a.built a.cells.now a.rows.now pool a.follower
-    (event a.symbol a.stamp)
-    c.check_event-checked.ensures
-    c.if-checked-ne0.true
-
-pub moved-next-requires : goal.moved-next-requires
-moved-next-requires c =
-    let passed : let a = c.args in (event_checks a.built a.follower (event a.symbol a.stamp)).number ≡ 0 =
-    sym (number_is _ 0 c.check_event-checked.ensures) ∙ c.if-checked-ne0.false in
-    let a = c.args in
-    count_below a.built a.follower (event a.symbol a.stamp) passed
 
 pub returns : goal.returns
 returns c pool =
-    let passed : let a = c.args in (event_checks a.built a.follower (event a.symbol a.stamp)).number ≡ 0 =
-    sym (number_is _ 0 c.check_event-checked.ensures) ∙ c.if-checked-ne0.false in
-    goes_on _ _ _ pool _ _ passed c.moved-next.ensures c.verdict-yes.ensures
+    let a = c.args in
+    let t = a.table in
+    let own :
+    ◌≡◌ {A = Followed}
+    record { number = 0; place = 0; yes = c.verdict-yes.result; follower = c.moved-next.result }
+    (followed_by (event_checks t.built a.follower (event a.symbol a.stamp))
+    (tables t.built t.cells.now t.rows.now t.pool.now) a.follower (event a.symbol a.stamp)) =
+    search rules
+    in
+    own ∙ any_pool _ t.built t.cells.now t.rows.now t.pool.now pool a.follower _

@@ -1,91 +1,76 @@
 -- `inclusion::settle` meets its contract: all found, or a goal: no room for its word, or the word.
-use mathlib.Core.Path.{◌∙◌}
-use mathlib.Core.List.{List, []}
-use Prim.Native.Nat.{ℕ, ◌-◌}
-use lib.ListN.{length}
+use Rattle.std.proofs.Common.{length, ◌∙◌}
 use lib.Seq.{length-take-le}
-use borrow.Author.Tests.{not-true, not-false}
-use Rattle.model.specs.Tables.{tables}
+use Rattle.inclusion.specs.Views.{first_of, second_of}
+use Rattle.inclusion.proofs.Views.{paired_of}
 use Rattle.inclusion.proofs.Searching.{some_state}
 use Rattle.inclusion.proofs.Ending.{GoalAt, ends_included, ends_goal, room_fits, ends_long, show_ready}
 use Rattle.inclusion.proofs.Ending.{ends_shown}
 use Rattle.inclusion.proofs.settle.Goals.{After-depth-events}
 use Rattle.inclusion.proofs.settle.Goals as goal
 
--- the goal that is found, whatever codes the rows hold
+-- the goal that is found
 goal_at :
-    (c : After-depth-events) (pool pool2 : List ℕ)
-    → let a = c.args in
-    GoalAt (tables a.first a.cells.now a.rows.now pool) (tables a.second a.cells2.now a.rows2.now pool2)
-    c.search-p.new.scratch
-    (c.search-p.result.tail - 1)
-goal_at c pool pool2 =
-    let a = c.args in
-    let t = tables a.first a.cells.now a.rows.now pool in
-    let u = tables a.second a.cells2.now a.rows2.now pool2 in
-    ends_goal t u a.scratch.now _ c.search-p.result c.requires.0 c.search-p.ensures (not-false _ c.if-not-p.false)
+    (c : After-depth-events)
+    → GoalAt (first_of c.args.two) (second_of c.args.two) c.search.new.scratch c.in-Break.last
+goal_at c =
+    let two = c.args.two in
+    ends_goal (first_of two) (second_of two) c.args.scratch.now _ _ (paired_of two c.requires.scratch_long)
+    (rw c.in-Break.is at c.search.ensures)
 
-pub returns-then-not-p : goal.returns-then-not-p
-returns-then-not-p c =
-    let a = c.args in
-    record {
-      searched = λ pool pool2 both.
-          let t = tables a.first a.cells.now a.rows.now pool in
-          let u = tables a.second a.cells2.now a.rows2.now pool2 in
-          ends_included t u a.scratch.now _ a.symbols.now a.stamps.now c.search-p.result both c.requires.0
-          c.search-p.ensures
-          (not-true _ c.if-not-p.true)
-          c.requires.2
-          c.requires.3;
-    }
+pub returns-in_default : goal.returns-in_default
+returns-in_default c =
+    let two = c.args.two in
+    ends_included (first_of two) (second_of two) c.args.scratch.now _ c.args.symbols.now c.args.stamps.now _
+    two.comparable
+    (paired_of two c.requires.scratch_long)
+    (rw c.in_default.is at c.search.ensures)
+    c.requires.symbols_zero
+    c.requires.stamps_zero
 
 pub returns-then-word_room-events : goal.returns-then-word_room-events
 returns-then-word_room-events c =
-    let a = c.args in
-    record {
-      searched = λ pool pool2 both.
-          let t = tables a.first a.cells.now a.rows.now pool in
-          let u = tables a.second a.cells2.now a.rows2.now pool2 in
-          let g = goal_at (goal.at.returns-then-word_room-events c).After-depth-events pool pool2 in
-          ends_long t u _ _ a.symbols.now a.stamps.now g _ _ both (c.depth-events.ensures.1 _ _ g.trail)
-          c.word_room.ensures
-          c.if-word_room-events.true
-          c.requires.2
-          c.requires.3;
-    }
+    let two = c.args.two in
+    let g = goal_at (goal.at.returns-then-word_room-events c).After-depth-events in
+    rw c.into.ensures
+    (ends_long (first_of two) (second_of two) _ _ c.args.symbols.now c.args.stamps.now g _ _ two.comparable
+    (c.depth-events.ensures.1 _ _ g.trail)
+    c.word_room.ensures
+    c.if-word_room-events.true
+    c.requires.symbols_zero
+    c.requires.stamps_zero)
 
 pub show-requires : goal.show-requires
 show-requires c =
-    let a = c.args in
-    let t = tables a.first a.cells.now a.rows.now [] in
-    let u = tables a.second a.cells2.now a.rows2.now [] in
-    let g = goal_at (goal.at.show-requires c).After-depth-events [] [] in
+    let two = c.args.two in
+    let g = goal_at (goal.at.show-requires c).After-depth-events in
     let fits = room_fits _ _ _ _ c.word_room.ensures c.if-word_room-events.false in
-    show_ready t u _ _ _ g (length a.scratch.now) (c.depth-events.ensures.1 _ _ g.trail) c.requires.0
-    c.search-p.ensures.same_length
-    a.symbols.now
-    a.stamps.now
+    show_ready (first_of two) (second_of two) _ _ _ g (length c.args.scratch.now)
+    (c.depth-events.ensures.1 _ _ g.trail)
+    (paired_of two c.requires.scratch_long)
+    c.search.ensures.same_length
+    c.args.symbols.now
+    c.args.stamps.now
     fits.0
     fits.1
-    c.requires.3
+    c.requires.stamps_zero
 
 pub returns : goal.returns
 returns c =
-    let a = c.args in
+    let two = c.args.two in
     let fits = room_fits _ _ _ _ c.word_room.ensures c.if-word_room-events.false in
-    record {
-      searched = λ pool pool2 both.
-          let t = tables a.first a.cells.now a.rows.now pool in
-          let u = tables a.second a.cells2.now a.rows2.now pool2 in
-          let g = goal_at (goal.at.returns c).After-depth-events pool pool2 in
-          ends_shown t u _ _ _ _ g (length a.scratch.now) a.symbols.now a.stamps.now _ _ both
-          (c.depth-events.ensures.1 _ _ g.trail)
-          c.requires.0
-          (some_state c.requires.0)
-          c.show.ensures
-          (c.show.auto.symbols ∙ length-take-le _ _ fits.0)
-          c.word_room.ensures
-          c.if-word_room-events.false
-          c.requires.2
-          c.requires.3;
-    }
+    let g = goal_at (goal.at.returns c).After-depth-events in
+    let paired = paired_of two c.requires.scratch_long in
+    ends_shown (first_of two) (second_of two) _ _ _ _ g (length c.args.scratch.now) c.args.symbols.now c.args.stamps.now
+    _
+    _
+    two.comparable
+    (c.depth-events.ensures.1 _ _ g.trail)
+    paired
+    (some_state paired)
+    c.show.ensures
+    (c.show.auto.symbols ∙ length-take-le _ _ fits.0)
+    c.word_room.ensures
+    c.if-word_room-events.false
+    c.requires.symbols_zero
+    c.requires.stamps_zero

@@ -6,8 +6,7 @@ use Rattle.lists.proofs.place.Goals as goal
 -- the states after each place's symbol and stamp, from the last back
 pub returns : goal.returns
 returns c =
-    place_is c.args.word c.args.i c.args.symbol c.args.stamp (six _ _ c.well_formed.0) c.requires.0 c.requires.1 _
-    c.wide32-count.ensures.0
+    place_is c.args.word c.args.i c.args.symbol c.args.stamp (six _ _ c.well_formed.0) c.requires.0 c.requires.1
     (six_equal c.symbol_at.ensures c.symbol_at-2.ensures c.symbol_at-3.ensures c.symbol_at-4.ensures
     c.symbol_at-5.ensures
     c.symbol_at-6.ensures)

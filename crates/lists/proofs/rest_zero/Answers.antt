@@ -1,20 +1,29 @@
--- `lists::rest_zero` meets its contract: the places passed were zero, so those left decide.
-use mathlib.Core.Path.{refl}
-use borrow.Author.Rules.{rules}
-use Rattle.lists.proofs.Fitting.{zeroed_start, zeroed_symbol, zeroed_stamp, zeroed_turn, zeroed_end}
+-- `lists::rest_zero` meets its contract: the unused symbols, then the unused stamps.
+use Rattle.std.proofs.Common.{◌≡◌, ◌∙◌, drop, rules}
+use Rattle.std.proofs.lemmas.Iterator.Search.{all_from_yields_List}
+use Rattle.std.proofs.lemmas.Iterator.{YieldsList-from_slice}
+use Rattle.numbers.specs.Lent.{all_zero}
+use Rattle.lists.proofs.Fitting.{each_zero, is_zero, rest_whole}
 use Rattle.lists.proofs.rest_zero.Goals as goal
 
-pub loop-i-init : goal.loop-i-init
-loop-i-init c = zeroed_start _ _ refl
+pub returns-then-all : goal.returns-then-all
+returns-then-all c =
+    let w = c.args.word in
+    let symbols : c.all.result ≡ all_zero (drop w.count w.symbols) =
+    all_from_yields_List is_zero _ _ c.all.result c.all.ensures.ran
+    (YieldsList-from_slice _ (c.iter.ensures.rest ∙ rest_whole w.count w.symbols)) (λ x b q k. search rules)
+    ∙ each_zero (drop w.count w.symbols) in
+    let stamps : c.all-then-all.result ≡ all_zero (drop w.count w.stamps) =
+    all_from_yields_List is_zero _ _ c.all-then-all.result c.all-then-all.ensures.ran
+    (YieldsList-from_slice _ (c.iter-then-all.ensures.rest ∙ rest_whole w.count w.stamps)) (λ x b q k. search rules)
+    ∙ each_zero (drop w.count w.stamps) in
+    rw (← symbols, c.if-all.true) stamps
 
-pub returns-then-symbols-i-ne0 : goal.returns-then-symbols-i-ne0
-returns-then-symbols-i-ne0 c = zeroed_symbol c.loop-i.invariant c.requires (search rules) (search rules)
-
-pub returns-then-stamps-i-ne0 : goal.returns-then-stamps-i-ne0
-returns-then-stamps-i-ne0 c = zeroed_stamp c.loop-i.invariant c.requires (search rules) (search rules)
-
-pub loop-i-preserved : goal.loop-i-preserved
-loop-i-preserved c = zeroed_turn c.loop-i.invariant c.requires (search rules) (search rules) (search rules)
-
-pub returns : goal.returns
-returns c = zeroed_end c.loop-i.invariant c.requires (search rules)
+pub returns-else-all : goal.returns-else-all
+returns-else-all c =
+    let w = c.args.word in
+    let symbols : c.all.result ≡ all_zero (drop w.count w.symbols) =
+    all_from_yields_List is_zero _ _ c.all.result c.all.ensures.ran
+    (YieldsList-from_slice _ (c.iter.ensures.rest ∙ rest_whole w.count w.symbols)) (λ x b q k. search rules)
+    ∙ each_zero (drop w.count w.symbols) in
+    rw (← symbols, c.if-all.false)

@@ -2,14 +2,15 @@
 use Rattle.reader.proofs.Ends.{ends_unseen, ends_too_many, ends_read}
 use Rattle.reader.proofs.finish.Goals as goal
 
-pub returns-then-head-lt1 : goal.returns-then-head-lt1
-returns-then-head-lt1 c = λ r state. ends_unseen state c.if-head-lt1.true c.refused.ensures
+pub returns-in_default : goal.returns-in_default
+returns-in_default c = rw c.in_default.is (λ r state. ends_unseen state)
 
-pub returns-then-pairs_of-gt-MOST_PAIRS : goal.returns-then-pairs_of-gt-MOST_PAIRS
-returns-then-pairs_of-gt-MOST_PAIRS c =
-    λ r state. ends_too_many state c.if-head-lt1.false c.pairs_of.ensures c.if-pairs_of-gt-MOST_PAIRS.true
-    c.refused-then-pairs_of-gt-MOST_PAIRS.ensures
+pub returns-then-pairs-gt-MOST_PAIRS : goal.returns-then-pairs-gt-MOST_PAIRS
+returns-then-pairs-gt-MOST_PAIRS c =
+    rw c.in-Some.is
+    (λ r state. ends_too_many state _ c.head-head.ensures _ c.pairs.ensures c.if-pairs-gt-MOST_PAIRS.true)
 
 pub returns : goal.returns
 returns c =
-    λ r state. ends_read state c.if-head-lt1.false c.pairs_of.ensures c.if-pairs_of-gt-MOST_PAIRS.false
+    rw c.in-Some.is
+    (λ r state. ends_read state _ c.head-head.ensures _ c.pairs.ensures c.if-pairs-gt-MOST_PAIRS.false)

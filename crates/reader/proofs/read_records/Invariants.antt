@@ -1,11 +1,10 @@
 -- `reader::read_records` meets its contract: what goes on from the cursor is what the file spells.
-use Prim.Native.Nat.{◌-◌}
-use lib.ListN.{length}
-use Rattle.reader.proofs.Ends.{Reads}
+use Rattle.std.proofs.Common.{length}
+use Rattle.reader.proofs.Whole.{Reads}
 use Rattle.reader.proofs.read_records.Given as goal
 
-abbrev pub invariant-loop-cursor : goal.invariant-loop-cursor
-invariant-loop-cursor l = Reads l.file l.cursor l.edges
+abbrev pub invariant-loop-rest : goal.invariant-loop-rest
+invariant-loop-rest l = Reads l.file l.rest l.cursor l.edges
 
-abbrev pub decreases-loop-cursor : goal.decreases-loop-cursor
-decreases-loop-cursor l = length l.file - l.cursor.at
+abbrev pub decreases-loop-rest : goal.decreases-loop-rest
+decreases-loop-rest l = length l.rest

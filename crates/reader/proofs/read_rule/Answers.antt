@@ -1,27 +1,21 @@
 -- `reader::read_rule` meets its promise.
-use mathlib.Core.Path.{◌∙◌, ap}
+use Rattle.std.proofs.Common.{◌∙◌, ap, rules}
 use Rattle.model.specs.Basics.{zeros}
-use Rattle.reader.proofs.Ends.{reads_short, is_cleared, reads_refused, reads_rule}
+use Rattle.reader.proofs.Whole.{reads_short, reads_refused, reads_rule}
 use Rattle.reader.proofs.read_rule.Goals as goal
 
 pub returns-then-edges-lt-EDGE_NEED : goal.returns-then-edges-lt-EDGE_NEED
 returns-then-edges-lt-EDGE_NEED c =
-    reads_short c.args.file.now c.args.edges.now c.if-edges-lt-EDGE_NEED.true c.refused.ensures
+    rw c.into.ensures (reads_short c.args.file.now c.args.edges.now c.if-edges-lt-EDGE_NEED.true)
 
-pub read_records-reading-requires : goal.read_records-reading-requires
-read_records-reading-requires c =
-    let a = c.args in
-    is_cleared a.file.now a.edges.now c.if-edges-lt-EDGE_NEED.false c.clear16.ensures
+pub returns-then-is_err : goal.returns-then-is_err
+returns-then-is_err c =
+    reads_refused c.args.file.now c.args.edges.now c.if-edges-lt-EDGE_NEED.false c.fill.ensures.len
+    c.read_records-outcome.ensures c.if-is_err.ensures.negation
+    (c.fill-then-is_err.ensures.after (λ y e. search rules)
+    ∙ ap zeros (c.read_records-outcome.auto.edges ∙ c.fill.ensures.len))
 
-pub returns-then-reading-ne0 : goal.returns-then-reading-ne0
-returns-then-reading-ne0 c =
-    let a = c.args in
-    reads_refused a.file.now a.edges.now c.if-edges-lt-EDGE_NEED.false c.clear16.auto.table
-    c.read_records-reading.ensures c.if-reading-ne0.true
-    (c.clear16-then-reading-ne0.ensures ∙ ap zeros (c.read_records-reading.auto.edges ∙ c.clear16.auto.table))
-
-pub returns-else-reading-ne0 : goal.returns-else-reading-ne0
-returns-else-reading-ne0 c =
-    let a = c.args in
-    reads_rule a.file.now a.edges.now c.if-edges-lt-EDGE_NEED.false c.clear16.auto.table
-    c.read_records-reading.ensures c.if-reading-ne0.false
+pub returns-else-is_err : goal.returns-else-is_err
+returns-else-is_err c =
+    reads_rule c.args.file.now c.args.edges.now c.if-edges-lt-EDGE_NEED.false c.fill.ensures.len
+    c.read_records-outcome.ensures c.if-is_err.ensures.negation

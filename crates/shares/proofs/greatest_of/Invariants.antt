@@ -1,10 +1,6 @@
 -- `shares::greatest_of` meets its contract: line after line against the best so far.
-use Prim.Native.Nat.{◌-◌}
 use Rattle.shares.proofs.GreatestLaws.{Searching}
 use Rattle.shares.proofs.greatest_of.Given as goal
 
 abbrev pub invariant-loop-i : goal.invariant-loop-i
 invariant-loop-i l = Searching l.count l.lines l.best l.i
-
-abbrev pub decreases-loop-i : goal.decreases-loop-i
-decreases-loop-i l = l.count - l.i

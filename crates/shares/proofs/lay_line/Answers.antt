@@ -3,8 +3,8 @@ use Rattle.std.proofs.Common.{Bool, ◌≡◌, ◌∙◌, ap, ap₂, List, ◌++
 use Rattle.model.specs.Words.{Event}
 use Rattle.model.specs.Shares.{share, table_says, accepted_of_all, out_of_all}
 use Rattle.model.proofs.ShareCounts.{at_most_in_all, some_in_all}
-use Rattle.shares.specs.Tree.{bare}
-use Rattle.shares.specs.Lengths.{sum}
+use Rattle.std.specs.Prelude.{sum}
+use Rattle.tables.specs.Views.{table_in}
 use Rattle.shares.proofs.LineLaws.{sharing_first, share_place, sharing_next, last_place, Known}
 use Rattle.shares.proofs.LineLaws.{words_some}
 use Rattle.shares.proofs.LineLaws.{accepted_sum, words_sum, line_done, places, used_fit, countable, known}
@@ -14,17 +14,17 @@ use Rattle.shares.proofs.lay_line.Goals.{After-count_words}
 -- both arrays are filled
 both_known :
     (c : After-count_words)
-    → Known (table_says (bare c.args.built c.args.cells.now c.args.rows.now)) c.args.built.symbols c.args.seconds
-    (c.wide32-used.result + 1)
-    (c.count_words.new.counts ++ drop (c.wide32-used.result + 1) places)
-    (c.list_lengths.new.lengths ++ drop (c.wide32-used.result + 1) places)
+    → Known (table_says (table_in c.args.tree.now.table)) c.args.tree.now.table.built.symbols c.args.span.seconds
+    (c.args.span.events + 1)
+    (c.count_words.new.counts ++ drop (c.args.span.events + 1) places)
+    (c.list_lengths.new.lengths ++ drop (c.args.span.events + 1) places)
 both_known c =
-    known (bare c.args.built c.args.cells.now c.args.rows.now) c.args.events c.args.seconds
-    (c.wide32-used.result + 1)
-    c.requires.3
-    (omega (arith, c.wide32-used.ensures.0))
-    c.requires.5
-    c.requires.0.symbols_some
+    known (table_in c.args.tree.now.table) c.args.span.events c.args.span.seconds
+    (c.args.span.events + 1)
+    c.args.span.events_most
+    (omega arith)
+    c.requires.0
+    c.args.tree.now.sized.symbols_some
     c.count_words.ensures
     c.list_lengths.ensures
 
@@ -39,26 +39,22 @@ module _ {says : List Event → Bool} {s h used : ℕ} {counts lengths : List �
 
 pub count_words-requires : goal.count_words-requires
 count_words-requires c =
-    let k = c.requires in (
-      k.0,
-      k.1,
-      k.2,
-      countable (bare c.args.built c.args.cells.now c.args.rows.now) c.args.events c.args.seconds
-          (c.wide32-used.result + 1)
-          k.3
-          (omega (arith, c.wide32-used.ensures.0))
-          k.5
-          k.4,
-    )
+    let k = c.requires in
+    countable (table_in c.args.tree.now.table) c.args.span.events c.args.span.seconds
+    (c.args.span.events + 1)
+    c.args.span.events_most
+    (omega arith)
+    k.0
+    c.args.span.seconds_most
 
 pub loop-n-init : goal.loop-n-init
 loop-n-init c =
     sharing_first _ _ _
-    (used_fit (bare c.args.built c.args.cells.now c.args.rows.now) c.args.events c.args.seconds
-    (c.wide32-used.result + 1)
-    c.requires.3
-    (omega (arith, c.wide32-used.ensures.0)))
-    c.requires.6
+    (used_fit (table_in c.args.tree.now.table) c.args.span.events c.args.span.seconds
+    (c.args.span.events + 1)
+    c.args.span.events_most
+    (omega arith))
+    c.requires.1
 
 pub lay_share-requires : goal.lay_share-requires
 lay_share-requires c = (
@@ -73,14 +69,14 @@ pub overflow_cast-accepted : goal.overflow_cast-accepted
 overflow_cast-accepted c =
     let a = c.args in
     let k = both_known (goal.at.overflow_cast-accepted c).After-count_words in
-    let says = table_says (bare a.built a.cells.now a.rows.now) in
+    let says = table_says (table_in a.tree.now.table) in
     record {
       fits =
           omega (
             arith,
-            all_accepted k {m = a.events} (omega (arith, c.wide32-used.ensures.0)) c.sum_of-accepted.ensures,
-            at_most_in_all says a.built.symbols a.seconds a.events,
-            c.requires.5,
+            all_accepted k {m = a.span.events} (omega arith) c.sum_of-accepted.ensures,
+            at_most_in_all says a.tree.now.table.built.symbols a.span.seconds a.span.events,
+            c.requires.0,
           );
     }
 
@@ -91,8 +87,8 @@ overflow_cast-words c =
       fits =
           omega (
             arith,
-            all_words k {m = c.args.events} (omega (arith, c.wide32-used.ensures.0)) c.sum_of-words.ensures,
-            c.requires.5,
+            all_words k {m = c.args.span.events} (omega arith) c.sum_of-words.ensures,
+            c.requires.0,
           );
     }
 
@@ -102,8 +98,8 @@ lay_share-requires-2 c =
     let k = both_known (goal.at.lay_share-requires-2 c).After-count_words in (
       omega (
         arith,
-        all_words k {m = a.events} (omega (arith, c.wide32-used.ensures.0)) c.sum_of-words.ensures,
-        some_in_all a.built.symbols a.seconds a.events,
+        all_words k {m = a.span.events} (omega arith) c.sum_of-words.ensures,
+        some_in_all a.tree.now.table.built.symbols a.span.seconds a.span.events,
       ),
       last_place c.loop-n.invariant,
     )
@@ -111,7 +107,7 @@ lay_share-requires-2 c =
 pub returns : goal.returns
 returns c =
     let k = both_known (goal.at.returns c).After-count_words in
-    let u : c.wide32-used.result + 1 ≡ suc c.args.events = omega (arith, c.wide32-used.ensures.0) in
+    let u : c.args.span.events + 1 ≡ suc c.args.span.events = omega arith in
     line_done k c.loop-n.invariant c.loop-n-test.false u
     (c.lay_share-2.ensures
     ∙ ap₂ share (all_accepted k u c.sum_of-accepted.ensures) (all_words k u c.sum_of-words.ensures))

@@ -1,40 +1,33 @@
 -- `shares::lay_lines` meets its contract: a line for each table, zeros past them.
-use mathlib.Core.Path.{sym, ◌∙◌, ap, refl}
-use native.Mathlib.Omega.{arith}
-use lib.ListN.{length}
-use Rattle.shares.proofs.BatchLaws.{sixteen, total_small}
-use Rattle.shares.proofs.LaidLines.{laying_first, laying_last, line_asked, part_asked, laying_next}
+use Rattle.std.proofs.Common.{◌≡◌, ◌∙◌, ap, true, get_or}
+use Rattle.model.specs.Tables.{Tables, no_built}
+use Rattle.model.specs.Walks.{in_shape}
+use Rattle.tables.specs.Views.{table_in}
+use Rattle.shares.proofs.ShapeLaws.{shape_sized, shape_celled, shape_rowed}
+use Rattle.shares.proofs.LaidLines.{laid_sound, line_room, laying_next}
 use Rattle.shares.proofs.lay_lines.Goals as goal
 
-pub loop-i-init : goal.loop-i-init
-loop-i-init c =
-    laying_first c.args.batch c.args.cells.now c.args.rows.now c.args.events c.args.seconds
-    c.requires.0 (sixteen c.args.batch _ c.well_formed.0) c.wide32-count.ensures.0 c.requires.1
-
-pub slice_bounds-lay_line-end-in-loop-i-2 : goal.slice_bounds-lay_line-end-in-loop-i-2
-slice_bounds-lay_line-end-in-loop-i-2 c =
-    let k = c.loop-i.invariant in
-    omega (arith, k.lines_long, k.count_most, c.loop-i-test.true)
+pub invariant_of-tree : goal.invariant_of-tree
+invariant_of-tree c =
+    let sound = laid_sound c.loop-i.invariant c.requires.0 c.args.span.events_most c.loop-i-test.true in
+    let shape : in_shape (table_in c.table.result) ≡ true = ap in_shape c.table.ensures ∙ sound.shape in
+    record {
+      shape = shape;
+      sized = shape_sized (table_in c.table.result) shape;
+      celled = shape_celled (table_in c.table.result) shape;
+      rowed = shape_rowed (table_in c.table.result) shape;
+    }
 
 pub lay_line-requires : goal.lay_line-requires
-lay_line-requires c = line_asked c.loop-i.invariant c.loop-i-test.true c.requires.0.asked.seconds_most
-
-pub part_behind-at-requires : goal.part_behind-at-requires
-part_behind-at-requires c =
-    let k = c.loop-i.invariant in (
-      (line_asked k c.loop-i-test.true c.requires.0.asked.seconds_most).0,
-      part_asked k c.loop-i-test.true (total_small c.args.batch _ c.loop-i.i c.well_formed.0)
-          (omega arith) (omega arith),
-    )
+lay_line-requires c =
+    let k = c.loop-i.invariant in
+    let sound = laid_sound k c.requires.0 c.args.span.events_most c.loop-i-test.true in
+    let symbols : c.table.result.built.symbols ≡ (get_or c.args.tables.now c.loop-i.i no_built).symbols =
+    ap (λ (t : Tables). t.built.symbols) c.table.ensures in
+    (rw symbols sound.listed, line_room k c.requires.0 c.args.span.events_most c.loop-i-test.true)
 
 pub loop-i-preserved : goal.loop-i-preserved
 loop-i-preserved c =
-    laying_next c.loop-i.invariant c.loop-i-test.true
-    (total_small c.args.batch _ c.loop-i.i c.well_formed.0) c.lay_line.ensures
-    c.part_behind-at.ensures
-
-pub shape_of-lines : goal.shape_of-lines
-shape_of-lines c = c.loop-i.invariant.lines_long ∙ sym (ap length c.requires.1)
-
-pub returns : goal.returns
-returns c = laying_last c.loop-i.invariant c.loop-i-test.false c.args.batch refl c.wide32-count.ensures.0
+    let b = c.behind-rest.ensures in
+    laying_next c.loop-i.invariant c.requires.0 c.args.span.events_most c.loop-i-test.true c.table.ensures
+    c.lay_line.ensures b.cells b.rows b.pool

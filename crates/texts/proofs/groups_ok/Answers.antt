@@ -1,81 +1,62 @@
 -- `texts::groups_ok` meets its contract: the numbers passed keep the rules, so what is left decides.
-use mathlib.Core.Path.{sym, ◌∙◌}
-use borrow.Author.Rules.{rules}
+use mathlib.Core.Path.{sym}
+use denote.Enum.Bare.{differs_true, differs_false}
+use Rattle.texts.specs.contracts.Mark.{the_type}
 use Rattle.texts.proofs.GroupRules.{ruled_start, no_atoms, cut_atom, ruled_atom, no_level, ruled_close}
 use Rattle.texts.proofs.GroupRules.{wrong_mark, too_deep, no_groups, ruled_open, ruled_end}
 use Rattle.texts.proofs.groups_ok.Goals as goal
+use Rattle.texts.proofs.groups_ok.Goals.{then-ne-via-then-ne}
+use Rattle.texts.proofs.groups_ok.Goals.{then-ne-via-else-ne+then-level-ge-MOST_LEVELS}
+use Rattle.texts.proofs.groups_ok.Goals.{then-ne-via-else-ne+else-level-ge-MOST_LEVELS+then-groups-lt1}
 
-pub loop-at-init : goal.loop-at-init
-loop-at-init c = ruled_start _
+pub loop-rest-init : goal.loop-rest-init
+loop-rest-init c = ruled_start _
 
 pub returns-then-atoms-lt1 : goal.returns-then-atoms-lt1
 returns-then-atoms-lt1 c =
-    let l = c.loop-at in
-    let h = c.loop-at-test.true in
-    let e = c.wide16-mark.ensures.0 in
-    no_atoms l.invariant _ h e c.if-mark-eq-IS_ATOM.true c.if-atoms-lt1.true
+    no_atoms c.loop-rest.invariant c.in-len1-up.len_at_least c.in-IsAtom.ensures c.if-atoms-lt1.true
 
-pub returns-then-text-at-le-ATOM_WIDTH : goal.returns-then-text-at-le-ATOM_WIDTH
-returns-then-text-at-le-ATOM_WIDTH c =
-    let l = c.loop-at in
-    let h = c.loop-at-test.true in
-    let e = c.wide16-mark.ensures.0 in
-    cut_atom l.invariant _ h e c.if-mark-eq-IS_ATOM.true c.if-atoms-lt1.false (search rules)
+pub returns-in_default-behind : goal.returns-in_default-behind
+returns-in_default-behind c =
+    cut_atom c.loop-rest.invariant c.in-len1-up.len_at_least c.in-IsAtom.ensures c.if-atoms-lt1.false
+    c.in_default-behind.len_below
 
-pub loop-at-preserved-then-mark-eq-IS_ATOM : goal.loop-at-preserved-then-mark-eq-IS_ATOM
-loop-at-preserved-then-mark-eq-IS_ATOM c =
-    let l = c.loop-at in
-    let h = c.loop-at-test.true in
-    let e = c.wide16-mark.ensures.0 in
-    ruled_atom l.invariant _ h e c.if-mark-eq-IS_ATOM.true c.if-atoms-lt1.false c.if-text-at-le-ATOM_WIDTH.false
+pub loop-rest-preserved-in-IsAtom : goal.loop-rest-preserved-in-IsAtom
+loop-rest-preserved-in-IsAtom c =
+    ruled_atom c.loop-rest.invariant c.in-len1-up.len_at_least c.in-IsAtom.ensures c.if-atoms-lt1.false
+    c.in-len3-up.len_at_least
 
 pub returns-then-level-lt1 : goal.returns-then-level-lt1
 returns-then-level-lt1 c =
-    let l = c.loop-at in
-    let h = c.loop-at-test.true in
-    let e = c.wide16-mark.ensures.0 in
-    no_level l.invariant _ h e c.if-mark-eq-IS_ATOM.false c.if-mark-eq-CLOSES.true c.if-level-lt1.true
+    no_level c.loop-rest.invariant c.in-len1-up.len_at_least c.in-Closes.ensures c.if-level-lt1.true
 
-pub loop-at-preserved-then-mark-eq-CLOSES : goal.loop-at-preserved-then-mark-eq-CLOSES
-loop-at-preserved-then-mark-eq-CLOSES c =
-    let l = c.loop-at in
-    let h = c.loop-at-test.true in
-    let e = c.wide16-mark.ensures.0 in
-    ruled_close l.invariant _ h e c.if-mark-eq-IS_ATOM.false c.if-mark-eq-CLOSES.true c.if-level-lt1.false
+pub loop-rest-preserved-in-Closes : goal.loop-rest-preserved-in-Closes
+loop-rest-preserved-in-Closes c =
+    ruled_close c.loop-rest.invariant c.in-len1-up.len_at_least c.in-Closes.ensures c.if-level-lt1.false
 
-pub returns-then-mark-open_mark : goal.returns-then-mark-open_mark
-returns-then-mark-open_mark c =
-    let l = c.loop-at in
-    let h = c.loop-at-test.true in
-    let e = c.wide16-mark.ensures.0 in
-    wrong_mark l.invariant _ h e c.if-mark-eq-IS_ATOM.false c.if-mark-eq-CLOSES.false
-    (λ q. c.if-mark-open_mark.true (q ∙ sym c.open_mark.ensures))
+pub returns-then-ne : goal.returns-then-ne
+returns-then-ne c =
+    let l = c.loop-rest.invariant in
+    let h = c.in-len1-up.len_at_least in
+    let n = c.in_default-from in
+    elim c.then-ne.branch [
+      | then-ne-via-then-ne w ↦
+          wrong_mark l h c.from.ensures c.open_mark.ensures n.not-IsAtom n.not-Closes
+          (differs_true the_type _ _ (sym w.if-ne.ensures))
+      | then-ne-via-else-ne+then-level-ge-MOST_LEVELS w ↦
+          too_deep l h c.from.ensures c.open_mark.ensures n.not-IsAtom n.not-Closes
+          (differs_false the_type tt _ _ (sym w.if-ne.ensures)) w.if-level-ge-MOST_LEVELS.true
+      | then-ne-via-else-ne+else-level-ge-MOST_LEVELS+then-groups-lt1 w ↦
+          no_groups l h c.from.ensures c.open_mark.ensures n.not-IsAtom n.not-Closes
+          (differs_false the_type tt _ _ (sym w.if-ne.ensures)) w.if-level-ge-MOST_LEVELS.false w.if-groups-lt1.true
+    ]
 
-pub returns-then-level-ge-MOST_LEVELS : goal.returns-then-level-ge-MOST_LEVELS
-returns-then-level-ge-MOST_LEVELS c =
-    let l = c.loop-at in
-    let h = c.loop-at-test.true in
-    let e = c.wide16-mark.ensures.0 in
-    let m = c.if-mark-open_mark.false ∙ c.open_mark.ensures in
-    too_deep l.invariant _ h e c.if-mark-eq-IS_ATOM.false c.if-mark-eq-CLOSES.false m (search rules)
-
-pub returns-then-groups-lt1 : goal.returns-then-groups-lt1
-returns-then-groups-lt1 c =
-    let l = c.loop-at in
-    let h = c.loop-at-test.true in
-    let e = c.wide16-mark.ensures.0 in
-    let m = c.if-mark-open_mark.false ∙ c.open_mark.ensures in
-    no_groups l.invariant _ h e c.if-mark-eq-IS_ATOM.false c.if-mark-eq-CLOSES.false
-    m c.if-level-ge-MOST_LEVELS.false c.if-groups-lt1.true
-
-pub loop-at-preserved : goal.loop-at-preserved
-loop-at-preserved c =
-    let l = c.loop-at in
-    let h = c.loop-at-test.true in
-    let e = c.wide16-mark.ensures.0 in
-    let m = c.if-mark-open_mark.false ∙ c.open_mark.ensures in
-    ruled_open l.invariant _ h e c.if-mark-eq-IS_ATOM.false c.if-mark-eq-CLOSES.false
-    m c.if-level-ge-MOST_LEVELS.false c.if-groups-lt1.false
+pub loop-rest-preserved : goal.loop-rest-preserved
+loop-rest-preserved c =
+    ruled_open c.loop-rest.invariant c.in-len1-up.len_at_least c.from.ensures c.open_mark.ensures
+    c.in_default-from.not-IsAtom c.in_default-from.not-Closes
+    (differs_false the_type tt _ _ (sym c.if-ne.ensures))
+    c.if-level-ge-MOST_LEVELS.false c.if-groups-lt1.false
 
 pub returns : goal.returns
-returns c = ruled_end c.loop-at.invariant c.loop-at-test.false
+returns c = ruled_end c.loop-rest.invariant c.in_default.len_below

@@ -1,11 +1,7 @@
 -- `walk::walk_all` meets its contract: the walk stands where the follower's steps over the events so far lead.
-use Prim.Native.Nat.{◌-◌}
-use lib.ListN.{length}
-use Rattle.walk.proofs.Words.{Walked}
+use Rattle.tables.specs.Views.{table_in}
+use Rattle.walk.specs.Steps.{Walked}
 use Rattle.walk.proofs.walk_all.Given as goal
 
-abbrev pub invariant-loop-event : goal.invariant-loop-event
-invariant-loop-event l = Walked l.built l.cells l.grain l.symbols l.stamps l.walk l.event
-
-abbrev pub decreases-loop-event : goal.decreases-loop-event
-decreases-loop-event l = length l.symbols - l.event
+abbrev pub invariant-loop-i : goal.invariant-loop-i
+invariant-loop-i l = Walked (table_in l.table) l.grain l.events.symbols.now l.events.stamps.now l.walk l.i

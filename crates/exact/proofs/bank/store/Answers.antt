@@ -1,34 +1,23 @@
--- `exact::bank::store` meets its contract: the location, then the ages still to be written.
-use mathlib.Core.Path.{◌∙◌}
-use native.Mathlib.Omega.{arith}
-use lib.ListN.{length-set}
-use Rattle.ages.specs.Ages.{config_of}
-use Rattle.ages.proofs.Laws.{length_mapped}
-use Rattle.exact.proofs.Adding.{storing, storing_next, stored_whole, ages_length}
-use borrow.Author.Rules.{rules}
+-- `exact::bank::store` meets its contract: the front of the numbers is as it must be.
+use Rattle.std.proofs.Common.{◌≡◌, ◌-◌, length, rules, sym, ◌∙◌, ap, arith, length-set}
+use Rattle.model.specs.Rules.{most_clocks}
+use Rattle.model.specs.declared.Age.{Age}
+use Rattle.ages.proofs.Laws.{numbers_at, numbers_length, length_mapped}
+use Rattle.exact.proofs.Chunks.{storing, storing_next, stored}
 use Rattle.exact.proofs.bank.store.Goals as goal
 
 pub loop-k-init : goal.loop-k-init
-loop-k-init c =
-    let a = c.args in (
-      search rules,
-      search rules,
-      ages_length a.clocks a.c.ages (search (rules, length_mapped)) (search rules),
-      storing _ _ _,
-    )
+loop-k-init c = (simp length-set, storing c.args.c c.args.numbers.now c.requires.0)
 
 pub loop-k-preserved : goal.loop-k-preserved
-loop-k-preserved c = (
-  search rules,
-  c.loop-k.invariant.1,
-  c.loop-k.invariant.2,
-  storing_next c.loop-k.invariant.3 _ (omega (arith, c.loop-k.invariant.2)) c.age_of-age.ensures,
-)
-
-pub shape_of-bank : goal.shape_of-bank
-shape_of-bank c = c.loop-k.invariant.3.length_is ∙ simp length-set
+loop-k-preserved c =
+    let ages = c.args.c.ages.of in
+    let four : length ages ≡ most_clocks = search (rules, length_mapped) in (
+      c.loop-k.invariant.0,
+      storing_next c.loop-k.invariant.1 _ (omega arith) (omega arith)
+          (omega (arith, numbers_length ages, c.requires.1))
+          (ap (λ (a : Age). a.0) c.at_or.ensures ∙ sym (numbers_at ages (c.loop-k.k - 1))),
+    )
 
 pub returns : goal.returns
-returns c =
-    let a = c.args in
-    stored_whole (config_of a.clocks a.c) a.bank.now c.loop-k.invariant.3 (omega (arith, c.loop-k.invariant.2))
+returns c = stored c.loop-k.invariant.1 (omega arith) (omega arith)

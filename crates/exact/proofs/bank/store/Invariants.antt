@@ -1,15 +1,7 @@
--- `exact::bank::store` meets its contract: the location, then the ages still to be written.
-use mathlib.Core.Path.{◌≡◌}
-use Prim.Native.Nat.{◌+◌, ◌-◌, ◌≤◌, ◌<◌}
-use lib.ListN.{length}
-use Rattle.ages.specs.Ages.{ages_of}
-use Rattle.exact.proofs.Adding.{Storing}
+-- `exact::bank::store` meets its contract: the front of the numbers is as it must be.
+use Rattle.std.proofs.Common.{◌≡◌, length}
+use Rattle.exact.proofs.Chunks.{Storing}
 use Rattle.exact.proofs.bank.store.Given as goal
 
 abbrev pub invariant-loop-k : goal.invariant-loop-k
-invariant-loop-k l =
-    (l.k ≤ l.clocks) × (l.at + l.clocks < length l.initial.bank) × (length (ages_of l.clocks l.ages) ≡ l.clocks)
-    × Storing l.at l.k (ages_of l.clocks l.ages) l.initial.bank l.bank
-
-abbrev pub decreases-loop-k : goal.decreases-loop-k
-decreases-loop-k l = l.clocks - l.k
+invariant-loop-k l = (length l.fn.numbers ≡ l.k-end) × Storing l.k l.c l.fn.numbers l.numbers

@@ -1,52 +1,45 @@
 -- `guards::groups::first_member` meets its contract: the members passed hold, so the answer is what those to come give.
-use mathlib.Core.Path.{sym, ◌∙◌}
-use borrow.Author.Rules.{rules}
 use borrow.Author.Tests.{not-true, not-false}
-use Rattle.guards.proofs.Levels.{inner_reach}
-use Rattle.guards.proofs.Answers.{holding_start, holding_next, failing, holding_end}
-use Rattle.guards.proofs.Answers.{atom_member, group_member, members_closed, members_over}
+use Rattle.guards.proofs.Levels.{atom_member, group_member}
+use Rattle.guards.proofs.Answers.{holding_start, member_next, member_fails, holding_end, members_closed, members_over}
 use Rattle.guards.proofs.groups.first_member.Goals as goal
+use Rattle.guards.proofs.groups.first_member.Goals.{in-IsAtom+else-not-holds, in-OpensAll+else-not-inner}
 
-pub loop-at-init : goal.loop-at-init
-loop-at-init c = (search rules, holding_start _ _ _)
+pub loop-rest-init : goal.loop-rest-init
+loop-rest-init c = holding_start _ _ _
 
-pub returns-then-not-atom_holds : goal.returns-then-not-atom_holds
-returns-then-not-atom_holds c =
-    failing c.loop-at.invariant.1
-    (atom_member _ _ _ c.loop-at-test.true c.number_at-mark.ensures.0 _ _ c.if-mark-eq-IS_ATOM.true
-    c.atom_holds.ensures)
-    c.if-not-atom_holds.true
-
-pub loop-at-preserved-then-mark-eq-IS_ATOM : goal.loop-at-preserved-then-mark-eq-IS_ATOM
-loop-at-preserved-then-mark-eq-IS_ATOM c = (
-  search rules,
-  holding_next c.loop-at.invariant.1
-      (atom_member _ _ _ c.loop-at-test.true c.number_at-mark.ensures.0 _ _ c.if-mark-eq-IS_ATOM.true
-      c.atom_holds.ensures)
-      c.if-not-atom_holds.false,
-)
+pub returns-then-not-holds : goal.returns-then-not-holds
+returns-then-not-holds c =
+    member_fails c.loop-rest.invariant
+    (atom_member _ c.in-len1-up.len_at_least _ _ _ _ _ c.in-IsAtom.ensures c.holds.ensures
+    c.first_atom.ensures.atom c.first_atom.ensures.past)
+    c.if-not-holds.true
 
 pub returns-then-not-inner : goal.returns-then-not-inner
 returns-then-not-inner c =
-    failing c.loop-at.invariant.1
-    (group_member _ _ _ c.loop-at-test.true c.number_at-mark.ensures.0 c.if-mark-eq-IS_ATOM.false _
-    c.any_of-inner.result (sym c.opens.ensures ∙ c.if-opens.true) c.any_of-inner.ensures)
+    member_fails c.loop-rest.invariant
+    (group_member _ c.in-len1-up.len_at_least _ _ _ c.in-OpensAll.is c.from.ensures c.any_of-inner.ensures)
     (not-true _ c.if-not-inner.true)
 
-pub loop-at-preserved : goal.loop-at-preserved
-loop-at-preserved c = (
-  inner_reach c.args.text.now c.loop-at.at c.any_of-inner.ensures c.loop-at-test.true,
-  holding_next c.loop-at.invariant.1
-      (group_member _ _ _ c.loop-at-test.true c.number_at-mark.ensures.0 c.if-mark-eq-IS_ATOM.false _
-      c.any_of-inner.result (sym c.opens.ensures ∙ c.if-opens.true) c.any_of-inner.ensures)
-      (not-false _ c.if-not-inner.false),
-)
+pub returns-in-Closes : goal.returns-in-Closes
+returns-in-Closes c =
+    holding_end c.loop-rest.invariant
+    (members_closed _ c.in-len1-up.len_at_least c.in-Closes.is c.from.ensures)
 
-pub returns-else-opens : goal.returns-else-opens
-returns-else-opens c =
-    holding_end c.loop-at.invariant.1
-    (members_closed _ _ _ c.loop-at-test.true c.number_at-mark.ensures.0 c.if-mark-eq-IS_ATOM.false
-    (sym c.opens.ensures ∙ c.if-opens.false))
+pub loop-rest-preserved : goal.loop-rest-preserved
+loop-rest-preserved c =
+    let h = c.in-len1-up.len_at_least in
+    elim c.match-from.branch [
+      | in-IsAtom+else-not-holds w ↦
+          member_next c.loop-rest.invariant w.rest-is
+          (atom_member _ h _ _ _ _ _ w.in-IsAtom.ensures w.holds.ensures w.first_atom.ensures.atom
+          w.first_atom.ensures.past)
+          w.if-not-holds.false
+      | in-OpensAll+else-not-inner w ↦
+          member_next c.loop-rest.invariant w.rest-is
+          (group_member _ h _ _ _ w.in-OpensAll.is c.from.ensures w.any_of-inner.ensures)
+          (not-false _ w.if-not-inner.false)
+    ]
 
 pub returns : goal.returns
-returns c = holding_end c.loop-at.invariant.1 (members_over _ _ c.loop-at-test.false)
+returns c = holding_end c.loop-rest.invariant (members_over _ c.in_default.len_below)

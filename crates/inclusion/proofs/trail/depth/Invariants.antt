@@ -1,10 +1,6 @@
 -- `inclusion::trail::depth` meets its contract: the count is the level of the place, which rises one at a time.
-use Prim.Native.Nat.{◌-◌}
 use Rattle.inclusion.proofs.Levels.{Counting}
 use Rattle.inclusion.proofs.trail.depth.Given as goal
 
 abbrev pub invariant-loop-k : goal.invariant-loop-k
 invariant-loop-k l = Counting l.scratch l.last l.n l.k
-
-abbrev pub decreases-loop-k : goal.decreases-loop-k
-decreases-loop-k l = l.last - l.k

@@ -1,8 +1,7 @@
 -- `inclusion::trail::retrace` meets its contract: the pauses and symbols written lead from the place to the last state.
 use native.Mathlib.Omega.{arith}
 use lib.ListN.{length}
-use Rattle.inclusion.specs.Numbers.{bare}
-use Rattle.inclusion.specs.Trails.{steps_of}
+use Rattle.inclusion.specs.Views.{first_of, second_of, graph_in}
 use Rattle.inclusion.proofs.Graphs.{graph_symbols}
 use Rattle.inclusion.proofs.Levels.{standing_less}
 use Rattle.inclusion.proofs.Back.{Read, retracing_start, retracing_end}
@@ -20,7 +19,7 @@ read_at :
     (c : After-mark_at-mark)
     → let a = c.args in
     let l = c.loop-k in
-    Read (steps_of a.first a.cells.now a.second a.cells2.now) a.scratch.now a.last (length a.symbols.now) l.symbols
+    Read (graph_in a.two) a.scratch.now a.last (length a.symbols.now) l.symbols
     l.stamps
     l.k
     l.left
@@ -45,12 +44,13 @@ pub before-k-requires : goal.before-k-requires
 before-k-requires c =
     let a = c.args in
     let read = read_at (goal.at.before-k-requires c).After-mark_at-mark in
-    let known = symbol_known read c.if-way-eq0.false in (
-      c.requires.paired,
-      standing_less c.loop-k.invariant.trail.standing (omega (arith, c.loop-k.invariant.place_most)),
-      omega (arith, known, graph_symbols (bare a.first a.cells.now) (bare a.second a.cells2.now)),
-      source_read read c.if-way-eq0.false,
-    )
+    let known = symbol_known read c.if-way-eq0.false in
+    record {
+      long = c.requires.paired.size_is;
+      standing = standing_less c.loop-k.invariant.trail.standing (omega (arith, c.loop-k.invariant.place_most));
+      known = omega (arith, known, graph_symbols (first_of a.two) (second_of a.two));
+      source = source_read read c.if-way-eq0.false;
+    }
 
 pub loop-k-preserved : goal.loop-k-preserved
 loop-k-preserved c =

@@ -1,83 +1,59 @@
 -- `shape::verdicts::verdicts_ok` meets its contract: what holds of the rows to come is what holds of all.
-use mathlib.Core.Path.{◌≡◌, ◌∙◌, ap}
-use Prim.Native.Nat.{◌+◌, ◌*◌, ◌≤◌}
-use native.Mathlib.Omega.{arith}
-use lib.ListN.{length}
-use borrow.Author.Rules.{rules}
-use Rattle.model.specs.Tables.{row_width, row_start, row_length, row_verdict}
-use Rattle.shape.proofs.Saying.{weight_some, row_inside, part_fits, part_products, part_said}
-use Rattle.shape.proofs.Saying.{checked_start, checked_next, checked_out, checked_end}
+use Rattle.std.proofs.Common.{[], ◌∷◌, ◌∙◌, ap, length-append}
+use Rattle.model.specs.Basics.{one_if}
+use Rattle.shape.proofs.Rows.{walked_more, walked_start, walked_length, walked_verdict}
+use Rattle.shape.proofs.Rows.{walked_next, walked_end}
+use Rattle.shape.proofs.Saying.{weight_some, part_fits, part_products, part_said}
+use Rattle.shape.proofs.Saying.{flag_number, checked_next, checked_out, checked_end}
 use Rattle.shape.proofs.verdicts.verdicts_ok.Goals as goal
 
 pub reciprocal_of-reciprocal-requires : goal.reciprocal_of-reciprocal-requires
-reciprocal_of-reciprocal-requires c = rw c.requires.weight_value (weight_some c.requires.settled)
-
-pub loop-i-init : goal.loop-i-init
-loop-i-init c = checked_start _ _ _
-
-pub bounds-rows-row : goal.bounds-rows-row
-bounds-rows-row c =
-    let inside_at : row_width * c.wide32-row.result + row_width ≤ length c.args.rows.now =
-    row_inside c.requires.settled (search rules) c.wide32-row.ensures.0 in
-    omega (arith, inside_at)
-
-pub bounds-rows-row-in-loop-i : goal.bounds-rows-row-in-loop-i
-bounds-rows-row-in-loop-i c =
-    let inside_at : row_width * c.wide32-row.result + row_width ≤ length c.args.rows.now =
-    row_inside c.requires.settled (search rules) c.wide32-row.ensures.0 in
-    omega (arith, inside_at)
+reciprocal_of-reciprocal-requires c = rw c.location_weight.ensures (weight_some c.requires)
 
 pub slice_bounds-row_says-end : goal.slice_bounds-row_says-end
 slice_bounds-row_says-end c =
-    let start_at : c.wide32-start.result ≡ row_start c.args.rows.now c.loop-i.i =
-    c.wide32-start.ensures.0 ∙ ap (row_start c.args.rows.now) c.wide32-row.ensures.0 in
-    let length_at : c.wide32.result ≡ row_length c.args.rows.now c.loop-i.i =
-    c.wide32.ensures.0 ∙ ap (row_length c.args.rows.now) c.wide32-row.ensures.0 in
-    part_fits c.requires.settled (search rules) start_at length_at
+    let cut = c.in-Some.ensures.steps.1 in
+    let w = c.loop-row.invariant.walked in
+    let fits =
+    part_fits c.requires (walked_more w _ _ cut.0 cut.1) (walked_start w _ _ cut.0 cut.1)
+    (walked_length w _ _ cut.0 cut.1) in
+    fits
 
-pub row_says-requires : goal.row_says-requires
-row_says-requires c =
-    let start_at : c.wide32-start.result ≡ row_start c.args.rows.now c.loop-i.i =
-    c.wide32-start.ensures.0 ∙ ap (row_start c.args.rows.now) c.wide32-row.ensures.0 in
-    let length_at : c.wide32.result ≡ row_length c.args.rows.now c.loop-i.i =
-    c.wide32.ensures.0 ∙ ap (row_length c.args.rows.now) c.wide32-row.ensures.0 in
-    part_products c.requires.settled (search rules) start_at length_at
-    c.reciprocal_of-reciprocal.ensures
-    c.requires.weight_value
+pub row_says-says-requires : goal.row_says-says-requires
+row_says-says-requires c =
+    let cut = c.in-Some.ensures.steps.1 in
+    let w = c.loop-row.invariant.walked in
+    part_products c.requires (walked_more w _ _ cut.0 cut.1) (walked_start w _ _ cut.0 cut.1)
+    (walked_length w _ _ cut.0 cut.1) c.reciprocal_of-reciprocal.ensures c.location_weight.ensures
 
-pub bounds-rows-row-in-loop-i-2 : goal.bounds-rows-row-in-loop-i-2
-bounds-rows-row-in-loop-i-2 c =
-    let inside_at : row_width * c.wide32-row.result + row_width ≤ length c.args.rows.now =
-    row_inside c.requires.settled (search rules) c.wide32-row.ensures.0 in
-    omega (arith, inside_at)
+pub returns-then-from-row : goal.returns-then-from-row
+returns-then-from-row c =
+    let cut = c.in-Some.ensures.steps.1 in
+    let w = c.loop-row.invariant.walked in
+    let said =
+    part_said c.requires (walked_more w _ _ cut.0 cut.1) (walked_start w _ _ cut.0 cut.1)
+    (walked_length w _ _ cut.0 cut.1) c.reciprocal_of-reciprocal.ensures c.location_weight.ensures
+    c.row_says-says.ensures in
+    checked_out c.loop-row.invariant.checked _ _ (walked_more w _ _ cut.0 cut.1)
+    (c.from.ensures ∙ (flag_number _ ∙ ap one_if said)) (walked_verdict w _ _ cut.0 cut.1) c.if-from-row.true
 
-pub returns-then-row_says-rows : goal.returns-then-row_says-rows
-returns-then-row_says-rows c =
-    let start_at : c.wide32-start.result ≡ row_start c.args.rows.now c.loop-i.i =
-    c.wide32-start.ensures.0 ∙ ap (row_start c.args.rows.now) c.wide32-row.ensures.0 in
-    let length_at : c.wide32.result ≡ row_length c.args.rows.now c.loop-i.i =
-    c.wide32.ensures.0 ∙ ap (row_length c.args.rows.now) c.wide32-row.ensures.0 in
-    let said_at =
-    part_said c.requires.settled (search rules) start_at length_at c.reciprocal_of-reciprocal.ensures
-    c.requires.weight_value
-    c.row_says.ensures in
-    checked_out c.loop-i.invariant _ _ (search rules) said_at
-    (ap (row_verdict c.args.rows.now) c.wide32-row.ensures.0)
-    c.if-row_says-rows.true
-
-pub loop-i-preserved : goal.loop-i-preserved
-loop-i-preserved c =
-    let start_at : c.wide32-start.result ≡ row_start c.args.rows.now c.loop-i.i =
-    c.wide32-start.ensures.0 ∙ ap (row_start c.args.rows.now) c.wide32-row.ensures.0 in
-    let length_at : c.wide32.result ≡ row_length c.args.rows.now c.loop-i.i =
-    c.wide32.ensures.0 ∙ ap (row_length c.args.rows.now) c.wide32-row.ensures.0 in
-    let said_at =
-    part_said c.requires.settled (search rules) start_at length_at c.reciprocal_of-reciprocal.ensures
-    c.requires.weight_value
-    c.row_says.ensures in
-    checked_next c.loop-i.invariant _ _ (search rules) said_at
-    (ap (row_verdict c.args.rows.now) c.wide32-row.ensures.0)
-    c.if-row_says-rows.false
+pub loop-row-preserved : goal.loop-row-preserved
+loop-row-preserved c =
+    let cut = c.in-Some.ensures.steps.1 in
+    let w = c.loop-row.invariant.walked in
+    let said =
+    part_said c.requires (walked_more w _ _ cut.0 cut.1) (walked_start w _ _ cut.0 cut.1)
+    (walked_length w _ _ cut.0 cut.1) c.reciprocal_of-reciprocal.ensures c.location_weight.ensures
+    c.row_says-says.ensures in
+    rw (length-append c.loop-row.yielded (c.in-Some.row ∷ [])) (record {
+      walked = walked_next w _ _ cut.0 cut.1 c.in-Some.ensures.steps.0;
+      checked =
+          checked_next c.loop-row.invariant.checked _ _ (walked_more w _ _ cut.0 cut.1)
+          (c.from.ensures ∙ (flag_number _ ∙ ap one_if said)) (walked_verdict w _ _ cut.0 cut.1)
+          c.if-from-row.false;
+    })
 
 pub returns : goal.returns
-returns c = checked_end c.loop-i.invariant (search rules)
+returns c =
+    checked_end c.loop-row.invariant.checked
+    (walked_end c.loop-row.invariant.walked c.in-None.ensures.steps.1.0)

@@ -1,11 +1,7 @@
 -- `shares::lengths::list_lengths` meets its contract: with no stamp there is the empty word alone, and each turn adds a
 -- stamp.
-use Prim.Native.Nat.{◌-◌}
 use Rattle.shares.proofs.LengthLaws.{Listing}
 use Rattle.shares.proofs.lengths.list_lengths.Given as goal
 
 abbrev pub invariant-loop-stamp : goal.invariant-loop-stamp
-invariant-loop-stamp l = Listing l.symbols l.stamps l.initial.lengths l.lengths l.stamp
-
-abbrev pub decreases-loop-stamp : goal.decreases-loop-stamp
-decreases-loop-stamp l = l.stamps - l.stamp
+invariant-loop-stamp l = Listing l.symbols l.stamps l.initial.lengths l.lengths l._stamp

@@ -1,4 +1,0 @@
-pub mod Cells
-pub mod Moves
-pub mod Words
-pub mod Runs
