@@ -25,14 +25,14 @@ pub struct Ages {
 }
 
 // One age after the delay, at most the last number of 32 bits.
-pub(crate) fn later(age: Age, delay: Age) -> Age
+pub fn later(age: Age, delay: Age) -> Age
     ensures { result.0 ≡ lesser (age.0 + delay.0) most_age }
 {
     Age(age.0.saturating_add(delay.0))
 }
 
 // One age after a reset by the mask.
-pub(crate) fn kept(age: Age, mask: usize, clock: usize) -> Age
+pub fn kept(age: Age, mask: usize, clock: usize) -> Age
     ensures { result.0 ≡ pick (bit clock mask) 0 age.0 }
 {
     if has_bit(mask, clock) { Age(0) } else { age }

@@ -1,9 +1,10 @@
 -- The edge at the front of a list of numbers: its fields in range, the group rules, and the number that refuses it.
-use Rattle.std.specs.Prelude.{Bool, ◌&&◌, List, ℕ, ◌^◌, Result, Ok, Err, ltb, get_or}
+use Rattle.std.specs.Prelude.{Bool, true, ◌&&◌, List, ℕ, ◌^◌, Result, Ok, Err, eqb, ltb, get_or}
 use Rattle.model.specs.declared.Fault.{Fault}
 use Rattle.model.specs.declared.Head.{Head}
 use Rattle.model.specs.Basics.{pick}
-use Rattle.model.specs.Rules.{text_ok, atoms_of, atoms_ok, integer_reset}
+use Rattle.model.specs.Texts.{groups_ok}
+use Rattle.model.specs.Rules.{grouped_edge, text_ok, atoms_of, atoms_ok, integer_reset}
 use Rattle.model.specs.Layout.{edge_in}
 use Rattle.model.specs.Faults.{fault_number}
 
@@ -12,6 +13,10 @@ abbrev pub fields_ok : Head → List ℕ → Bool
 fields_ok h t =
     ltb (get_or t 1 0) h.locations && ltb (get_or t 2 0) h.locations && ltb (get_or t 3 0) h.symbols
     && ltb (get_or t 4 0) (2 ^ h.clocks)
+
+-- a text of kind 6 keeps the group rules
+abbrev pub text_kept : ℕ → List ℕ → Bool
+text_kept kind text = pick (eqb kind grouped_edge) (groups_ok text) true
 
 -- the fields, the group rules and each atom
 abbrev pub in_range : Head → List ℕ → Bool

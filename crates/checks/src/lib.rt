@@ -3,13 +3,12 @@
 // Total: a place past the end of the table holds 0.
 #![tactic(auto)]
 
-ghost use Rattle.std.specs.Prelude.{◌≡◌, drop};
+ghost use Rattle.std.specs.Prelude.{◌≡◌, ◌||◌, eqb, drop};
 ghost use Rattle.model.specs.Texts.{outer};
-ghost use Rattle.model.specs.Rules.{guard_of, atoms_of, atom_ok, atoms_ok, has_atom, pins, is_pinned, text_ok};
-ghost use Rattle.model.specs.Rules.{integer_reset};
+ghost use Rattle.model.specs.Rules.{guard_in, atoms_in, atom_ok, atoms_ok, has_atom, pins, is_pinned};
 ghost use Rattle.edges.specs.Atoms.{atom_of};
-ghost use Rattle.edges.specs.Views.{edge_of, numbers_of};
-ghost use Rattle.checks.specs.Checks.{fields_ok, in_range, edge_fault, number_in};
+ghost use Rattle.edges.specs.Views.{numbers_of};
+ghost use Rattle.checks.specs.Checks.{fields_ok, text_kept, edge_fault, number_in};
 
 use edges::atoms::{Atom, Atoms, Grouped, Outermost, Plain, Walk};
 use edges::{StoredEdge, mask_ok};
@@ -30,10 +29,10 @@ pub(crate) fn fields_ok(head: Head, edge: StoredEdge<'_>) -> bool
 }
 
 // A text of kind 6 keeps the group rules.
-pub(crate) fn text_ok(edge: StoredEdge<'_>) -> bool
-    ensures { result ≡ text_ok (edge_of edge.entry) }
+pub(crate) fn text_ok(kind: usize, text: &[u16]) -> bool
+    ensures { result ≡ text_kept kind text.now }
 {
-    edge.kind() != GROUPED_EDGE || groups_ok(edge.text())
+    kind != GROUPED_EDGE || groups_ok(text)
 }
 
 // Clock, relation and constant in range.
@@ -50,13 +49,13 @@ pub(crate) fn all_ok<W: Walk>(mut atoms: Atoms<'_, W>, clocks: usize) -> bool
 }
 
 // Each atom in range, in whatever group.
-pub(crate) fn atoms_ok(edge: StoredEdge<'_>, clocks: usize) -> bool
-    ensures { result ≡ atoms_ok clocks (atoms_of (edge_of edge.entry)) }
+pub(crate) fn atoms_ok(kind: usize, text: &[u16], clocks: usize) -> bool
+    ensures { result ≡ atoms_ok clocks (atoms_in kind text.now) }
 {
-    if edge.kind() == PLAIN_EDGE {
-        all_ok(Atoms::<Plain>::of(edge.text()), clocks)
+    if kind == PLAIN_EDGE {
+        all_ok(Atoms::<Plain>::of(text), clocks)
     } else {
-        all_ok(Atoms::<Grouped>::of(edge.text()), clocks)
+        all_ok(Atoms::<Grouped>::of(text), clocks)
     }
 }
 
@@ -88,39 +87,40 @@ pub(crate) fn any_pins<W: Walk>(among: Atoms<'_, W>) -> bool
 
 // Does some atom on the outermost level pin?
 #[tactic(auto, using(crate::proofs::Walks::flat_outer))]
-pub(crate) fn is_pinned(edge: StoredEdge<'_>) -> bool
-    ensures { result ≡ is_pinned (outer (guard_of (edge_of edge.entry))) }
+pub(crate) fn is_pinned(kind: usize, text: &[u16]) -> bool
+    ensures { result ≡ is_pinned (outer (guard_in kind text.now)) }
 {
-    if edge.kind() == PLAIN_EDGE {
-        any_pins(Atoms::<Plain>::of(edge.text()))
+    if kind == PLAIN_EDGE {
+        any_pins(Atoms::<Plain>::of(text))
     } else {
-        any_pins(Atoms::<Outermost>::of(edge.text()))
+        any_pins(Atoms::<Outermost>::of(text))
     }
 }
 
 // Integer reset: an edge that resets any clock is pinned, on the outermost level of its guard.
-pub(crate) fn integer_reset(edge: StoredEdge<'_>) -> bool
-    ensures { result ≡ integer_reset (edge_of edge.entry) }
+pub(crate) fn integer_reset(kind: usize, resets: usize, text: &[u16]) -> bool
+    ensures { result ≡ (eqb resets 0 || is_pinned (outer (guard_in kind text.now))) }
 {
-    edge.resets() == 0 || is_pinned(edge)
-}
-
-// Each number in its range, and the group rules.
-pub(crate) fn in_range(head: Head, edge: StoredEdge<'_>) -> bool
-    ensures { result ≡ in_range head (numbers_of edge.entry) }
-{
-    fields_ok(head, edge) && text_ok(edge) && atoms_ok(edge, head.clocks as usize)
+    resets == 0 || is_pinned(kind, text)
 }
 
 // 6 for a number outside its range or a text that breaks the group rules, 7 for resets that are not pinned.
+// Kind and text are read once. Written into its callers, whose edges are tables of 86 numbers of their own: there no
+// place is tested against the end of the table.
+#[inline(always)]
 #[tactic(auto, unfolding(crate::specs::Checks::edge_fault))]
 pub fn check_edge(head: Head, edge: StoredEdge<'_>) -> Result<(), Fault>
     ensures { number_in result ≡ edge_fault head (numbers_of edge.entry) }
 {
-    if !in_range(head, edge) {
+    let kind = edge.kind();
+    let text = edge.text();
+    if !fields_ok(head, edge)
+        || !text_ok(kind, text)
+        || !atoms_ok(kind, text, head.clocks as usize)
+    {
         return Err(Fault::OutOfRange);
     }
-    if !integer_reset(edge) {
+    if !integer_reset(kind, edge.resets(), text) {
         return Err(Fault::NotPinned);
     }
     Ok(())

@@ -57,7 +57,8 @@ impl Walk for Plain {
 
     #[tactic(auto, using(crate::proofs::PlainAtoms::plain_none))]
     fn next(text: &[u16], from: usize) -> Option<(Atom, usize)> {
-        if text.len().saturating_sub(from) < ATOM_WIDTH {
+        // The last place where an atom may begin is the same for each, so that a loop over them asks for it once.
+        if text.len() < ATOM_WIDTH || text.len() - ATOM_WIDTH < from {
             return None;
         }
         let atom = Atom {

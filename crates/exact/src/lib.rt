@@ -1,8 +1,8 @@
 // The exact runner: all distinct configurations after each event are kept, in two banks of the lent scratch.
 #![tactic(auto)]
 
-ghost use Rattle.std.specs.Prelude.{◌≡◌, ℕ};
-ghost use Rattle.model.specs.Basics.{one_if};
+ghost use Rattle.std.specs.Prelude.{◌≡◌, ℕ, length};
+ghost use Rattle.model.specs.Basics.{one_if, zeros};
 ghost use Rattle.model.specs.Faults.{answer_in};
 ghost use Rattle.model.specs.Promises.{RunsExact};
 ghost use Rattle.exact.specs.Banks.{Holds};
@@ -28,8 +28,10 @@ pub(crate) fn start_configs(head: Head, bank: &mut Bank<'_>) -> Option<()>
 {
     for l in 0..MOST_LOCATIONS {
         if has_bit(head.starts as usize, l) {
-            let added = bank.append(Configuration::start(l as u32));
-            added?;
+            // Not by `?`: that the place of 26 is lost is then one word's change, and seen.
+            let Some(()) = bank.append(Configuration::start(l as u32)) else {
+                return None;
+            };
         }
     }
     Some(())
@@ -89,6 +91,14 @@ pub(crate) fn run_events(
     follow_events(rule, grain, events, &mut from, &mut to)
 }
 
+// The outcome, once every number of the scratch is zeroed.
+fn cleared(outcome: Result<bool, Refused>, scratch: &mut [u32]) -> Result<bool, Refused>
+    ensures { (result ≡ outcome) × (scratch.new ≡ zeros (length scratch.old)) }
+{
+    scratch.fill(0);
+    outcome
+}
+
 // 20, 21, 30 to 33, then 26 with its event. The scratch is zero after a call that passes the checks.
 pub fn run_exact(
     rule: StoredRule<'_>,
@@ -109,6 +119,5 @@ pub fn run_exact(
         stamps,
     )?;
     let answer = run_events(rule, grain, events, scratch);
-    scratch.fill(0);
-    answer
+    cleared(answer, scratch)
 }

@@ -12,7 +12,7 @@ ghost use Rattle.follower.specs.Checks.{event_checks};
 ghost use Rattle.follower.specs.Outcomes.{followed_in, moved_in};
 
 use model::{Built, Fault, Follower, MOST_EVENTS, Refused, Stamp};
-use shape::check_table;
+use shape::in_shape;
 use tables::Table;
 use walk::{Walk, verdict};
 use word::grain_ok;
@@ -124,8 +124,8 @@ pub fn take_event(
     Ok((next, yes))
 }
 
-// 25, then the event.
-#[tactic(auto, unfolding(model::specs::Promises::followed, model::specs::Walks::follow_refusal))]
+// 25, then the event. Written into its callers, as take_event is.
+#[inline(always)]
 pub fn follow_event(
     follower: Follower,
     table: Table<'_>,
@@ -135,7 +135,9 @@ pub fn follow_event(
     ensures { FollowsEvent follower table.entry.built table.entry.cells.now table.entry.rows.now table.entry.pool.now
         symbol stamp (followed_in follower result) }
 {
-    check_table(table)?;
+    if !in_shape(table) {
+        return Err(Fault::OutOfShape.into());
+    }
     take_event(follower, table, symbol, stamp)
 }
 

@@ -55,11 +55,13 @@ fn count_words(size: Size, most: usize) -> Option<usize> {
 
 // The number of the refusal, whether the word was the last, then the next word, or the one given where there is none.
 fn print_next(rt: &impl Print, size: Size, word: Listed) -> io::Result<()> {
-    match next_word(size, word) {
-        Ok(Some(next)) => println!(rt; "0 0 {}", Shown(next)),
-        Ok(None) => println!(rt; "0 1 {}", Shown(word)),
-        Err(refused) => println!(rt; "{} 0 {}", refused.fault.number(), Shown(word)),
-    }
+    let (number, last, word) = match next_word(size, word) {
+        Ok(Some(next)) => (0, 0, next),
+        Ok(None) => (0, 1, word),
+        Err(refused) => (refused.fault.number(), 0, word),
+    };
+    print!(rt; "{number} {last} ")?;
+    println!(rt; "{}", Shown(word))
 }
 
 fn main(rt: HostRuntime) -> io::Result<()> {

@@ -73,10 +73,8 @@ fn print_word(rt: &impl Print, runners: Runners<'_>, word: Word<'_>) -> io::Resu
         run_table(table, grain, symbols, stamps),
         follow_all(table, word),
     ];
-    for verdict in verdicts {
-        print!(rt; "{}", verdict.unwrap_or(false) as u8)?;
-    }
-    println!(rt)
+    let [exact, branch, table, followed] = verdicts.map(|verdict| verdict.unwrap_or(false) as u8);
+    println!(rt; "{exact}{branch}{table}{followed}")
 }
 
 // Low and good return in turn at 1, 2, 2 and 3 s: no event, the first, the first two, ..

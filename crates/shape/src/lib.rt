@@ -17,11 +17,14 @@ use tables::Table;
 
 mod verdicts;
 
-// A built record with L, S and K in their ranges and cm at most 30: what the further checks compute of it fits.
+// A built record with L, S and K in their ranges and cm at most 30: what the further checks compute of it fits. It has
+// the weight of a location in a code, which two of them ask for.
 #[derive(Clone, Copy)]
 pub(crate) struct Sizes {
     pub(crate) built: Built,
+    weight: usize,
     ghost in_range: { InRange built },
+    ghost weighs: { weight ≡ location_weight built },
 }
 
 impl Sizes {
@@ -29,7 +32,7 @@ impl Sizes {
     pub(crate) fn location_weight(self) -> usize
         ensures { result ≡ location_weight self.built }
     {
-        power(self.built.top as usize + 2, self.built.clocks as usize)
+        self.weight
     }
 
     // N, the number of pairs of a location and bases.
@@ -70,7 +73,8 @@ pub(crate) fn sizes_in_range(built: Built) -> Option<Sizes>
     if MOST_CONSTANT < built.top as usize {
         return None;
     }
-    Some(Sizes { built })
+    let weight = power(built.top as usize + 2, built.clocks as usize);
+    Some(Sizes { built, weight })
 }
 
 // N at most 65,536, R from 1 to 4,096.
@@ -124,12 +128,13 @@ pub(crate) fn resets_ok(cells: &[u32]) -> bool
     none
 }
 
-// Every cell's row below R, no timer reset at an odd interval number.
+// Every cell's row below R, no timer reset at an odd interval number. `&&`, not `&`: a table that is refused for a
+// cell's row is gone over once.
 pub(crate) fn cells_ok(rows: u32, cells: &[u32]) -> bool
     requires { rows ≤ most_rows }
     ensures { (cm : ℕ) → result ≡ cells_ok 0 (interval_count cm) rows cells.now }
 {
-    codes_below(2 * rows, cells) & resets_ok(cells)
+    codes_below(2 * rows, cells) && resets_ok(cells)
 }
 
 // Every condition.

@@ -36,7 +36,9 @@ pub(crate) fn row_says(codes: &[u32], reciprocal: usize, ends: u32) -> bool
     says
 }
 
-// Every row stores what its codes say. The rows are known to lie in their table, so no place is tested.
+// Every row stores what its codes say. The rows are known to lie in their table, so no place is tested. Written into
+// its one caller: called, it got a copy of the sizes.
+#[inline(always)]
 pub(crate) fn verdicts_ok(sizes: Sizes, rows: &[u32], pool: &[u32]) -> bool
     requires { Settled sizes.built rows.now pool.now }
     ensures { result ≡ verdicts_ok sizes.built.rows 0 sizes.built rows.now pool.now }

@@ -18,6 +18,7 @@ pub mod BatchLaws
 -- A table's line, and the greatest share read off the lines
 pub mod LineLaws
 pub mod LaidLines
+pub mod Pools
 pub mod GreatestLaws
 -- The answer of the entry
 pub mod SharesLaws

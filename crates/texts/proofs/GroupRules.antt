@@ -13,7 +13,7 @@ use Rattle.model.proofs.Texts.{groups_mark}
 use Rattle.texts.specs.declared.Mark.{Mark}
 use Rattle.texts.specs.declared.Mark.TheVariants.{IsAtom, Closes}
 use Rattle.texts.specs.Marks.{mark_of}
-use Rattle.texts.proofs.Marks.{after, after_atom, mark_front, after_atom_is, no_numbers, read_as, same_number}
+use Rattle.texts.proofs.Marks.{after, mark_front, no_numbers, read_as, same_number}
 
 pub record Ruled (text left : List ℕ) (level groups atoms : ℕ) : Type 0 where
   pub level_most : level < most_levels
@@ -66,11 +66,11 @@ module _
           rw (le-leb 1 atoms a, rules_short 3 level groups (atoms - 1) (after left) k) at at_atom_rules
 
       pub ruled_atom :
-          1 ≤ atoms → 3 ≤ length (after left) → Ruled text (after_atom (after left)) level groups (atoms - 1)
+          1 ≤ atoms → 3 ≤ length (after left) → Ruled text (drop 3 (after left)) level groups (atoms - 1)
       ruled_atom a k = record {
         level_most = inv.level_most;
         rest_is =
-            rw (after_atom_is (after left), ← rules_past 3 level groups (atoms - 1) (after left) k)
+            rw (← rules_past 3 level groups (atoms - 1) (after left) k)
             (rw (le-leb 1 atoms a) at at_atom_rules);
       }
 

@@ -76,11 +76,11 @@ pub fn groups_ok(text: &[u16]) -> bool
                 if atoms < 1 {
                     return false;
                 }
-                let [_, _, _, past @ ..] = behind else {
+                if behind.len() < ATOM_WIDTH {
                     return false;
-                };
+                }
                 atoms -= 1;
-                rest = past;
+                rest = text_from(behind, ATOM_WIDTH);
             }
             Mark::Closes => {
                 if level < 1 {

@@ -28,8 +28,15 @@ pub fn decide(
         scratch.new cells.old cells.new rows.old rows.new
         pool.old pool.new grain symbols.now stamps.now (answer_in one_if result) }
 {
-    let head = read_rule(file, edges)?;
-    let built = build_table(StoredRule { head, edges }, scratch, cells, rows, pool)?;
+    // Not by `?`: that a refusal loses its number or its place is then one word's change, and seen.
+    let head = match read_rule(file, edges) {
+        Ok(head) => head,
+        Err(unread) => return Err(unread),
+    };
+    let built = match build_table(StoredRule { head, edges }, scratch, cells, rows, pool) {
+        Ok(built) => built,
+        Err(unbuilt) => return Err(unbuilt),
+    };
     let table = Table {
         built,
         cells,

@@ -5,7 +5,7 @@ ghost use Rattle.std.specs.Prelude.{◌≡◌, length, IfOk};
 ghost use Rattle.model.specs.Faults.{answer_in};
 ghost use Rattle.model.specs.Words.{grain_ok};
 ghost use Rattle.model.specs.Promises.{ChecksWord};
-ghost use Rattle.word.specs.Answers.{events_answer};
+ghost use Rattle.word.specs.Answers.{events_answer, stopped_at};
 
 use model::{Fault, MOST_GRAIN, Refused, Stamp};
 
@@ -24,29 +24,42 @@ pub fn grain_ok(grain: u32) -> bool
     (1..=MOST_GRAIN as u32).contains(&grain)
 }
 
+// The number of events before the first bad one: its stamp falls, or its symbol is unknown. Which of the two, and at
+// which place, is for the caller to say: said in here, it makes the compiler put a second counter in the loop.
+pub(crate) fn good_events(symbol_count: u32, events: Events<'_>) -> usize
+    ensures { stopped_at symbol_count events.entry.symbols.now result
+        ≡ events_answer symbol_count events.entry.symbols.now events.entry.stamps.now }
+{
+    let mut last = Stamp(0);
+    for i in 0..events.symbols.len() {
+        let stamp = Stamp(events.stamps[i]);
+        if stamp < last || symbol_count <= u32::from(events.symbols[i]) {
+            return i;
+        }
+        last = stamp;
+    }
+    events.symbols.len()
+}
+
 // 32 and 33: the earliest bad event, from 1; its symbol before its stamp.
 pub(crate) fn check_events(symbol_count: u32, events: Events<'_>) -> Result<(), Refused>
     ensures { answer_in (λ u. 0) result ≡ events_answer symbol_count events.entry.symbols.now events.entry.stamps.now }
 {
-    let mut last = Stamp(0);
-    for (i, symbol) in events.symbols.iter().enumerate() {
-        let place = i + 1;
-        if symbol_count <= u32::from(*symbol) {
-            return Err(Refused {
-                fault: Fault::UnknownSymbol,
-                place,
-            });
-        }
-        let stamp = Stamp(events.stamps[i]);
-        if stamp < last {
-            return Err(Refused {
-                fault: Fault::FallingStamp,
-                place,
-            });
-        }
-        last = stamp;
+    let good = good_events(symbol_count, events);
+    if events.symbols.len() <= good {
+        return Ok(());
     }
-    Ok(())
+    let place = good + 1;
+    if symbol_count <= u32::from(events.symbols[good]) {
+        return Err(Refused {
+            fault: Fault::UnknownSymbol,
+            place,
+        });
+    }
+    Err(Refused {
+        fault: Fault::FallingStamp,
+        place,
+    })
 }
 
 // 30 to 33, with at most `most` events.

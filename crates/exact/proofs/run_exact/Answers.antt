@@ -1,5 +1,7 @@
 -- `exact::run_exact` meets its contract: the rule is checked, then the word, then the events are followed.
-use Rattle.std.proofs.Common.{refl, rules}
+use Rattle.std.proofs.Common.{◌∙◌, ap, refl}
+use Rattle.model.specs.Basics.{one_if}
+use Rattle.model.specs.Faults.{answer_in}
 use Rattle.exact.proofs.Running.{handed_on}
 use Rattle.exact.proofs.Outcome.{rule_refusal_is, word_refusal_is, begins, runs_exact}
 use Rattle.exact.proofs.run_exact.Goals as goal
@@ -39,7 +41,7 @@ returns c =
     let a = c.args in
     let e = c.in_ok-events.ensures in
     runs_exact a.rule.head a.rule.edges.now a.grain a.symbols.now a.stamps.now a.scratch.now
-    c.in_ok-check_rule.ensures e.checks _ _ _ c.run_events-answer.new.scratch c.fill.new.self e.lends.0 e.lends.1
-    c.run_events-answer.ensures
+    c.in_ok-check_rule.ensures e.checks _ _ _ c.run_events-answer.new.scratch c.cleared.new.scratch e.lends.0 e.lends.1
+    (ap (answer_in one_if) c.cleared.ensures.0 ∙ c.run_events-answer.ensures)
     c.run_events-answer.auto.scratch
-    (search rules)
+    c.cleared.ensures.1

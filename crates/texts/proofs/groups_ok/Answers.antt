@@ -16,15 +16,16 @@ pub returns-then-atoms-lt1 : goal.returns-then-atoms-lt1
 returns-then-atoms-lt1 c =
     no_atoms c.loop-rest.invariant c.in-len1-up.len_at_least c.in-IsAtom.ensures c.if-atoms-lt1.true
 
-pub returns-in_default-behind : goal.returns-in_default-behind
-returns-in_default-behind c =
+pub returns-then-behind-lt-ATOM_WIDTH : goal.returns-then-behind-lt-ATOM_WIDTH
+returns-then-behind-lt-ATOM_WIDTH c =
     cut_atom c.loop-rest.invariant c.in-len1-up.len_at_least c.in-IsAtom.ensures c.if-atoms-lt1.false
-    c.in_default-behind.len_below
+    c.if-behind-lt-ATOM_WIDTH.true
 
 pub loop-rest-preserved-in-IsAtom : goal.loop-rest-preserved-in-IsAtom
 loop-rest-preserved-in-IsAtom c =
-    ruled_atom c.loop-rest.invariant c.in-len1-up.len_at_least c.in-IsAtom.ensures c.if-atoms-lt1.false
-    c.in-len3-up.len_at_least
+    rw (c.text_from-rest.ensures)
+    (ruled_atom c.loop-rest.invariant c.in-len1-up.len_at_least c.in-IsAtom.ensures c.if-atoms-lt1.false
+    c.if-behind-lt-ATOM_WIDTH.false)
 
 pub returns-then-level-lt1 : goal.returns-then-level-lt1
 returns-then-level-lt1 c =
