@@ -425,7 +425,7 @@ alderskein_inclusion alderskein_check_inclusion(alderskein_built first, const ui
  *
  * Lengths above m and lines past the batch are zero. Shares are compared exactly.
  * Refuses: 40, 38 for m or H, then table by table, in the order of the batch, 25 and 43. Changes nothing.
- * The batch goes in and the answer comes back by value, 452 and 2,072 bytes; the call takes 5,696 bytes of stack.
+ * The batch goes in and the answer comes back by value, 452 and 2,072 bytes; the call takes 7,840 bytes of stack.
  */
 alderskein_shares alderskein_count_shares(alderskein_batch batch, const uint32_t *cells, size_t cells_length,
                                           const uint32_t *rows, size_t rows_length,
